@@ -1,0 +1,56 @@
+-- DEMAND 3, as a statement over the outcomes of the three calls. Definitions only; Agreement proves it.
+-- Trying and applying share a picture (plane kind with its layout, depth, sizes, skip flags, directions, variances), a snapshot and the figure in force, however each came by it.
+-- Each unit's pair is any of the twelve. Applying reads the snapshot and writes into a copy of it. Measuring, with pair 0, 0, is lent what applying left.
+use mathlib.Core.Path.{_≡_}
+use mathlib.Core.Bool.{true}
+use mathlib.Core.List.{List}
+use Prim.Native.Nat.{ℕ, _+_, _*_, _<_}
+use lib.IntN.{ℤ, pos}
+use lib.ListN.{getD, length}
+use Rattle.cdef_spec.specs.declared.DampingChoice.{DampingChoice}
+use Rattle.cdef_spec.specs.declared.UnitPair.{UnitPair}
+use Rattle.cdef_spec.specs.declared.Visible.{Visible}
+use Rattle.cdef_spec.specs.Document01.{inForce, trialNumber, isTrialPair}
+use Rattle.cdef_spec.specs.Picture.{PlaneKind, luma, chroma, Picture, units, pairAt}
+use Rattle.cdef_spec.specs.Answers.{Result, taken, nothing}
+use Rattle.cdef_spec.specs.FrameCalls.{TryingOutcome, tryingOutcome, ApplyingOutcome, applyingOutcome, scratchLength, MeasuringOutcome, measuringOutcome}
+
+-- the pair 0, 0: measuring takes the plane as it stands
+abbrev pub off : UnitPair
+off = record { primary = 0; secondary = 0 }
+
+-- the same picture with other directions and, in luma, other variances
+unfoldable pub otherKind : PlaneKind → List ℕ → PlaneKind
+otherKind (luma vars) vars′ = luma vars′
+otherKind (chroma sx sy) vars′ = chroma sx sy
+
+unfoldable pub withDirections : Picture → List ℕ → List ℕ → Picture
+withDirections q dirs vars = record { kind = otherKind (q .kind) vars; depth = q .depth; width = q .width; height = q .height; skip = q .skip; dirs = dirs }
+
+-- what measuring gives where the lists of totals are as long as they must be, unit by unit
+pub record Agrees (q : Picture) (pairs : List UnitPair) (tried measured : List ℤ) : Type 0 where
+  pub tried-length : length tried ≡ 12 * units q
+  pub measured-length : length measured ≡ units q
+  pub unit-by-unit : (u : ℕ) → u < units q → getD measured u (pos 0) ≡ getD tried (12 * u + trialNumber (pairAt pairs u)) (pos 0)
+
+-- for every input that trying and applying take:
+-- (1) measuring is taken with the shared directions, variances and figure in force, with totals and scratch of question 7's length;
+-- (2) whatever directions, variances and damping measuring is handed, where it takes them each unit's measured total is its tried total at its pair's trial number.
+abbrev pub Demand3 : Type 0
+Demand3 =
+    (q : Picture) (visible : Visible) (snapshot original : List ℕ) (pairs : List UnitPair)
+    (dampingTried dampingApplied dampingMeasured : DampingChoice) (totals measured : List ℤ) (scratch : List ℕ)
+    → inForce dampingApplied ≡ inForce dampingTried
+    → ((u : ℕ) → u < units q → isTrialPair (pairAt pairs u) ≡ true)
+    → let tried : TryingOutcome = tryingOutcome q dampingTried visible snapshot original totals in
+    let applied : ApplyingOutcome = applyingOutcome q dampingApplied snapshot pairs snapshot in
+    tried .answer ≡ taken nothing
+    → applied .answer ≡ taken nothing
+    → (inForce dampingMeasured ≡ inForce dampingTried
+    → length measured ≡ units q
+    → length scratch ≡ scratchLength q
+    → (measuringOutcome q dampingMeasured visible (applied .plane) original off measured scratch) .answer ≡ taken nothing)
+    × ((dirs vars : List ℕ)
+    → let m : MeasuringOutcome = measuringOutcome (withDirections q dirs vars) dampingMeasured visible (applied .plane) original off measured scratch in
+    m .answer ≡ taken nothing
+    → Agrees q pairs (tried .totals) (m .totals))

@@ -1,0 +1,24 @@
+-- What a reader must believe, in this order.
+pub mod Words
+pub mod Standard
+pub mod Document01
+pub mod Root
+pub mod Distance
+pub mod Picture
+pub mod Answers
+pub mod Questions
+pub mod BlockCalls
+pub mod FrameCalls
+pub mod Demand3
+-- The forms that code takes.
+pub mod CodeForm
+-- Laws: of the definitions, and that the code's forms are the reader's.
+pub mod WordsLaws
+pub mod ConstrainLaws
+pub mod LeafLaws
+pub mod FilterLaws
+pub mod TapLaws
+pub mod PlaceLaws
+pub mod ClipLaws
+pub mod TrialLaws
+pub mod DirectionLaws

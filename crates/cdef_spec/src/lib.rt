@@ -1,0 +1,84 @@
+// The plain data that the calls take and hand back. No code.
+
+// The damping as the frame header carries it, 3 to 6.
+pub struct SignalledDamping(pub u8);
+
+// The damping as constrain takes it, 0 to 31: made from the signalled one by the luma or the chroma rule.
+pub struct WorkingDamping(pub u8);
+
+// How a frame call is told its damping: the signalled figure, or a quality index to work it out from.
+pub enum DampingChoice {
+    Given(SignalledDamping),
+    FromQuality(u32),
+}
+
+// A unit's pair (document 01): its primary and its secondary strength, as signalled.
+pub struct UnitPair {
+    pub primary: u8,
+    pub secondary: u8,
+}
+
+// A block of a plane: the column and row of its top left sample, and its sides.
+pub struct Block {
+    pub x: usize,
+    pub y: usize,
+    pub width: usize,
+    pub height: usize,
+}
+
+// The visible size of a picture, in luma samples.
+pub struct Visible {
+    pub width: usize,
+    pub height: usize,
+}
+
+// What a block is filtered with: the working strengths, the direction, the working damping and the bit depth.
+pub struct FilterParams {
+    pub pri: u32,
+    pub sec: u32,
+    pub dir: u8,
+    pub damping: WorkingDamping,
+    pub depth: u8,
+}
+
+// The two ways of asking for a trial: with a luma block's variance, or, for chroma, without one.
+pub enum TrialWay {
+    Luma(u32),
+    Chroma,
+}
+
+// What a call hands back whose results lie in lent slices: done, or the number of the first question that says no.
+pub enum Answer {
+    Done,
+    Refused(u8),
+}
+
+// What constrain hands back: the constrained difference, or a refusal.
+pub enum DifferenceAnswer {
+    Difference(i32),
+    NoDifference(u8),
+}
+
+// What adjust hands back: the adjusted strength, or a refusal.
+pub enum StrengthAnswer {
+    Strength(u32),
+    NoStrength(u8),
+}
+
+// What the damping of a quality index is: a signalled damping, or a refusal.
+pub enum DampingAnswer {
+    Damping(SignalledDamping),
+    NoDamping(u8),
+}
+
+// What the direction of a block is: the direction and the variance, or a refusal.
+pub enum DirectionAnswer {
+    Direction(u8, u32),
+    NoDirection(u8),
+}
+
+// What a distance is: a whole number, or a refusal.
+pub enum DistanceAnswer {
+    Distance(i64),
+    NoDistance(u8),
+}

@@ -12,6 +12,7 @@ pub mod FrameCalls
 pub mod Demand3
 -- The forms that code takes.
 pub mod CodeForm
+pub mod LoopForm
 -- Laws: of the definitions, and that the code's forms are the reader's.
 pub mod WordsLaws
 pub mod ConstrainLaws
@@ -21,4 +22,18 @@ pub mod TapLaws
 pub mod PlaceLaws
 pub mod ClipLaws
 pub mod TrialLaws
+pub mod LocalLaws
 pub mod DirectionLaws
+pub mod DirectionLocal
+pub mod DistanceLaws
+pub mod GeometryLaws
+pub mod QuestionLaws
+pub mod PictureLaws
+pub mod PairLaws
+pub mod AppliedLaws
+pub mod TotalLaws
+pub mod PlaneLaws
+pub mod TrialCallLaws
+pub mod OutcomeLaws
+-- The proof of demand 3.
+pub mod Agreement

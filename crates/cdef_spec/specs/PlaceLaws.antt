@@ -4,11 +4,12 @@ use mathlib.Core.Bool.{Bool, true, false, cond, _&&_}
 use mathlib.Core.List.{List, [], _∷_}
 use Prim.Native.Nat.{ℕ, zero, suc, _+_, _-_, _*_, _/_, _%_, _^_, _≤_, _<_}
 use native.Mathlib.Omega.{arith}
-use borrow.Author.Tests.{ltb-true, ltb-false, lt-ltb, le-ltb, le-leb, lt-leb}
+use borrow.Author.Tests.{ltb-true, ltb-false, lt-ltb, le-ltb, le-leb, lt-leb, leb-true, eqb-true}
 use lib.Dec.{ltb, leb, eqb, lit≤}
 use lib.ListN.{getD}
 use lib.IntN.{ℤ, pos, negsuc, negℤ, subℕ, _+ℤ_, _-ℤ_, _*ℤ_, +ℤ-assoc}
-use Rattle.cdef_spec.specs.Words.{−2, −1, +0, +1, +2}
+use Rattle.cdef_spec.specs.Words.{−2, −1, +0, +1, +2, every}
+use Rattle.cdef_spec.specs.WordsLaws.{and-both, every-at}
 use Rattle.cdef_spec.specs.Standard.{Tap, missing, sample, tapAt, stepOf, Cdef-Directions}
 use Rattle.cdef_spec.specs.Document01.{Plane, unmarked, available, mark}
 use Rattle.cdef_spec.specs.CodeForm.{rows, cols, rowOf, colOf, sampleAt}
@@ -17,62 +18,46 @@ use Rattle.cdef_spec.specs.CodeForm.{rows, cols, rowOf, colOf, sampleAt}
 abbrev pub less2 : ℕ → ℤ
 less2 n = pos n -ℤ +2
 
--- the two tables say the same
+-- two signed numbers are the same
+unfoldable sameZ : ℤ → ℤ → Bool
+sameZ (pos a) (pos b) = eqb a b
+sameZ (pos a) (negsuc b) = false
+sameZ (negsuc a) (pos b) = false
+sameZ (negsuc a) (negsuc b) = eqb a b
+
+same-is : (a b : ℤ) → sameZ a b ≡ true → a ≡ b
+unfolding sameZ
+same-is (pos a) (pos b) e = ap pos (eqb-true a b e)
+same-is (pos a) (negsuc b) e = let z : _≡_ {A = ℕ} 0 1 = cc in absurd (omega arith)
+same-is (negsuc a) (pos b) e = let z : _≡_ {A = ℕ} 0 1 = cc in absurd (omega arith)
+same-is (negsuc a) (negsuc b) e = ap negsuc (eqb-true a b e)
+
+-- one entry of the two tables: the same steps, and at most 4
+unfoldable sameStep : ℕ → ℕ → Bool
+sameStep d k = (sameZ (stepOf d k .0) (less2 (rowOf d k)) && sameZ (stepOf d k .1) (less2 (colOf d k))) && (leb (rowOf d k) 4 && leb (colOf d k) 4)
+
+-- the tables' rule, as one computed test
+all-steps : every 8 (λ d. every 2 (λ k. sameStep d k)) ≡ true
+unfolding every sameStep sameZ Cdef-Directions rows cols
+all-steps = refl
+
+step-is : (d k : ℕ) → d < 8 → k < 2 → sameStep d k ≡ true
+step-is d k h i = every-at 2 (λ k. sameStep d k) (every-at 8 (λ d. every 2 (λ k. sameStep d k)) all-steps d h) k i
+
 pub steps : (d k : ℕ) → d < 8 → k < 2 → stepOf d k ≡ (less2 (rowOf d k), less2 (colOf d k))
-unfolding Cdef-Directions rows cols
-steps zero zero h i = refl
-steps zero (suc zero) h i = refl
-steps zero (suc (suc k)) h i = absurd (omega arith)
-steps (suc zero) zero h i = refl
-steps (suc zero) (suc zero) h i = refl
-steps (suc zero) (suc (suc k)) h i = absurd (omega arith)
-steps (suc (suc zero)) zero h i = refl
-steps (suc (suc zero)) (suc zero) h i = refl
-steps (suc (suc zero)) (suc (suc k)) h i = absurd (omega arith)
-steps (suc (suc (suc zero))) zero h i = refl
-steps (suc (suc (suc zero))) (suc zero) h i = refl
-steps (suc (suc (suc zero))) (suc (suc k)) h i = absurd (omega arith)
-steps (suc (suc (suc (suc zero)))) zero h i = refl
-steps (suc (suc (suc (suc zero)))) (suc zero) h i = refl
-steps (suc (suc (suc (suc zero)))) (suc (suc k)) h i = absurd (omega arith)
-steps (suc (suc (suc (suc (suc zero))))) zero h i = refl
-steps (suc (suc (suc (suc (suc zero))))) (suc zero) h i = refl
-steps (suc (suc (suc (suc (suc zero))))) (suc (suc k)) h i = absurd (omega arith)
-steps (suc (suc (suc (suc (suc (suc zero)))))) zero h i = refl
-steps (suc (suc (suc (suc (suc (suc zero)))))) (suc zero) h i = refl
-steps (suc (suc (suc (suc (suc (suc zero)))))) (suc (suc k)) h i = absurd (omega arith)
-steps (suc (suc (suc (suc (suc (suc (suc zero))))))) zero h i = refl
-steps (suc (suc (suc (suc (suc (suc (suc zero))))))) (suc zero) h i = refl
-steps (suc (suc (suc (suc (suc (suc (suc zero))))))) (suc (suc k)) h i = absurd (omega arith)
-steps (suc (suc (suc (suc (suc (suc (suc (suc d)))))))) k h i = absurd (omega arith)
+unfolding sameStep
+steps d k h i =
+    let b = and-both _ _ (and-both (sameZ (stepOf d k .0) (less2 (rowOf d k)) && sameZ (stepOf d k .1) (less2 (colOf d k))) _ (step-is d k h i) .0) in
+    both-are (same-is _ _ (b .0)) (same-is _ _ (b .1))
+  where
+    both-are : {a b c e : ℤ} → a ≡ c → b ≡ e → _≡_ {A = ℤ × ℤ} (a, b) (c, e)
+    both-are p q = cc
 
 pub steps-low : (d k : ℕ) → d < 8 → k < 2 → (rowOf d k ≤ 4) × (colOf d k ≤ 4)
-unfolding rows cols
-steps-low zero zero h i = (lit≤ tt, lit≤ tt)
-steps-low zero (suc zero) h i = (lit≤ tt, lit≤ tt)
-steps-low zero (suc (suc k)) h i = absurd (omega arith)
-steps-low (suc zero) zero h i = (lit≤ tt, lit≤ tt)
-steps-low (suc zero) (suc zero) h i = (lit≤ tt, lit≤ tt)
-steps-low (suc zero) (suc (suc k)) h i = absurd (omega arith)
-steps-low (suc (suc zero)) zero h i = (lit≤ tt, lit≤ tt)
-steps-low (suc (suc zero)) (suc zero) h i = (lit≤ tt, lit≤ tt)
-steps-low (suc (suc zero)) (suc (suc k)) h i = absurd (omega arith)
-steps-low (suc (suc (suc zero))) zero h i = (lit≤ tt, lit≤ tt)
-steps-low (suc (suc (suc zero))) (suc zero) h i = (lit≤ tt, lit≤ tt)
-steps-low (suc (suc (suc zero))) (suc (suc k)) h i = absurd (omega arith)
-steps-low (suc (suc (suc (suc zero)))) zero h i = (lit≤ tt, lit≤ tt)
-steps-low (suc (suc (suc (suc zero)))) (suc zero) h i = (lit≤ tt, lit≤ tt)
-steps-low (suc (suc (suc (suc zero)))) (suc (suc k)) h i = absurd (omega arith)
-steps-low (suc (suc (suc (suc (suc zero))))) zero h i = (lit≤ tt, lit≤ tt)
-steps-low (suc (suc (suc (suc (suc zero))))) (suc zero) h i = (lit≤ tt, lit≤ tt)
-steps-low (suc (suc (suc (suc (suc zero))))) (suc (suc k)) h i = absurd (omega arith)
-steps-low (suc (suc (suc (suc (suc (suc zero)))))) zero h i = (lit≤ tt, lit≤ tt)
-steps-low (suc (suc (suc (suc (suc (suc zero)))))) (suc zero) h i = (lit≤ tt, lit≤ tt)
-steps-low (suc (suc (suc (suc (suc (suc zero)))))) (suc (suc k)) h i = absurd (omega arith)
-steps-low (suc (suc (suc (suc (suc (suc (suc zero))))))) zero h i = (lit≤ tt, lit≤ tt)
-steps-low (suc (suc (suc (suc (suc (suc (suc zero))))))) (suc zero) h i = (lit≤ tt, lit≤ tt)
-steps-low (suc (suc (suc (suc (suc (suc (suc zero))))))) (suc (suc k)) h i = absurd (omega arith)
-steps-low (suc (suc (suc (suc (suc (suc (suc (suc d)))))))) k h i = absurd (omega arith)
+unfolding sameStep
+steps-low d k h i =
+    let b = and-both (leb (rowOf d k) 4) (leb (colOf d k) 4) (and-both (sameZ (stepOf d k .0) (less2 (rowOf d k)) && sameZ (stepOf d k .1) (less2 (colOf d k))) _ (step-is d k h i) .1) in
+    (leb-true (rowOf d k) 4 (b .0), leb-true (colOf d k) 4 (b .1))
 
 forward : (n : ℕ) → n ≤ 4 → +1 *ℤ less2 n ≡ less2 n
 forward zero h = refl

@@ -16,7 +16,7 @@ use Rattle.cdef_spec.specs.declared.Visible.{Visible}
 use Rattle.cdef_spec.specs.Words.{table}
 use Rattle.cdef_spec.specs.WordsLaws.{length-table, getD-table, and-both, and-make}
 use Rattle.cdef_spec.specs.Document01.{mark, orElse, inForce, trialPair, trialNumber, isTrialPair}
-use Rattle.cdef_spec.specs.Picture.{PlaneKind, luma, chroma, Picture, subX, subY, planeWidth, planeHeight, blockWidth, blockHeight, units, unitAt, at, filteredBy, distanceOf, visibleCols, visibleRows, blockDistance, counted, unitTotal, triedTotal, measuredTotal, pairAt, appliedAt, planeFrom, appliedPlane}
+use Rattle.cdef_spec.specs.Picture.{PlaneKind, luma, chroma, Picture, subX, subY, planeWidth, planeHeight, blockWidth, blockHeight, units, unitAt, atPlace, filteredBy, distanceOf, visibleCols, visibleRows, blockDistance, counted, unitTotal, triedTotal, measuredTotal, pairAt, appliedAt, planeFrom, appliedPlane}
 use Rattle.cdef_spec.specs.Answers.{Result, Nothing, taken, refused, nothing, resultOf}
 use Rattle.cdef_spec.specs.Questions.{allBelow, fullPlanes, pictureListed, visibleTaken, primaryTaken, secondaryTaken, pairTaken, allSamplesBelow}
 use Rattle.cdef_spec.specs.FrameCalls.{tryingNo, tryingOutcome, applyingNo, applyingOutcome, scratchLength, measuringNo, measuringOutcome}
@@ -87,7 +87,7 @@ module _ (q : Picture) (visible : Visible) (snapshot original : List ℕ) (pairs
       totals-agree : (u : ℕ) → u < units q → measuredTotal q s visible left original off u ≡ triedTotal q s visible snapshot original u (trialNumber (pairAt pairs u))
       unfolding measuredTotal triedTotal appliedPlane
       totals-agree u hu = total-same q visible u _ _ (λ by bx hy hx e k.
-          block-same q visible by bx (at q original) _ _ (λ i j hi hj.
+          block-same q visible by bx (atPlace q original) _ _ (λ i j hi hj.
           at-plane q (appliedAt q s snapshot pairs snapshot) _ _ (in-rows q s snapshot pairs fine no-mark by i hy hi) (in-cols q s snapshot pairs fine no-mark bx j hx hj)
           ∙ applied-here q s snapshot pairs fine no-mark by bx i j hy hx hi hj (eqb-true _ _ (unfold counted in and-both _ _ k .0))
           ∙ ap (λ (p : UnitPair). orElse mark (filteredBy q s snapshot p by bx (by * blockHeight q + i) (bx * blockWidth q + j))) (ap (pairAt pairs) e ∙ sym (trial-of (pairAt pairs u) (trials u hu) .1))))
@@ -132,36 +132,36 @@ module _ (q : Picture) (d : DampingChoice) (v : Visible) (plane original : List 
 measured-by : (k : PlaneKind) (depth width height : ℕ) (skip old dirs vars : List ℕ) (s s′ : SignalledDamping) (v : Visible) (plane original : List ℕ) (u : ℕ)
     → measuredTotal (withDirections (record { kind = k; depth = depth; width = width; height = height; skip = skip; dirs = old }) dirs vars) s′ v plane original off u
     ≡ measuredTotal (record { kind = k; depth = depth; width = width; height = height; skip = skip; dirs = old }) s v plane original off u
-unfolding measuredTotal unitTotal unitAt counted blockDistance distanceOf visibleRows visibleCols blockHeight blockWidth planeWidth at subX subY withDirections otherKind
+unfolding measuredTotal unitTotal unitAt counted blockDistance distanceOf visibleRows visibleCols blockHeight blockWidth planeWidth atPlace subX subY withDirections otherKind
 measured-by (luma w) depth width height skip old dirs vars s s′ v plane original u = refl
 measured-by (chroma sx sy) depth width height skip old dirs vars s s′ v plane original u = refl
 
-measured-same : (q : Picture) (dirs vars : List ℕ) (s s′ : SignalledDamping) (v : Visible) (plane original : List ℕ) (u : ℕ)
-    → measuredTotal (withDirections q dirs vars) s′ v plane original off u ≡ measuredTotal q s v plane original off u
-measured-same q dirs vars s s′ v plane original u = measured-by (q .kind) (q .depth) (q .width) (q .height) (q .skip) (q .dirs) dirs vars s s′ v plane original u
+any-damping : (q : Picture) (s s′ : SignalledDamping) (v : Visible) (plane original : List ℕ) (u : ℕ) → measuredTotal q s′ v plane original off u ≡ measuredTotal q s v plane original off u
+unfolding measuredTotal
+any-damping q s s′ v plane original u = refl
 
 same-units : (q : Picture) (dirs vars : List ℕ) → units (withDirections q dirs vars) ≡ units q
 unfolding units withDirections
 same-units q dirs vars = refl
 
--- each unit's measured total, whatever measuring is handed
-module _ (q : Picture) (visible : Visible) (snapshot original : List ℕ) (pairs : List UnitPair) (dt dm : DampingChoice) (totals measured : List ℤ) (scratch dirs vars : List ℕ) where
-  all-units : tryingNo q dt visible snapshot original totals ≡ 0
+-- each unit's measured total, for a picture q′ whose totals with pair 0, 0 are those of q
+module _ (q q′ : Picture) (visible : Visible) (snapshot original : List ℕ) (pairs : List UnitPair) (dt dm : DampingChoice) (totals measured : List ℤ) (scratch : List ℕ) where
+  all-units : units q′ ≡ units q
+      → ((plane : List ℕ) (u : ℕ) → measuredTotal q′ (inForce dm) visible plane original off u ≡ measuredTotal q (inForce dt) visible plane original off u)
+      → tryingNo q dt visible snapshot original totals ≡ 0
       → ((u : ℕ) → u < units q → isTrialPair (pairAt pairs u) ≡ true)
-      → (measuringOutcome (withDirections q dirs vars) dm visible (appliedPlane q (inForce dt) snapshot pairs snapshot) original off measured scratch) .answer ≡ taken nothing
-      → Agrees q pairs ((tryingOutcome q dt visible snapshot original totals) .totals) ((measuringOutcome (withDirections q dirs vars) dm visible (appliedPlane q (inForce dt) snapshot pairs snapshot) original off measured scratch) .totals)
-  all-units zt trials ym =
+      → (measuringOutcome q′ dm visible (appliedPlane q (inForce dt) snapshot pairs snapshot) original off measured scratch) .answer ≡ taken nothing
+      → Agrees q pairs ((tryingOutcome q dt visible snapshot original totals) .totals) ((measuringOutcome q′ dm visible (appliedPlane q (inForce dt) snapshot pairs snapshot) original off measured scratch) .totals)
+  all-units eu same zt trials ym =
       let plane : List ℕ = appliedPlane q (inForce dt) snapshot pairs snapshot in
-      let zm : measuringNo (withDirections q dirs vars) dm visible plane original off measured scratch ≡ 0 = unfold measuringOutcome in result-zero _ ym in
+      let zm : measuringNo q′ dm visible plane original off measured scratch ≡ 0 = unfold measuringOutcome in result-zero _ ym in
       let t = trying-taken q dt visible snapshot original totals zt in
-      let same : units (withDirections q dirs vars) ≡ units q = same-units q dirs vars in
       record {
         tried-length = tried-length q dt visible snapshot original totals zt;
-        measured-length = measured-length (withDirections q dirs vars) dm visible plane original measured scratch zm ∙ same;
+        measured-length = measured-length q′ dm visible plane original measured scratch zm ∙ eu;
         unit-by-unit = λ u hu.
-            measured-at (withDirections q dirs vars) dm visible plane original measured scratch zm u (rw same hu)
-            ∙ ap pos (measured-same q dirs vars (inForce dt) (inForce dm) visible plane original u
-            ∙ totals-agree q visible snapshot original pairs (inForce dt) totals t trials u hu)
+            measured-at q′ dm visible plane original measured scratch zm u (rw eu hu)
+            ∙ ap pos (same plane u ∙ totals-agree q visible snapshot original pairs (inForce dt) totals t trials u hu)
             ∙ sym (tried-at q dt visible snapshot original totals zt u (trialNumber (pairAt pairs u)) hu (trial-of (pairAt pairs u) (trials u hu) .0));
       }
 
@@ -171,8 +171,13 @@ agreement q visible snapshot original pairs dt da dm totals measured scratch ea 
     let zt : tryingNo q dt visible snapshot original totals ≡ 0 = unfold tryingOutcome in result-zero _ yt in
     let za : applyingNo q da snapshot pairs snapshot ≡ 0 = unfold applyingOutcome in result-zero _ ya in
     let t = trying-taken q dt visible snapshot original totals zt in
-    let l : (applyingOutcome q da snapshot pairs snapshot) .plane ≡ left q visible snapshot original pairs (inForce dt) = applied-left q da snapshot pairs za ∙ ap (λ (n : SignalledDamping). appliedPlane q n snapshot pairs snapshot) ea in
+    let plane : List ℕ = appliedPlane q (inForce dt) snapshot pairs snapshot in
+    let l : (applyingOutcome q da snapshot pairs snapshot) .plane ≡ plane = applied-left q da snapshot pairs za ∙ ap (λ (n : SignalledDamping). appliedPlane q n snapshot pairs snapshot) ea in
     rw l (
-      (λ em hm hs. measuring-yes q dm visible (left q visible snapshot original pairs (inForce dt)) original measured scratch (rw em (taken-too q visible snapshot original pairs (inForce dt) totals t measured scratch hm hs))),
-      λ dirs vars ym. all-units q visible snapshot original pairs dt dm totals measured scratch dirs vars zt trials ym,
+      (λ em hm hs.
+          let y : (measuringOutcome q dm visible plane original off measured scratch) .answer ≡ taken nothing = measuring-yes q dm visible plane original measured scratch (rw em (taken-too q visible snapshot original pairs (inForce dt) totals t measured scratch hm hs)) in
+          (y, all-units q q visible snapshot original pairs dt dm totals measured scratch refl (λ p u. any-damping q (inForce dt) (inForce dm) visible p original u) zt trials y)),
+      λ dirs vars ym.
+          all-units q (withDirections q dirs vars) visible snapshot original pairs dt dm totals measured scratch (same-units q dirs vars)
+          (λ p u. measured-by (q .kind) (q .depth) (q .width) (q .height) (q .skip) (q .dirs) dirs vars (inForce dt) (inForce dm) visible p original u) zt trials ym,
     )

@@ -1,6 +1,6 @@
 -- DEMAND 3, as a statement over the outcomes of the three calls. Definitions only; Agreement proves it.
 -- Trying and applying share a picture (plane kind with its layout, depth, sizes, skip flags, directions, variances), a snapshot and the figure in force, however each came by it.
--- Each unit's pair is any of the twelve. Applying reads the snapshot and writes into a copy of it. Measuring, with pair 0, 0, is lent what applying left.
+-- Each unit's pair is any of the twelve. Applying reads the snapshot and writes into a copy of it. Measuring, with pair 0, 0, is lent what applying left, and the same original, depth, layout, flags and visible size.
 use mathlib.Core.Path.{_≡_}
 use mathlib.Core.Bool.{true}
 use mathlib.Core.List.{List}
@@ -12,7 +12,7 @@ use Rattle.cdef_spec.specs.declared.UnitPair.{UnitPair}
 use Rattle.cdef_spec.specs.declared.Visible.{Visible}
 use Rattle.cdef_spec.specs.Document01.{inForce, trialNumber, isTrialPair}
 use Rattle.cdef_spec.specs.Picture.{PlaneKind, luma, chroma, Picture, units, pairAt}
-use Rattle.cdef_spec.specs.Answers.{Result, taken, nothing}
+use Rattle.cdef_spec.specs.Answers.{taken, nothing}
 use Rattle.cdef_spec.specs.FrameCalls.{TryingOutcome, tryingOutcome, ApplyingOutcome, applyingOutcome, scratchLength, MeasuringOutcome, measuringOutcome}
 
 -- the pair 0, 0: measuring takes the plane as it stands
@@ -27,15 +27,15 @@ otherKind (chroma sx sy) vars′ = chroma sx sy
 unfoldable pub withDirections : Picture → List ℕ → List ℕ → Picture
 withDirections q dirs vars = record { kind = otherKind (q .kind) vars; depth = q .depth; width = q .width; height = q .height; skip = q .skip; dirs = dirs }
 
--- what measuring gives where the lists of totals are as long as they must be, unit by unit
+-- the two lists of totals agree: each has its length, and each unit's measured total is its tried total at its pair's trial number
 pub record Agrees (q : Picture) (pairs : List UnitPair) (tried measured : List ℤ) : Type 0 where
   pub tried-length : length tried ≡ 12 * units q
   pub measured-length : length measured ≡ units q
   pub unit-by-unit : (u : ℕ) → u < units q → getD measured u (pos 0) ≡ getD tried (12 * u + trialNumber (pairAt pairs u)) (pos 0)
 
 -- for every input that trying and applying take:
--- (1) measuring is taken with the shared directions, variances and figure in force, with totals and scratch of question 7's length;
--- (2) whatever directions, variances and damping measuring is handed, where it takes them each unit's measured total is its tried total at its pair's trial number.
+-- (1) with the shared directions, variances and figure in force, and totals and scratch of question 7's length, measuring is taken and its totals agree with the tried ones;
+-- (2) whatever directions, variances and damping measuring is given, where it takes them its totals agree with the tried ones.
 abbrev pub Demand3 : Type 0
 Demand3 =
     (q : Picture) (visible : Visible) (snapshot original : List ℕ) (pairs : List UnitPair)
@@ -49,7 +49,8 @@ Demand3 =
     → (inForce dampingMeasured ≡ inForce dampingTried
     → length measured ≡ units q
     → length scratch ≡ scratchLength q
-    → (measuringOutcome q dampingMeasured visible (applied .plane) original off measured scratch) .answer ≡ taken nothing)
+    → let m : MeasuringOutcome = measuringOutcome q dampingMeasured visible (applied .plane) original off measured scratch in
+    (m .answer ≡ taken nothing) × Agrees q pairs (tried .totals) (m .totals))
     × ((dirs vars : List ℕ)
     → let m : MeasuringOutcome = measuringOutcome (withDirections q dirs vars) dampingMeasured visible (applied .plane) original off measured scratch in
     m .answer ≡ taken nothing

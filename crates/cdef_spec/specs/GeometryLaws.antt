@@ -11,7 +11,7 @@ use lib.Dec.{ltb, leb, eqb, lit≤}
 use lib.ListN.{getD, length}
 use Rattle.cdef_spec.specs.Words.{_>>_, table}
 use Rattle.cdef_spec.specs.WordsLaws.{length-table, getD-table, and-both}
-use Rattle.cdef_spec.specs.Picture.{PlaneKind, luma, chroma, Picture, subX, subY, planeWidth, planeHeight, blockWidth, blockHeight, blockCols, blockRows, unitCols, unitRows, units, unitAt, at, planeFrom}
+use Rattle.cdef_spec.specs.Picture.{PlaneKind, luma, chroma, Picture, subX, subY, planeWidth, planeHeight, blockWidth, blockHeight, blockCols, blockRows, unitCols, unitRows, units, unitAt, atPlace, planeFrom}
 use Rattle.cdef_spec.specs.Questions.{sideTaken, lumaSideTaken, flagsTaken}
 
 -- blocks tile the plane
@@ -46,8 +46,8 @@ row-of zero h k l = absurd (omega (arith, zero-mul h))
 row-of (suc w) h k l = (div-lt-iff-lt-mul {k = suc w} {x = k} {y = h} (omega arith) .1 (rw (mul-comm h (suc w)) l), mod-lt k (omega arith))
 
 -- the place (r, c) of a plane made by a function
-pub at-plane : (q : Picture) (f : ℕ → ℕ → ℕ) (r c : ℕ) → r < planeHeight q → c < planeWidth q → at q (planeFrom q f) r c ≡ f r c
-unfolding at planeFrom
+pub at-plane : (q : Picture) (f : ℕ → ℕ → ℕ) (r c : ℕ) → r < planeHeight q → c < planeWidth q → atPlace q (planeFrom q f) r c ≡ f r c
+unfolding atPlace planeFrom
 at-plane q f r c hr hc =
     getD-table (planeWidth q * planeHeight q) _ 0 (r * planeWidth q + c) (rw (mul-comm (planeWidth q) (planeHeight q)) (digits-lt {q = r} {m = planeHeight q} {r = c} {c = planeWidth q} hr hc))
     ∙ rw (digits-div r {m = planeWidth q} {r = c} hc, digits-mod r {m = planeWidth q} {r = c} hc)

@@ -15,6 +15,7 @@ pub mod CodeForm
 pub mod LoopForm
 -- Laws: of the definitions, and that the code's forms are the reader's.
 pub mod WordsLaws
+pub mod SignedLaws
 pub mod ConstrainLaws
 pub mod LeafLaws
 pub mod FilterLaws

@@ -1,15 +1,14 @@
 -- Document 01's frame: the geometry of blocks and units in luma and in each layout of chroma, counted blocks, unit totals of trying and measuring, the applied plane. Definitions only.
-use Prim.Native.Nat.{ℕ, zero, suc, _+_, _-_, _*_, _/_, _%_, _^_, min, max}
-use mathlib.Core.Bool.{Bool, true, false, cond, not, _&&_}
-use mathlib.Core.List.{List, [], _∷_}
+use Prim.Native.Nat.{ℕ, _+_, _-_, _*_, _/_, _%_, _^_, min}
+use mathlib.Core.Bool.{Bool, cond, not, _&&_}
+use mathlib.Core.List.{List}
 use lib.Dec.{ltb, eqb}
 use lib.ListN.{getD}
 use Rattle.cdef_spec.specs.declared.SignalledDamping.{SignalledDamping}
 use Rattle.cdef_spec.specs.declared.UnitPair.{UnitPair}
 use Rattle.cdef_spec.specs.declared.Visible.{Visible}
-use Rattle.cdef_spec.specs.declared.Block.{Block}
 use Rattle.cdef_spec.specs.declared.FilterParams.{FilterParams}
-use Rattle.cdef_spec.specs.Words.{_>>_, _<<_, sum2, table}
+use Rattle.cdef_spec.specs.Words.{_>>_, sum2, table}
 use Rattle.cdef_spec.specs.Standard.{Tap}
 use Rattle.cdef_spec.specs.Document01.{Plane, mark, orElse, filtered, chromaDirection, lumaDamping, chromaDamping, trialPair, lumaParams, chromaParams}
 use Rattle.cdef_spec.specs.Distance.{squares, weightedDistance}
@@ -21,7 +20,8 @@ pub data PlaneKind : Type 0 where
   luma : List ℕ → PlaneKind
   chroma : ℕ → ℕ → PlaneKind
 
--- what the frame calls share. Width and height are luma's; a skip flag and a direction a block
+-- what the frame calls share. Width and height are luma's; a skip flag, 1 where the block is skipped, and a direction a block.
+-- Beside it stand the snapshot (document 01: the lent plane before filtering) and the original (the lent plane that distances compare with)
 pub record Picture : Type 0 where
   pub kind : PlaneKind
   pub depth : ℕ
@@ -37,6 +37,7 @@ lumaPicture depth width height skip dirs vars = record { kind = luma vars; depth
 abbrev pub chromaPicture : ℕ → ℕ → ℕ → ℕ → ℕ → List ℕ → List ℕ → Picture
 chromaPicture depth width height sx sy skip dirs = record { kind = chroma sx sy; depth = depth; width = width; height = height; skip = skip; dirs = dirs }
 
+-- the halving flags of a plane
 unfoldable pub subX : PlaneKind → ℕ
 subX (luma vars) = 0
 subX (chroma sx sy) = sx
@@ -82,13 +83,9 @@ blockAt q by bx = by * blockCols q + bx
 unfoldable pub unitAt : Picture → ℕ → ℕ → ℕ
 unitAt q by bx = by / 8 * unitCols q + bx / 8
 
--- its place in the plane
-unfoldable pub blockPlace : Picture → ℕ → ℕ → Block
-blockPlace q by bx = record { x = bx * blockWidth q; y = by * blockHeight q; width = blockWidth q; height = blockHeight q }
-
 -- the sample at row r and column c
-unfoldable pub at : Picture → List ℕ → ℕ → ℕ → ℕ
-at q s r c = getD s (r * planeWidth q + c) 0
+unfoldable pub atPlace : Picture → List ℕ → ℕ → ℕ → ℕ
+atPlace q s r c = getD s (r * planeWidth q + c) 0
 
 abbrev pub planeOf : Picture → List ℕ → Plane
 planeOf q s = record { samples = s; width = planeWidth q; height = planeHeight q }
@@ -138,17 +135,19 @@ unitTotal q v u distance = sum2 (blockRows q) (blockCols q) (λ by bx. cond (eqb
 
 -- trying: unit u, trial t, between the original and the trial block
 unfoldable pub triedTotal : Picture → SignalledDamping → Visible → List ℕ → List ℕ → ℕ → ℕ → ℕ
-triedTotal q signalled v snapshot original u t = unitTotal q v u (λ by bx. blockDistance q v by bx (at q original) (λ r c. orElse mark (filteredBy q signalled snapshot (trialPair t) by bx r c)))
+triedTotal q signalled v snapshot original u t = unitTotal q v u (λ by bx. blockDistance q v by bx (atPlace q original) (λ r c. orElse mark (filteredBy q signalled snapshot (trialPair t) by bx r c)))
 
+-- the pair 0, 0
 abbrev pub isOff : UnitPair → Bool
 isOff p = eqb (p .primary) 0 && eqb (p .secondary) 0
 
 -- measuring: unit u, one pair for all units; with 0, 0 the plane as it stands
 unfoldable pub measuredTotal : Picture → SignalledDamping → Visible → List ℕ → List ℕ → UnitPair → ℕ → ℕ
-measuredTotal q signalled v plane original p u = unitTotal q v u (λ by bx. blockDistance q v by bx (at q original) (λ r c. cond (isOff p) (at q plane r c) (orElse mark (filteredBy q signalled plane p by bx r c))))
+measuredTotal q signalled v plane original p u = unitTotal q v u (λ by bx. blockDistance q v by bx (atPlace q original) (λ r c. cond (isOff p) (atPlace q plane r c) (orElse mark (filteredBy q signalled plane p by bx r c))))
 
 -- ---- the applied plane
 
+-- the pair of unit u
 abbrev pub pairAt : List UnitPair → ℕ → UnitPair
 pairAt ps u = getD ps u (record { primary = 0; secondary = 0 })
 
@@ -161,11 +160,12 @@ unfoldable pub appliedAt : Picture → SignalledDamping → List ℕ → List Un
 appliedAt q signalled snapshot ps dst r c =
     let by = r / blockHeight q in
     let bx = c / blockWidth q in
-    cond (written q ps by bx) (orElse (at q dst r c) (filteredBy q signalled snapshot (pairAt ps (unitAt q by bx)) by bx r c)) (at q dst r c)
+    cond (written q ps by bx) (orElse (atPlace q dst r c) (filteredBy q signalled snapshot (pairAt ps (unitAt q by bx)) by bx r c)) (atPlace q dst r c)
 
 -- the plane with f at row and column
 unfoldable pub planeFrom : Picture → (ℕ → ℕ → ℕ) → List ℕ
 planeFrom q f = table (planeWidth q * planeHeight q) (λ k. f (k / planeWidth q) (k % planeWidth q))
 
+-- the whole plane that applying leaves
 unfoldable pub appliedPlane : Picture → SignalledDamping → List ℕ → List UnitPair → List ℕ → List ℕ
 appliedPlane q signalled snapshot ps dst = planeFrom q (appliedAt q signalled snapshot ps dst)

@@ -17,7 +17,7 @@ use Rattle.cdef_spec.specs.Words.{table}
 use Rattle.cdef_spec.specs.WordsLaws.{length-table, getD-table}
 use Rattle.cdef_spec.specs.Standard.{Tap}
 use Rattle.cdef_spec.specs.Document01.{orElse}
-use Rattle.cdef_spec.specs.Picture.{Picture, blockRows, blockCols, blockWidth, blockHeight, planeWidth, planeHeight, unitAt, at, planeFrom, appliedPlane, pairAt, written, filteredBy, appliedAt}
+use Rattle.cdef_spec.specs.Picture.{Picture, blockRows, blockCols, blockWidth, blockHeight, planeWidth, planeHeight, unitAt, atPlace, planeFrom, appliedPlane, pairAt, written, filteredBy, appliedAt}
 use Rattle.cdef_spec.specs.LoopForm.{put, putRow, putBlock, applyRow, applyRows}
 use Rattle.cdef_spec.specs.GeometryLaws.{Tiled, row-of}
 
@@ -194,7 +194,7 @@ module _ (q : Picture) (tile : Tiled q) (hw : 0 < blockWidth q) (hh : 0 < blockH
 -- the whole plane, as the code's loop leaves it and as Picture gives it
 pub apply-is : (q : Picture) → Tiled q → 0 < blockWidth q → 0 < blockHeight q → (signalled : SignalledDamping) (snapshot : List ℕ) (ps : List UnitPair) (dst : List ℕ) → length dst ≡ planeWidth q * planeHeight q
     → applyRows q (written q ps) (λ by bx. filteredBy q signalled snapshot (pairAt ps (unitAt q by bx)) by bx) dst (blockRows q) ≡ appliedPlane q signalled snapshot ps dst
-unfolding appliedPlane planeFrom appliedAt at
+unfolding appliedPlane planeFrom appliedAt atPlace
 apply-is q tile hw hh signalled snapshot ps dst hl =
     ext-getD 0 _ _ (lengths ∙ hl ∙ sym (length-table (planeWidth q * planeHeight q) _))
     (λ k b. let l : k < planeWidth q * planeHeight q = omega (arith, lengths) in place k l ∙ sym (getD-table (planeWidth q * planeHeight q) _ 0 k l))

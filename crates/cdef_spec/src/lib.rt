@@ -12,7 +12,7 @@ pub enum DampingChoice {
     FromQuality(u32),
 }
 
-// A unit's pair (document 01): its primary and its secondary strength, as signalled.
+// The pair (document 01) of a unit, a 64 by 64 luma square: its primary and its secondary strength, as signalled.
 pub struct UnitPair {
     pub primary: u8,
     pub secondary: u8,
@@ -32,7 +32,7 @@ pub struct Visible {
     pub height: usize,
 }
 
-// What a block is filtered with: the working strengths, the direction, the working damping and the bit depth.
+// What a block is filtered with: the working strengths (signalled, shifted left by depth - 8, in luma the primary adjusted), the direction, the working damping and the bit depth.
 pub struct FilterParams {
     pub pri: u32,
     pub sec: u32,
@@ -45,6 +45,12 @@ pub struct FilterParams {
 pub enum TrialWay {
     Luma(u32),
     Chroma,
+}
+
+// The two constants c1 and c2 of a bit depth, which the weighted distance takes together.
+pub struct DistanceConstants {
+    pub c1: f64,
+    pub c2: f64,
 }
 
 // What a call hands back whose results lie in lent slices: done, or the number of the first question that says no.

@@ -1,0 +1,79 @@
+# Sourced by the scripts of this folder.
+
+root=$(cd "$(dirname "$0")/.." && pwd)
+out=$root/target/beside
+
+fail() {
+    echo "$(basename "$0"): $*" >&2
+    exit 2
+}
+
+# The Rust's folder: the one given, or ../shared/docs/src where that is there.
+rust_folder() {
+    folder=${1:-$root/../shared/docs/src}
+    [ -f "$folder/src/cdef.rs" ] || fail "no src/cdef.rs in the Rust's folder; give it as the last argument (beside/README.md)"
+    (cd "$folder" && pwd)
+}
+
+# Compiles one crate of src/: crate NAME ROOT-FILE WORDS...
+crate() {
+    name=$1 file=$2
+    shift 2
+    (cd "$root" && rustc --edition 2024 -C opt-level=3 --crate-name "$name" \
+        -L "$out" "$@" --out-dir "$out" "beside/src/$file") || fail "$name was not compiled"
+}
+
+# Compiles the Rust of the folder given and what the programs share. The Rust's
+# functions under cfg(test) are wanted, its tests are not.
+build_reference() {
+    command -v rustc >/dev/null || fail "rustc is not on PATH"
+    mkdir -p "$out"
+    MAROONTREE=$1 crate reference reference/lib.rs --crate-type rlib --cfg test
+    crate support support/lib.rs --crate-type rlib --extern reference
+}
+
+# Compiles a program over them: build_program NAME WORDS...
+build_program() {
+    program=$1
+    shift
+    crate "$program" "$program/main.rs" --extern reference --extern support "$@"
+}
+
+# Our static library, made where it is absent or older than the code.
+build_library() {
+    library=$root/target/staticlib/libcdef_c.a
+    if [ -f "$library" ] && [ -z "$(find "$root/crates" -name '*.rt' -newer "$library" 2>/dev/null)" ]; then
+        return
+    fi
+    command -v rt >/dev/null || fail "target/staticlib/libcdef_c.a is absent or old, and rt, which makes it, is not on PATH"
+    (cd "$root" && rt staticlib cdef_c) || fail "rt staticlib cdef_c failed"
+}
+
+# The programs that compare, from sources that have been checked.
+build_all() {
+    "$root/beside/check-sources" "$1"
+    build_library
+    build_reference "$1"
+    build_program self_test
+    build_program vectors
+    build_program compare -L "native=$root/target/staticlib"
+}
+
+# Holds a stored sample against a fresh one, line by line: check_sample DATA-FOLDER
+check_sample() {
+    fresh=$out/fresh
+    rm -rf "$fresh"
+    mkdir -p "$fresh"
+    "$out/vectors" "$fresh" >/dev/null
+    different=0
+    for file in "$fresh"/*.txt; do
+        name=$(basename "$file")
+        [ -f "$1/$name" ] || fail "the stored sample has no $name"
+        diff "$1/$name" "$file" >"$out/diff" || true
+        count=$(grep -c '^[<>]' "$out/diff" || true)
+        grep '^[<>]' "$out/diff" | head -n 10 | sed "s/^</DIFFERENT $name, stored:/; s/^>/expected:/"
+        echo "stored $name: $(wc -l <"$file") cases, $(((count + 1) / 2)) different"
+        different=$((different + count))
+    done
+    [ "$different" = 0 ]
+}

@@ -1,0 +1,255 @@
+//! The functions of `frame_cdef.rs` over plain slices and numbers.
+
+use super::{CdefMetric, Pool};
+use crate::cdef::CdefDispatch;
+use crate::rd_sse::RdDispatch;
+
+/// What the frame functions share. Width and height are luma's, multiples of 8;
+/// the lists have one entry a luma block, in rows.
+#[derive(Clone, Copy)]
+pub struct Frame<'a> {
+    pub width: usize,
+    pub height: usize,
+    pub visible_width: usize,
+    pub visible_height: usize,
+    pub sub_x: usize,
+    pub sub_y: usize,
+    pub depth: u8,
+    pub signalled_damping: u8,
+    pub skip: &'a [u8],
+    pub directions: &'a [u8],
+    pub variances: &'a [u32],
+}
+
+impl Frame<'_> {
+    pub fn block_columns(&self) -> usize {
+        self.width.div_ceil(8)
+    }
+
+    pub fn block_rows(&self) -> usize {
+        self.height.div_ceil(8)
+    }
+
+    pub fn unit_columns(&self) -> usize {
+        self.width.div_ceil(64)
+    }
+
+    pub fn units(&self) -> usize {
+        self.unit_columns() * self.height.div_ceil(64)
+    }
+
+    pub fn chroma_width(&self) -> usize {
+        self.width >> self.sub_x
+    }
+
+    pub fn chroma_height(&self) -> usize {
+        self.height >> self.sub_y
+    }
+
+    /// Repeated from `frame_cdef`, as the next three.
+    fn damping(&self) -> i32 {
+        self.signalled_damping as i32 + (self.depth as i32 - 8)
+    }
+
+    fn chroma_damping(&self) -> i32 {
+        self.damping() - 1
+    }
+
+    fn chroma_visible(&self) -> (usize, usize) {
+        (
+            self.visible_width.div_ceil(1 << self.sub_x),
+            self.visible_height.div_ceil(1 << self.sub_y),
+        )
+    }
+
+    fn chroma_directions(&self) -> [usize; 8] {
+        chroma_direction_map(self.sub_x, self.sub_y).map(usize::from)
+    }
+
+    fn skip_flags(&self) -> Vec<bool> {
+        self.skip.iter().map(|&s| s != 0).collect()
+    }
+
+    fn direction_list(&self) -> Vec<usize> {
+        self.directions.iter().map(|&d| d as usize).collect()
+    }
+
+    fn variance_list(&self) -> Vec<i32> {
+        self.variances.iter().map(|&v| v as i32).collect()
+    }
+}
+
+/// The signalled damping of a quality index.
+pub fn cdef_damping(index: u8) -> u8 {
+    super::cdef_damping(index)
+}
+
+/// The direction pass, whose lines are repeated from `frame_cdef`.
+pub fn direction_pass(luma: &[u16], width: usize, height: usize, depth: u8) -> (Vec<u8>, Vec<u32>) {
+    let (nbx, nby) = (width.div_ceil(8), height.div_ceil(8));
+    let mut directions = vec![0u8; nbx * nby];
+    let mut variances = vec![0u32; nbx * nby];
+    for by in 0..nby {
+        for bx in 0..nbx {
+            if bx * 8 < width && by * 8 < height {
+                let (d, v) = crate::dispatch_direction(luma, width, bx * 8, by * 8, depth);
+                directions[by * nbx + bx] = d;
+                variances[by * nbx + bx] = v;
+            }
+        }
+    }
+    (directions, variances)
+}
+
+/// The chroma direction map, whose lines are repeated from `frame_cdef`.
+pub fn chroma_direction_map(sub_x: usize, sub_y: usize) -> [u8; 8] {
+    if sub_x == 1 && sub_y == 0 {
+        [7, 0, 2, 4, 5, 6, 6, 6]
+    } else {
+        [0, 1, 2, 3, 4, 5, 6, 7]
+    }
+}
+
+/// Trying, luma: twelve totals a unit.
+pub fn cdef_luma_unit_dists_all(f: &Frame, recon: &[u16], src: &[u16]) -> Vec<[i64; 12]> {
+    super::cdef_luma_unit_dists_all(
+        &CdefDispatch::scalar(),
+        &RdDispatch,
+        recon,
+        src,
+        f.width,
+        f.height,
+        f.visible_width,
+        f.visible_height,
+        &f.direction_list(),
+        &f.variance_list(),
+        &f.skip_flags(),
+        f.block_columns(),
+        f.unit_columns(),
+        f.damping(),
+        f.depth,
+        CdefMetric::CdefDist,
+        &Pool,
+    )
+}
+
+/// Trying, one chroma plane: twelve totals a unit.
+pub fn cdef_chroma_unit_sse_all(f: &Frame, recon: &[u16], src: &[u16]) -> Vec<[i64; 12]> {
+    let (visible_width, visible_height) = f.chroma_visible();
+    super::cdef_chroma_unit_sse_all(
+        &CdefDispatch::scalar(),
+        &RdDispatch,
+        recon,
+        src,
+        f.chroma_width(),
+        visible_width,
+        visible_height,
+        &f.direction_list(),
+        &f.chroma_directions(),
+        &f.skip_flags(),
+        f.block_columns(),
+        f.block_rows(),
+        f.unit_columns(),
+        f.sub_x,
+        f.sub_y,
+        f.chroma_damping(),
+        f.depth,
+        CdefMetric::CdefDist,
+        &Pool,
+    )
+}
+
+/// Measuring, luma: one total a unit, for one pair.
+pub fn cdef_luma_unit_dists(f: &Frame, recon: &[u16], src: &[u16], pri: u8, sec: u8) -> Vec<i64> {
+    super::cdef_luma_unit_dists(
+        recon,
+        src,
+        f.width,
+        f.height,
+        f.visible_width,
+        f.visible_height,
+        &f.direction_list(),
+        &f.variance_list(),
+        &f.skip_flags(),
+        f.block_columns(),
+        f.unit_columns(),
+        f.units(),
+        pri as i32,
+        sec as i32,
+        f.damping(),
+        f.depth,
+        true,
+    )
+}
+
+/// Measuring, one chroma plane: one total a unit, for one pair.
+pub fn cdef_chroma_unit_sse(f: &Frame, recon: &[u16], src: &[u16], pri: u8, sec: u8) -> Vec<i64> {
+    let (visible_width, visible_height) = f.chroma_visible();
+    super::cdef_chroma_unit_sse(
+        recon,
+        src,
+        f.chroma_width(),
+        f.chroma_height(),
+        visible_width,
+        visible_height,
+        &f.direction_list(),
+        &f.chroma_directions(),
+        &f.skip_flags(),
+        f.block_columns(),
+        f.block_rows(),
+        f.unit_columns(),
+        f.units(),
+        f.sub_x,
+        f.sub_y,
+        pri as i32,
+        sec as i32,
+        f.chroma_damping(),
+        f.depth,
+    )
+}
+
+fn pair_list(pairs: &[(u8, u8)]) -> Vec<(i32, i32)> {
+    pairs.iter().map(|&(p, s)| (p as i32, s as i32)).collect()
+}
+
+/// Applying, luma: one pair a unit.
+pub fn apply_cdef_plane(f: &Frame, plane: &mut [u16], snapshot: &[u16], pairs: &[(u8, u8)]) {
+    super::apply_cdef_plane(
+        plane,
+        snapshot,
+        f.width,
+        f.height,
+        &f.direction_list(),
+        &f.variance_list(),
+        &f.skip_flags(),
+        f.block_columns(),
+        f.unit_columns(),
+        &pair_list(pairs),
+        f.damping(),
+        f.depth,
+        &Pool,
+    );
+}
+
+/// Applying, one chroma plane: one pair a unit.
+pub fn apply_cdef_chroma(f: &Frame, plane: &mut [u16], snapshot: &[u16], pairs: &[(u8, u8)]) {
+    super::apply_cdef_chroma(
+        plane,
+        snapshot,
+        f.chroma_width(),
+        f.chroma_height(),
+        &f.direction_list(),
+        &f.chroma_directions(),
+        &f.skip_flags(),
+        f.block_columns(),
+        f.block_columns(),
+        f.block_rows(),
+        f.sub_x,
+        f.sub_y,
+        f.unit_columns(),
+        &pair_list(pairs),
+        f.chroma_damping(),
+        f.depth,
+        &Pool,
+    );
+}

@@ -1,0 +1,210 @@
+//! Trying, applying and measuring agree in the Rust: demand 3 on small pictures.
+
+use reference::Frame;
+use support::random::Random;
+use support::report::Tally;
+
+const PAIRS: [(u8, u8); 12] = [
+    (0, 0),
+    (1, 0),
+    (2, 0),
+    (4, 0),
+    (0, 1),
+    (1, 1),
+    (2, 1),
+    (4, 1),
+    (0, 2),
+    (1, 2),
+    (2, 2),
+    (4, 2),
+];
+
+/// Coded width and height, visible width and height.
+const SIZES: [[usize; 4]; 5] = [
+    [8, 8, 8, 8],
+    [8, 16, 3, 9],
+    [64, 64, 64, 57],
+    [72, 72, 70, 67],
+    [136, 72, 61, 72],
+];
+
+/// Halving flags across and down.
+pub const LAYOUTS: [(usize, usize); 4] = [(0, 0), (1, 0), (1, 1), (0, 1)];
+
+pub fn check(tally: &mut Tally, r: &mut Random, long: bool) {
+    for (number, &(pri, sec)) in PAIRS.iter().enumerate() {
+        let got = reference::cand_index(pri, sec);
+        tally.number("trial number", got as i64, number as i64);
+    }
+    for _ in 0..if long { 20 } else { 1 } {
+        for size in SIZES {
+            for layout in LAYOUTS {
+                for depth in 8..=12 {
+                    frame(tally, r, size, layout, depth);
+                }
+            }
+        }
+    }
+}
+
+/// The lists of a frame: flags, directions, variances.
+pub struct Lists {
+    pub skip: Vec<u8>,
+    pub directions: Vec<u8>,
+    pub variances: Vec<u32>,
+}
+
+impl Lists {
+    pub fn new(r: &mut Random, luma: &[u16], size: [usize; 4], depth: u8) -> Self {
+        let (directions, variances) = reference::direction_pass(luma, size[0], size[1], depth);
+        Lists {
+            skip: directions
+                .iter()
+                .map(|_| u8::from(r.below(5) == 0))
+                .collect(),
+            directions,
+            variances,
+        }
+    }
+
+    pub fn frame(
+        &self,
+        size: [usize; 4],
+        layout: (usize, usize),
+        depth: u8,
+        damping: u8,
+    ) -> Frame<'_> {
+        Frame {
+            width: size[0],
+            height: size[1],
+            visible_width: size[2],
+            visible_height: size[3],
+            sub_x: layout.0,
+            sub_y: layout.1,
+            depth,
+            signalled_damping: damping,
+            skip: &self.skip,
+            directions: &self.directions,
+            variances: &self.variances,
+        }
+    }
+}
+
+type Try = fn(&Frame, &[u16], &[u16]) -> Vec<[i64; 12]>;
+type Measure = fn(&Frame, &[u16], &[u16], u8, u8) -> Vec<i64>;
+type Apply = fn(&Frame, &mut [u16], &[u16], &[(u8, u8)]);
+
+fn frame(tally: &mut Tally, r: &mut Random, size: [usize; 4], layout: (usize, usize), depth: u8) {
+    let luma = r.picture(size[0], size[1], depth);
+    let lists = Lists::new(r, &luma, size, depth);
+    let damping = r.between(3, 6) as u8;
+    let f = lists.frame(size, layout, depth, damping);
+    let calls: (Try, Measure, Apply) = (
+        reference::cdef_luma_unit_dists_all,
+        reference::cdef_luma_unit_dists,
+        reference::apply_cdef_plane,
+    );
+    let original = r.picture(size[0], size[1], depth);
+    plane(tally, r, &f, &luma, &original, calls);
+    let unfiltered = reference::cdef_luma_unit_dists(&f, &luma, &original, 0, 0);
+    let expected = totals(&f, (0, 0), |b| luma_distance(&f, &luma, &original, b));
+    tally.same(&"luma totals", unfiltered, expected);
+    let calls: (Try, Measure, Apply) = (
+        reference::cdef_chroma_unit_sse_all,
+        reference::cdef_chroma_unit_sse,
+        reference::apply_cdef_chroma,
+    );
+    let chroma = r.picture(f.chroma_width(), f.chroma_height(), depth);
+    let original = r.picture(f.chroma_width(), f.chroma_height(), depth);
+    plane(tally, r, &f, &chroma, &original, calls);
+    let unfiltered = reference::cdef_chroma_unit_sse(&f, &chroma, &original, 0, 0);
+    let expected = totals(&f, layout, |b| {
+        squares(&chroma, &original, f.chroma_width(), b)
+    });
+    tally.same(&"chroma totals", unfiltered, expected);
+}
+
+/// The visible part of a block.
+struct Part {
+    x: usize,
+    y: usize,
+    width: usize,
+    height: usize,
+}
+
+/// Document 01's totals of a plane as it stands, from the distance of a block.
+fn totals(f: &Frame, halved: (usize, usize), distance: impl Fn(Part) -> i64) -> Vec<i64> {
+    let (x_by, y_by) = (1 << halved.0, 1 << halved.1);
+    let visible = (
+        f.visible_width.div_ceil(x_by),
+        f.visible_height.div_ceil(y_by),
+    );
+    let mut totals = vec![0; f.units()];
+    for by in 0..f.block_rows() {
+        for bx in 0..f.block_columns() {
+            let (x, y) = (bx * 8 / x_by, by * 8 / y_by);
+            if f.skip[by * f.block_columns() + bx] == 0 && x < visible.0 && y < visible.1 {
+                let part = Part {
+                    x,
+                    y,
+                    width: (visible.0 - x).min(8 / x_by),
+                    height: (visible.1 - y).min(8 / y_by),
+                };
+                totals[by / 8 * f.unit_columns() + bx / 8] += distance(part);
+            }
+        }
+    }
+    totals
+}
+
+fn squares(a: &[u16], b: &[u16], pitch: usize, part: Part) -> i64 {
+    let mut sum = 0;
+    for y in part.y..part.y + part.height {
+        for x in part.x..part.x + part.width {
+            let d = i64::from(a[y * pitch + x]) - i64::from(b[y * pitch + x]);
+            sum += d * d;
+        }
+    }
+    sum
+}
+
+/// Weighted where the whole block is visible.
+fn luma_distance(f: &Frame, plane: &[u16], original: &[u16], part: Part) -> i64 {
+    if part.width == 8 && part.height == 8 {
+        let (w, h) = (f.width, f.height);
+        reference::cdef_dist_8x8(original, plane, w, h, part.x, part.y, f.depth)
+    } else {
+        squares(plane, original, f.width, part)
+    }
+}
+
+fn plane(
+    tally: &mut Tally,
+    r: &mut Random,
+    f: &Frame,
+    snapshot: &[u16],
+    original: &[u16],
+    (try_all, measure, apply): (Try, Measure, Apply),
+) {
+    let tried = try_all(f, snapshot, original);
+    for (number, &(pri, sec)) in PAIRS.iter().enumerate() {
+        let measured = measure(f, snapshot, original, pri, sec);
+        let expected = tried.iter().map(|unit| unit[number]).collect();
+        tally.same(
+            &format!("measured with pair {pri} {sec}"),
+            measured,
+            expected,
+        );
+    }
+    let numbers: Vec<usize> = tried.iter().map(|_| r.below(12) as usize).collect();
+    let pairs: Vec<(u8, u8)> = numbers.iter().map(|&n| PAIRS[n]).collect();
+    let mut applied = snapshot.to_vec();
+    apply(f, &mut applied, snapshot, &pairs);
+    let measured = measure(f, &applied, original, 0, 0);
+    let expected = tried
+        .iter()
+        .zip(&numbers)
+        .map(|(unit, &n)| unit[n])
+        .collect();
+    tally.same(&"measured after applying", measured, expected);
+}

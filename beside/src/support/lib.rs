@@ -1,0 +1,48 @@
+//! What the programs share: cases of each call with the answer due to them, the
+//! random generator, and the report.
+
+pub mod adjust_pri;
+pub mod constrain;
+pub mod damping;
+pub mod log2_floor;
+pub mod options;
+pub mod random;
+pub mod report;
+
+use report::Value;
+use std::fmt::Display;
+
+/// What adjusting and constraining alone take at most.
+pub const STRENGTH_MAX: u32 = 240;
+
+/// Numbers that a narrower type would wrap into range, and the last ones.
+pub(crate) const WIDE: [u32; 6] = [256, 65_536, 65_540, 1 << 31, u32::MAX - 1, u32::MAX];
+
+/// Document 01's number, 0 for done, and the value, which is 0 after a refusal.
+#[derive(Clone, Debug, PartialEq)]
+pub struct Answer<V> {
+    pub number: u32,
+    pub value: V,
+}
+
+/// One case of a call. `Display` writes the inputs, parted by single spaces.
+pub trait Case: Display {
+    type Value: Value + Default;
+
+    /// Document 01's number of the first question that says no, or 0.
+    fn number(&self) -> u32;
+
+    /// The Rust's result, asked for only where the number is 0.
+    fn result(&self) -> Self::Value;
+
+    #[inline]
+    fn expected(&self) -> Answer<Self::Value> {
+        let number = self.number();
+        let value = if number == 0 {
+            self.result()
+        } else {
+            Self::Value::default()
+        };
+        Answer { number, value }
+    }
+}

@@ -1,0 +1,2 @@
+-- What a C entry leaves behind `out`.
+pub mod Values

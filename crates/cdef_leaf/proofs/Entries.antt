@@ -1,0 +1,55 @@
+-- The tables' entries in the code's form, each by one computed test of the whole table.
+use mathlib.Core.Path.{_≡_, refl}
+use mathlib.Core.Bool.{true, cond}
+use mathlib.Core.List.{[]}
+use Prim.Native.Nat.{ℕ, _+_, _-_, _*_, _/_, _<_}
+use lib.Dec.{eqb}
+use lib.ListN.{getD}
+use Rattle.cdef_spec.specs.Words.{every}
+use Rattle.cdef_spec.specs.WordsLaws.{agree, agree2}
+use Rattle.cdef_spec.specs.Standard.{Cdef-Pri-Taps, Cdef-Sec-Taps, Cdef-Uv-Dir, Div-Table, divBy}
+use Rattle.cdef_spec.specs.Document01.{primaries, secondaries}
+use Rattle.cdef_spec.specs.CodeForm.{rows, cols, rowOf, colOf}
+
+pub pri-is : (row k : ℕ) → row < 2 → k < 2 → getD (getD Cdef-Pri-Taps row []) k 0 ≡ cond (eqb row 0) (4 - 2 * k) 3
+unfolding every Cdef-Pri-Taps
+pri-is = agree2 2 2 (λ row k. getD (getD Cdef-Pri-Taps row []) k 0) (λ row k. cond (eqb row 0) (4 - 2 * k) 3) refl
+
+pub sec-is : (k : ℕ) → k < 2 → 2 - k ≡ getD Cdef-Sec-Taps k 0
+unfolding every Cdef-Sec-Taps
+sec-is = agree 2 (λ k. 2 - k) (λ k. getD Cdef-Sec-Taps k 0) refl
+
+pub div-is : (n : ℕ) → n < 9 → 840 / n ≡ divBy n
+unfolding every Div-Table
+div-is = agree 9 (λ n. 840 / n) divBy refl
+
+-- the 4:2:2 row of Cdef_Uv_Dir
+abbrev pub mapped : ℕ → ℕ
+mapped d = cond (eqb d 0) 7 (cond (eqb d 1) 0 (cond (eqb d 2) 2 (cond (eqb d 3) 4 (cond (eqb d 4) 5 6))))
+
+pub mapped-is : (d : ℕ) → d < 8 → getD (getD (getD Cdef-Uv-Dir 1 []) 0 []) d 0 ≡ mapped d
+unfolding every Cdef-Uv-Dir
+mapped-is = agree 8 (λ d. getD (getD (getD Cdef-Uv-Dir 1 []) 0 []) d 0) mapped refl
+
+pub primary-is : (i : ℕ) → i < 4 → cond (eqb i 3) 4 i ≡ getD primaries i 0
+unfolding every primaries
+primary-is = agree 4 (λ i. cond (eqb i 3) 4 i) (λ i. getD primaries i 0) refl
+
+pub secondary-is : (i : ℕ) → i < 3 → i ≡ getD secondaries i 0
+unfolding every secondaries
+secondary-is = agree 3 (λ i. i) (λ i. getD secondaries i 0) refl
+
+-- the steps, two more than they are
+abbrev pub rowBy : ℕ → ℕ → ℕ
+rowBy d k = cond (eqb d 0) (1 - k) (cond (eqb d 1) (2 - k) (cond (eqb d 2) 2 (cond (eqb d 3) (2 + k) (3 + k))))
+
+pub row-is : (d k : ℕ) → d < 8 → k < 2 → rowOf d k ≡ rowBy d k
+unfolding every rows
+row-is = agree2 8 2 rowOf rowBy refl
+
+abbrev pub colBy : ℕ → ℕ → ℕ
+colBy d k = cond (eqb d 5) (2 + k) (cond (eqb d 6) 2 (cond (eqb d 7) (2 - k) (3 + k)))
+
+pub col-is : (d k : ℕ) → d < 8 → k < 2 → colOf d k ≡ colBy d k
+unfolding every cols
+col-is = agree2 8 2 colOf colBy refl

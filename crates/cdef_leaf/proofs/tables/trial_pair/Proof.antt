@@ -1,0 +1,34 @@
+-- `cdef_leaf::tables::trial_pair` meets its contract.
+use mathlib.Core.Path.{_≡_, _∙_}
+use mathlib.Core.Bool.{cond}
+use mathlib.Core.Logic.{⊎-elim}
+use native.Mathlib.Omega.{arith}
+use Prim.Native.Nat.{ℕ, _/_, _%_, _<_}
+use borrow.Author.Tests.{ne-eqb}
+use lib.Dec.{eqb}
+use Rattle.cdef_spec.specs.declared.UnitPair.{UnitPair}
+use Rattle.cdef_spec.specs.Document01.{trialPair}
+use Rattle.cdef_leaf.proofs.Entries.{primary-is, secondary-is}
+use borrow.Author.Needs.{needs}
+use Rattle.cdef_leaf.proofs.tables.trial_pair.Statement.{statement}
+use Rattle.cdef_leaf.proofs.tables.trial_pair.Tie as tie
+
+pair-is : (t p : ℕ) → t < 12 → p ≡ cond (eqb (t % 4) 3) 4 (t % 4) → _≡_ {A = UnitPair} (record { primary = p; secondary = t / 4 }) (trialPair t)
+unfolding trialPair
+pair-is t p h e = rw (e, primary-is (t % 4) (omega arith), ← secondary-is (t / 4) (omega arith))
+
+-- where the branch's two ways meet
+primary-at : (c : tie.Joined1) → let t = c .before .args .t in c .if1 .primary ≡ cond (eqb (t % 4) 3) 4 (t % 4)
+primary-at c = ⊎-elim (λ w. w .1 ∙ rw (w .0 .taken)) (λ w. w .1 ∙ rw (ne-eqb _ 3 (w .0 .left))) (c .if1 .came)
+
+cast-primary : tie.Need-cast-primary
+cast-primary c = search needs
+
+cast-secondary : tie.Need-cast-secondary
+cast-secondary c = search needs
+
+returns : tie.Need-returns
+returns c = pair-is _ _ (c .before .pre) (primary-at c)
+
+pub trial-pair-spec : {M : Type 1} → statement M
+trial-pair-spec = tie.close (tie.spec cast-primary cast-secondary returns)

@@ -1,0 +1,100 @@
+// The tables, each as a function: a constant array would be built anew at each use.
+ghost use mathlib.Core.Path.{_≡_};
+ghost use mathlib.Core.List.{[]};
+ghost use Prim.Native.Nat.{_≤_, _<_};
+ghost use lib.ListN.{getD};
+ghost use Rattle.cdef_spec.specs.Standard.{Cdef-Pri-Taps, Cdef-Sec-Taps, divBy};
+ghost use Rattle.cdef_spec.specs.Document01.{chromaDirection, trialPair};
+ghost use Rattle.cdef_spec.specs.CodeForm.{rowOf, colOf};
+use cdef_spec::UnitPair;
+
+// Cdef_Pri_Taps.
+pub fn pri_tap(row: u32, k: u32) -> u32
+    requires { ⌜ (row < 2) × (k < 2) ⌝ }
+    ensures { λ r. ⌜ r ≡ getD (getD Cdef-Pri-Taps row []) k 0 ⌝ }
+{
+    match row {
+        0 => 4 - 2 * k,
+        _ => 3,
+    }
+}
+
+// Cdef_Sec_Taps.
+pub fn sec_tap(k: u32) -> u32
+    requires { ⌜ k < 2 ⌝ }
+    ensures { λ r. ⌜ r ≡ getD Cdef-Sec-Taps k 0 ⌝ }
+{
+    2 - k
+}
+
+// Div_Table: each entry is 840 / n.
+pub fn div_table(n: u32) -> u32
+    requires { ⌜ n ≤ 8 ⌝ }
+    ensures { λ r. ⌜ r ≡ divBy n ⌝ }
+{
+    if n == 0 {
+        return 0;
+    }
+    840 / n
+}
+
+// The chroma direction: mapped in 4:2:2, else the luma direction.
+pub fn chroma_direction(sub_x: u8, sub_y: u8, dir: u8) -> u8
+    requires { ⌜ dir < 8 ⌝ }
+    ensures { λ r. ⌜ r ≡ chromaDirection «sub_x» «sub_y» dir ⌝ }
+{
+    if sub_x != 1 {
+        return dir;
+    }
+    if sub_y != 0 {
+        return dir;
+    }
+    match dir {
+        0 => 7,
+        1 => 0,
+        2 => 2,
+        3 => 4,
+        4 => 5,
+        _ => 6,
+    }
+}
+
+// The pair of a trial number: secondary index * 4 + primary index.
+pub fn trial_pair(t: u32) -> UnitPair
+    requires { ⌜ t < 12 ⌝ }
+    ensures { λ r. ⌜ r ≡ trialPair t ⌝ }
+{
+    let mut primary = (t % 4) as u8;
+    if primary == 3 {
+        primary = 4;
+    }
+    let secondary = (t / 4) as u8;
+    UnitPair { primary, secondary }
+}
+
+// The row of step k of a direction, two more than it is.
+pub fn direction_row(dir: usize, k: usize) -> usize
+    requires { ⌜ (dir < 8) × (k < 2) ⌝ }
+    ensures { λ r. ⌜ r ≡ rowOf dir k ⌝ }
+{
+    match dir {
+        0 => 1 - k,
+        1 => 2 - k,
+        2 => 2,
+        3 => 2 + k,
+        _ => 3 + k,
+    }
+}
+
+// The column of step k of a direction, two more than it is.
+pub fn direction_col(dir: usize, k: usize) -> usize
+    requires { ⌜ (dir < 8) × (k < 2) ⌝ }
+    ensures { λ r. ⌜ r ≡ colOf dir k ⌝ }
+{
+    match dir {
+        5 => 2 + k,
+        6 => 2,
+        7 => 2 - k,
+        _ => 3 + k,
+    }
+}

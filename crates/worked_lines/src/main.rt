@@ -1,0 +1,10 @@
+// Runs document 01's worked lines through the public calls and prints one line each.
+// The file stdout was written from document 01, not from a run.
+mod numbers; // numbers.rt: lines on single numbers
+mod print; // print.rt: what a line is printed with
+
+fn main() {
+    numbers::constrain_lines();
+    numbers::adjust_lines();
+    numbers::damping_lines();
+}

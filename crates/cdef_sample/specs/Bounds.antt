@@ -1,0 +1,13 @@
+-- Lists whose entries are bounded, as records, so that the list can be inferred. Definitions only.
+use mathlib.Core.List.{List}
+use Prim.Native.Nat.{ℕ, _≤_}
+use lib.ListN.{getD}
+use lib.IntN.{ℤ, pos, natAbs}
+
+-- no sample above the mark
+pub record Held (w : List ℕ) : Type 0 where
+  pub all : (k : ℕ) → getD w k 0 ≤ 16384
+
+-- no sum of a greater size than m
+pub record Within (l : List ℤ) (m : ℕ) : Type 0 where
+  pub all : (k : ℕ) → natAbs (getD l k (pos 0)) ≤ m

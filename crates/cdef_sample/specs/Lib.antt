@@ -1,0 +1,5 @@
+-- One tap and the finish of a sample, and their laws.
+pub mod Sample
+pub mod SampleLaws
+pub mod Upto
+pub mod Bounds

@@ -1,0 +1,108 @@
+// One sample of the filter: its taps as naturals, their sums as 16-bit signed numbers.
+ghost use mathlib.Core.Path.{_≡_};
+ghost use Prim.Native.Nat.{ℕ, _+_, _-_, _*_, _≤_, _<_, min, max};
+ghost use lib.IntN.{natAbs, pos, _+ℤ_, _*ℤ_};
+ghost use lib.ListN.{length, getD};
+ghost use Rattle.cdef_sample.specs.Sample.{orCentre, sizeOf, conOf, pairOf, movedOf, overOf, underOf, finishOf};
+
+pub fn least(a: u16, b: u16) -> u16
+    requires { ⌜ (a ≤ 32767) × (b ≤ 32767) ⌝ }
+    ensures { λ r. ⌜ r ≡ min a b ⌝ }
+{
+    if (a as i16) < (b as i16) { a } else { b }
+}
+
+pub fn most(a: u16, b: u16) -> u16
+    requires { ⌜ (a ≤ 32767) × (b ≤ 32767) ⌝ }
+    ensures { λ r. ⌜ r ≡ max a b ⌝ }
+{
+    if (a as i16) < (b as i16) { b } else { a }
+}
+
+fn apart(p: u16, c: u16) -> u16
+    requires { ⌜ (p ≤ 32767) × (c ≤ 32767) ⌝ }
+    ensures { λ r. ⌜ r ≡ (p - c) + (c - p) ⌝ }
+{
+    if (p as i16) < (c as i16) {
+        c - p
+    } else {
+        p - c
+    }
+}
+
+fn less(s: u16, t: u16) -> u16
+    ensures { λ r. ⌜ r ≡ s - t ⌝ }
+{
+    if s < t { 0 } else { s - t }
+}
+
+fn constrain_size(a: u16, s: u16, sh: u32) -> u16
+    requires { ⌜ (a ≤ 32767) × (s ≤ 32767) × (sh ≤ 15) ⌝ }
+    ensures { λ r. ⌜ r ≡ sizeOf a s sh ⌝ }
+{
+    least(a, less(s, a >> sh))
+}
+
+pub fn constrain_tap(p: u16, c: u16, s: u16, sh: u32) -> i16
+    requires { ⌜ (p ≤ 32767) × (c ≤ 32767) × (s ≤ 32767) × (sh ≤ 15) ⌝ }
+    ensures { λ r. ⌜ r ≡ conOf p c s sh ⌝ }
+{
+    let m = constrain_size(apart(p, c), s, sh);
+    if (p as i16) < (c as i16) {
+        0 - (m as i16)
+    } else {
+        m as i16
+    }
+}
+
+pub fn add(a: i16, b: i16) -> i16
+    requires { ⌜ natAbs a + natAbs b ≤ 32767 ⌝ }
+    ensures { λ r. ⌜ r ≡ a +ℤ b ⌝ }
+{
+    a + b
+}
+
+pub fn scale(k: u16, a: i16) -> i16
+    requires { ⌜ (k ≤ 32767) × (natAbs a ≤ 32767) × (k * natAbs a ≤ 32767) ⌝ }
+    ensures { λ r. ⌜ r ≡ pos k *ℤ a ⌝ }
+{
+    (k as i16) * a
+}
+
+pub fn tap(w: &[u16; 144], at: usize, c: u16) -> u16
+    requires { ⌜ at < 144 ⌝ }
+    ensures { λ r. ⌜ r ≡ orCentre (getD (now (w .entry)) at 0) c ⌝ }
+{
+    let t = w[at];
+    if t == 16384 { c } else { t }
+}
+
+pub fn moved(c: u16, sum: i16) -> i16
+    requires { ⌜ (c ≤ 16384) × (natAbs sum ≤ 16000) ⌝ }
+    ensures { λ r. ⌜ r ≡ movedOf c sum ⌝ }
+{
+    let g = if sum < 0 { 7i16 } else { 8i16 };
+    (c as i16) + ((sum + g) >> 4)
+}
+
+pub fn at_least(v: i16, lo: u16) -> i16
+    requires { ⌜ (natAbs v ≤ 32767) × (lo ≤ 32767) ⌝ }
+    ensures { λ r. ⌜ r ≡ overOf v lo ⌝ }
+{
+    if v < (lo as i16) { lo as i16 } else { v }
+}
+
+pub fn at_most(v: i16, hi: u16) -> i16
+    requires { ⌜ (natAbs v ≤ 32767) × (hi ≤ 32767) ⌝ }
+    ensures { λ r. ⌜ r ≡ underOf v hi ⌝ }
+{
+    if (hi as i16) < v { hi as i16 } else { v }
+}
+
+pub fn finish(c: u16, sum: i16, lo: u16, hi: u16) -> u16
+    requires { ⌜ (c ≤ 16384) × (natAbs sum ≤ 16000) × (lo ≤ 16384) × (hi ≤ 16384) ⌝ }
+    ensures { λ r. ⌜ r ≡ finishOf c sum lo hi ⌝ }
+{
+    let v = at_most(at_least(moved(c, sum), lo), hi) as u16;
+    if c == 16384 { c } else { v }
+}

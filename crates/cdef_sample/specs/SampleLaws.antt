@@ -1,4 +1,4 @@
--- Laws of the lanes' definitions.
+-- Laws of one tap and of the finish.
 use mathlib.Core.Path.{_≡_, refl, sym, ap, _∙_}
 use Prim.Native.Nat.{ℕ, zero, suc, _+_, _-_, _*_, _/_, _^_, _≤_, _<_, min}
 use mathlib.Core.Bool.{Bool, true, false, cond}
@@ -8,15 +8,19 @@ use lib.IntN.{ℤ, pos, negℤ, _+ℤ_, _-ℤ_}
 use lib.IntN.{natAbs, negsuc}
 use lib.Signed.{ltZ, shrZ, mag}
 use borrow.Author.Tests.{lt-ltb, le-ltb, ltb-true, ltb-false, eq-eqb, ne-eqb}
-use Rattle.cdef_sample.specs.Sample.{orCentre, sizeOf, conOf, pairOf, roundOf, movedOf, overOf, underOf, finishOf}
+use Rattle.cdef_sample.specs.Sample.{orCentre, sizeOf, conOf, roundOf, movedOf, overOf, underOf, finishOf, freeOf}
 
 pub centre-mark : (t c : ℕ) → t ≡ 16384 → orCentre t c ≡ c
 unfolding orCentre
 centre-mark t c e = rw (eq-eqb t 16384 e)
 
-pub centre-tap : (t c : ℕ) → (t ≡ 16384 → ⊥) → orCentre t c ≡ t
+pub centre-tap : (t c : ℕ) → (t ≡ 16384 → ⊥) → (c ≡ 16384 → ⊥) → orCentre t c ≡ t
 unfolding orCentre
-centre-tap t c e = rw (ne-eqb t 16384 e)
+centre-tap t c e f = rw (ne-eqb t 16384 e, ne-eqb c 16384 f)
+
+pub centre-marked : (t c : ℕ) → (t ≡ 16384 → ⊥) → c ≡ 16384 → orCentre t c ≡ c
+unfolding orCentre
+centre-marked t c e f = rw (ne-eqb t 16384 e, eq-eqb c 16384 f)
 
 pub con-below : (p c s sh : ℕ) → p < c → conOf p c s sh ≡ negℤ (pos (sizeOf ((p - c) + (c - p)) s sh))
 unfolding conOf
@@ -99,3 +103,15 @@ finish-mark c z lo hi e = rw (eq-eqb c 16384 e)
 pub finish-on : (c : ℕ) (z : ℤ) (lo hi : ℕ) → (c ≡ 16384 → ⊥) → finishOf c z lo hi ≡ mag (underOf (overOf (movedOf c z) lo) hi)
 unfolding finishOf
 finish-on c z lo hi e = rw (ne-eqb c 16384 e)
+
+pub free-mark : (c : ℕ) (z : ℤ) → c ≡ 16384 → freeOf c z ≡ c
+unfolding freeOf
+free-mark c z e = rw (eq-eqb c 16384 e)
+
+pub free-on : (c : ℕ) (z : ℤ) → (c ≡ 16384 → ⊥) → freeOf c z ≡ mag (overOf (movedOf c z) 0)
+unfolding freeOf
+free-on c z e = rw (ne-eqb c 16384 e)
+
+-- what was held above a number is one
+pub over-is-nat : (z : ℤ) (lo : ℕ) → overOf z lo ≡ pos (mag (overOf z lo))
+over-is-nat z lo = over-nat z lo

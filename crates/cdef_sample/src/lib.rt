@@ -3,8 +3,9 @@ ghost use mathlib.Core.Path.{_≡_};
 ghost use Prim.Native.Nat.{ℕ, _+_, _-_, _*_, _≤_, _<_, min, max};
 ghost use lib.IntN.{natAbs, pos, _+ℤ_, _*ℤ_};
 ghost use lib.ListN.{length, getD};
-ghost use Rattle.cdef_sample.specs.Sample.{orCentre, sizeOf, conOf, pairOf, movedOf, overOf, underOf, finishOf};
+ghost use Rattle.cdef_sample.specs.Sample.{orCentre, sizeOf, conOf, movedOf, overOf, underOf, finishOf, freeOf};
 
+// The lesser and the greater of two samples.
 pub fn least(a: u16, b: u16) -> u16
     requires { ⌜ (a ≤ 32767) × (b ≤ 32767) ⌝ }
     ensures { λ r. ⌜ r ≡ min a b ⌝ }
@@ -19,6 +20,7 @@ pub fn most(a: u16, b: u16) -> u16
     if (a as i16) < (b as i16) { b } else { a }
 }
 
+// How far apart two samples are.
 fn apart(p: u16, c: u16) -> u16
     requires { ⌜ (p ≤ 32767) × (c ≤ 32767) ⌝ }
     ensures { λ r. ⌜ r ≡ (p - c) + (c - p) ⌝ }
@@ -30,12 +32,14 @@ fn apart(p: u16, c: u16) -> u16
     }
 }
 
+// s - t, or 0 where t is the greater.
 fn less(s: u16, t: u16) -> u16
     ensures { λ r. ⌜ r ≡ s - t ⌝ }
 {
     if s < t { 0 } else { s - t }
 }
 
+// The size of a constrained difference of size a.
 fn constrain_size(a: u16, s: u16, sh: u32) -> u16
     requires { ⌜ (a ≤ 32767) × (s ≤ 32767) × (sh ≤ 15) ⌝ }
     ensures { λ r. ⌜ r ≡ sizeOf a s sh ⌝ }
@@ -43,6 +47,7 @@ fn constrain_size(a: u16, s: u16, sh: u32) -> u16
     least(a, less(s, a >> sh))
 }
 
+// A tap's constrained difference from the centre.
 pub fn constrain_tap(p: u16, c: u16, s: u16, sh: u32) -> i16
     requires { ⌜ (p ≤ 32767) × (c ≤ 32767) × (s ≤ 32767) × (sh ≤ 15) ⌝ }
     ensures { λ r. ⌜ r ≡ conOf p c s sh ⌝ }
@@ -55,6 +60,7 @@ pub fn constrain_tap(p: u16, c: u16, s: u16, sh: u32) -> i16
     }
 }
 
+// The sum of two 16-bit numbers.
 pub fn add(a: i16, b: i16) -> i16
     requires { ⌜ natAbs a + natAbs b ≤ 32767 ⌝ }
     ensures { λ r. ⌜ r ≡ a +ℤ b ⌝ }
@@ -62,6 +68,7 @@ pub fn add(a: i16, b: i16) -> i16
     a + b
 }
 
+// A 16-bit number times its weight.
 pub fn scale(k: u16, a: i16) -> i16
     requires { ⌜ (k ≤ 32767) × (natAbs a ≤ 32767) × (k * natAbs a ≤ 32767) ⌝ }
     ensures { λ r. ⌜ r ≡ pos k *ℤ a ⌝ }
@@ -69,14 +76,20 @@ pub fn scale(k: u16, a: i16) -> i16
     (k as i16) * a
 }
 
+// The tap at a place of the window; the centre where the tap or the centre is marked.
 pub fn tap(w: &[u16; 144], at: usize, c: u16) -> u16
     requires { ⌜ at < 144 ⌝ }
     ensures { λ r. ⌜ r ≡ orCentre (getD (now (w .entry)) at 0) c ⌝ }
 {
     let t = w[at];
-    if t == 16384 { c } else { t }
+    if t == 16384 {
+        c
+    } else {
+        if c == 16384 { c } else { t }
+    }
 }
 
+// The centre moved by the rounded sum.
 pub fn moved(c: u16, sum: i16) -> i16
     requires { ⌜ (c ≤ 16384) × (natAbs sum ≤ 16000) ⌝ }
     ensures { λ r. ⌜ r ≡ movedOf c sum ⌝ }
@@ -85,6 +98,7 @@ pub fn moved(c: u16, sum: i16) -> i16
     (c as i16) + ((sum + g) >> 4)
 }
 
+// Held to lo or above.
 pub fn at_least(v: i16, lo: u16) -> i16
     requires { ⌜ (natAbs v ≤ 32767) × (lo ≤ 32767) ⌝ }
     ensures { λ r. ⌜ r ≡ overOf v lo ⌝ }
@@ -92,6 +106,7 @@ pub fn at_least(v: i16, lo: u16) -> i16
     if v < (lo as i16) { lo as i16 } else { v }
 }
 
+// Held to hi or below.
 pub fn at_most(v: i16, hi: u16) -> i16
     requires { ⌜ (natAbs v ≤ 32767) × (hi ≤ 32767) ⌝ }
     ensures { λ r. ⌜ r ≡ underOf v hi ⌝ }
@@ -99,10 +114,20 @@ pub fn at_most(v: i16, hi: u16) -> i16
     if (hi as i16) < v { hi as i16 } else { v }
 }
 
+// The filtered sample; a marked centre stays.
 pub fn finish(c: u16, sum: i16, lo: u16, hi: u16) -> u16
     requires { ⌜ (c ≤ 16384) × (natAbs sum ≤ 16000) × (lo ≤ 16384) × (hi ≤ 16384) ⌝ }
     ensures { λ r. ⌜ r ≡ finishOf c sum lo hi ⌝ }
 {
     let v = at_most(at_least(moved(c, sum), lo), hi) as u16;
+    if c == 16384 { c } else { v }
+}
+
+// A sample moved by its sum alone.
+pub fn free(c: u16, sum: i16) -> u16
+    requires { ⌜ (c ≤ 16384) × (natAbs sum ≤ 16000) ⌝ }
+    ensures { λ r. ⌜ r ≡ freeOf c sum ⌝ }
+{
+    let v = at_least(moved(c, sum), 0) as u16;
     if c == 16384 { c } else { v }
 }

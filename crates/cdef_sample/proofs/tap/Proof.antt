@@ -1,6 +1,6 @@
 -- `cdef_sample::tap` meets its contract.
 use mathlib.Core.Path.{sym}
-use Rattle.cdef_sample.specs.SampleLaws.{centre-mark, centre-tap}
+use Rattle.cdef_sample.specs.SampleLaws.{centre-mark, centre-tap, centre-marked}
 use borrow.Author.Needs.{needs}
 use Rattle.cdef_sample.proofs.tap.Statement.{statement}
 use Rattle.cdef_sample.proofs.tap.Tie as tie
@@ -17,7 +17,10 @@ returns : tie.Need-returns
 returns c = sym (centre-mark _ _ (c .if1 .taken))
 
 returns-2 : tie.Need-returns-2
-returns-2 c = sym (centre-tap _ _ (c .if1 .left))
+returns-2 c = sym (centre-marked _ _ (c .before .if1 .left) (c .if2 .taken))
+
+returns-3 : tie.Need-returns-3
+returns-3 c = sym (centre-tap _ _ (c .before .if1 .left) (c .if2 .left))
 
 pub tap-spec : {M : Type 1} → statement M
-tap-spec = tie.close (tie.spec mul-t element-copy-out-t returns returns-2)
+tap-spec = tie.close (tie.spec mul-t element-copy-out-t returns returns-2 returns-3)

@@ -1,0 +1,71 @@
+-- Bounds of the sums.
+use mathlib.Core.Path.{_≡_, refl, sym, ap, _∙_}
+use mathlib.Core.List.{List}
+use Prim.Native.Nat.{ℕ, _+_, _*_, _≤_, _<_}
+use native.Mathlib.Omega.{arith}
+use native.Mathlib.Nat.{mul-le-mul}
+use lib.ListN.{getD}
+use lib.IntN.{ℤ, pos, natAbs, _+ℤ_, _*ℤ_}
+use Rattle.cdef_spec.specs.SignedLaws.{size-add, size-scale}
+use Rattle.cdef_sample.specs.Sample.{conOf}
+use Rattle.cdef_sample.specs.SampleLaws.{size-con}
+use Rattle.cdef_rows.specs.Place.{tapOn, tapBack}
+use Rattle.cdef_sample.specs.Bounds.{Held, Within}
+use Rattle.cdef_sample.specs.Upto.{upto, upto-all-of}
+use Rattle.cdef_rows.specs.Sums.{InRange, pairAt, highPair, priAt, secAt, lowAt, highAt}
+use Rattle.cdef_rows.specs.SumsLaws.{high-pair-le}
+use Rattle.cdef_rows.specs.declared.Taps.{Taps}
+use Rattle.cdef_rows.specs.declared.Strength.{Strength}
+
+pub size-pair : (w : List ℕ) (k o c s sh : ℕ) → s ≤ 240 → natAbs (pairAt w k o c s sh) ≤ 480
+unfolding pairAt
+size-pair w k o c s sh h = omega (arith, size-add (conOf (tapOn w k o c) c s sh) (conOf (tapBack w k o c) c s sh), size-con (tapOn w k o c) c s sh, size-con (tapBack w k o c) c s sh)
+
+-- a record, so that the number can be inferred
+record Small (a : ℤ) (m : ℕ) : Type 0 where
+  small : natAbs a ≤ m
+
+scaled : {k m : ℕ} {a : ℤ} → k ≤ 4 → Small a m → Small (pos k *ℤ a) (4 * m)
+scaled {k} {m} {a} hk h = record { small = rw (size-scale k a) (mul-le-mul hk (h .small)) }
+
+two : {a b : ℤ} {m n : ℕ} → Small a m → Small b n → Small (a +ℤ b) (m + n)
+two {a} {b} h g = record { small = omega (arith, size-add a b, h .small, g .small) }
+
+module _ (w : List ℕ) (k : ℕ) (t : Taps) (f : Strength) (m : InRange f) where
+  at : (o : ℕ) → Small (pairAt w k o (getD w k 0) (f .s) (f .sh)) 480
+  at o = record { small = size-pair w k o (getD w k 0) (f .s) (f .sh) (m .s) }
+
+  pub size-pri : natAbs (priAt w k t f) ≤ 3840
+  unfolding priAt
+  size-pri = two (scaled (m .w0) (at (t .p0))) (scaled (m .w1) (at (t .p1))) .small
+
+  pub size-sec : natAbs (secAt w k t f) ≤ 7680
+  unfolding secAt
+  size-sec = two (scaled (m .w0) (two (at (t .q0)) (at (t .r0)))) (scaled (m .w1) (two (at (t .q1)) (at (t .r1)))) .small
+
+module _ (w : List ℕ) (k : ℕ) (t : Taps) (h : Held w) where
+  pub low-le : lowAt w k t ≤ 16384
+  unfolding lowAt
+  low-le = omega (arith, h .all k)
+
+  high : (o : ℕ) → highPair w k o (getD w k 0) ≤ 16384
+  high o = high-pair-le w k o (getD w k 0) h (h .all k)
+
+  pub high-le : highAt w k t ≤ 16384
+  unfolding highAt
+  high-le = omega (arith, h .all k, high (t .p0), high (t .p1), high (t .q0), high (t .q1), high (t .r0), high (t .r1))
+
+-- the rows' entries
+module _ (w : List ℕ) (row : ℕ) (t : Taps) (f : Strength) (m : InRange f) where
+  pub pri-within : Within (upto (λ (j : ℕ). priAt w (row + j) t f) 8) 3840
+  pri-within = record { all = upto-all-of (λ (z : ℤ). natAbs z ≤ 3840) (λ (j : ℕ). priAt w (row + j) t f) 8 (pos 0) (λ j. size-pri w (row + j) t f m) (omega arith) }
+
+  pub sec-within : Within (upto (λ (j : ℕ). secAt w (row + j) t f) 8) 7680
+  sec-within = record { all = upto-all-of (λ (z : ℤ). natAbs z ≤ 7680) (λ (j : ℕ). secAt w (row + j) t f) 8 (pos 0) (λ j. size-sec w (row + j) t f m) (omega arith) }
+
+module _ (w : List ℕ) (row : ℕ) (t : Taps) (h : Held w) where
+  pub low-held : Held (upto (λ (j : ℕ). lowAt w (row + j) t) 8)
+  low-held = record { all = upto-all-of (λ (v : ℕ). v ≤ 16384) (λ (j : ℕ). lowAt w (row + j) t) 8 0 (λ j. low-le w (row + j) t h) (omega arith) }
+
+  pub high-held : Held (upto (λ (j : ℕ). highAt w (row + j) t) 8)
+  high-held = record { all = upto-all-of (λ (v : ℕ). v ≤ 16384) (λ (j : ℕ). highAt w (row + j) t) 8 0 (λ j. high-le w (row + j) t h) (omega arith) }

@@ -1,0 +1,61 @@
+-- `cdef_rows::high_row` meets its contract.
+use mathlib.Core.Path.{_≡_, refl, sym, ap, _∙_}
+use Prim.Native.Nat.{ℕ, _+_, _-_, _≤_, _<_}
+use native.Mathlib.Omega.{arith}
+use lib.ListN.{length, take, length-set}
+use Rattle.cdef_rows.specs.Sums.{highAt}
+use Rattle.cdef_sample.specs.Upto.{upto, upto-none, upto-more, upto-all}
+use Rattle.cdef_rows.proofs.high_row.Statement.{statement}
+use Rattle.cdef_rows.proofs.high_row.Tie as tie
+use Rattle.cdef_rows.proofs.high_row.Reads as reads
+use Rattle.cdef_rows.proofs.high_row.Lts as lts
+use Rattle.cdef_rows.proofs.high_at.Reads as high-at-reads
+
+abbrev Inv-loop : tie.InvT-loop
+Inv-loop w row t out₀ j₀ out j = (take j out ≡ upto (λ (j : ℕ). highAt w (row + j) t) j) × (length out ≡ 8) × (j ≤ 8)
+
+abbrev μ-loop : tie.MeasureT-loop
+μ-loop w row t out₀ j₀ out j = 8 - j
+
+loop-holds : tie.Need-loop-holds Inv-loop μ-loop
+loop-holds c = (sym (upto-none _), refl, omega arith)
+
+add-high-at : tie.Need-add-high-at Inv-loop μ-loop
+add-high-at c = let s = c .before .before in omega (arith, s .pre .1)
+
+high-at-requires : tie.Need-high-at-requires Inv-loop μ-loop
+high-at-requires c κs = let s = c .before .before in (omega (arith, s .pre .0), omega (arith, s .pre .1), s .pre .2, s .pre .3)
+
+mul-out : tie.Need-mul-out Inv-loop μ-loop
+mul-out c = omega arith
+
+array-write-out : tie.Need-array-write-out Inv-loop μ-loop
+array-write-out c = omega arith
+
+add-j : tie.Need-add-j Inv-loop μ-loop
+add-j c = omega arith
+
+loop-less : tie.Need-loop-less Inv-loop μ-loop
+loop-less c = omega arith
+
+loop-again : tie.Need-loop-again Inv-loop μ-loop
+loop-again c = let p = c .before .before in (upto-more _ _ _ _ (p .loop .inv .0) (omega arith) (c .high-at .ensures), simp length-set (p .loop .inv .1), omega arith)
+
+returns : tie.Need-returns Inv-loop μ-loop
+returns c = let p = c .before in upto-all _ _ 8 _ (p .loop .inv .0) (p .loop .inv .1) (omega arith)
+
+pub high-row-spec : {M : Type 1} → statement M
+high-row-spec =
+    tie.close
+    (tie.spec
+    Inv-loop
+    μ-loop
+    loop-holds
+    add-high-at
+    high-at-requires
+    mul-out
+    array-write-out
+    add-j
+    loop-less
+    loop-again
+    returns)

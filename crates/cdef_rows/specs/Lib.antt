@@ -1,0 +1,4 @@
+-- The definitions of a row, and their laws.
+pub mod Place
+pub mod Sums
+pub mod SumsLaws

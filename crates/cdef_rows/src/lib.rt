@@ -1,0 +1,214 @@
+// A row of eight samples of the window, each sum and the filtered row by value.
+ghost use mathlib.Core.Path.{_≡_};
+ghost use Prim.Native.Nat.{ℕ, _+_, _*_, _≤_, _<_};
+ghost use lib.IntN.{natAbs, pos, _+ℤ_};
+ghost use lib.ListN.{length, getD};
+ghost use Rattle.cdef_sample.specs.Sample.{finishOf, freeOf};
+ghost use Rattle.cdef_sample.specs.Upto.{upto};
+ghost use Rattle.cdef_rows.specs.Place.{Near, tapOn, tapBack};
+ghost use Rattle.cdef_sample.specs.Bounds.{Held, Within};
+ghost use Rattle.cdef_rows.specs.Sums.{Near6, InRange, pairAt, lowPair, highPair, priAt, secAt, lowAt, highAt, filteredAt};
+
+// offsets of the taps in a window of pitch 12, wrapped; the opposite tap lies as far the other way
+pub struct Taps {
+    pub p0: usize,
+    pub p1: usize,
+    pub q0: usize,
+    pub q1: usize,
+    pub r0: usize,
+    pub r1: usize,
+}
+
+// a strength, its shift, and the weights of the near and the far taps
+pub struct Strength {
+    pub s: u16,
+    pub sh: u32,
+    pub w0: u16,
+    pub w1: u16,
+}
+
+pub fn tap_on(w: &[u16; 144], k: usize, o: usize, c: u16) -> u16
+    requires { ⌜ (26 ≤ k) × (k ≤ 117) × Near o ⌝ }
+    ensures { λ r. ⌜ r ≡ tapOn (now (w .entry)) k o c ⌝ }
+{
+    cdef_sample::tap(w, std::num::wrapping_add_usize(k, o), c)
+}
+
+pub fn tap_back(w: &[u16; 144], k: usize, o: usize, c: u16) -> u16
+    requires { ⌜ (26 ≤ k) × (k ≤ 117) × Near o ⌝ }
+    ensures { λ r. ⌜ r ≡ tapBack (now (w .entry)) k o c ⌝ }
+{
+    cdef_sample::tap(w, std::num::wrapping_sub_usize(k, o), c)
+}
+
+fn pair(w: &[u16; 144], k: usize, o: usize, c: u16, s: u16, sh: u32) -> i16
+    requires { ⌜ (26 ≤ k) × (k ≤ 117) × Near o × Held (now w) × (c ≤ 16384) × (s ≤ 240) × (sh ≤ 15) ⌝ }
+    ensures { λ r. ⌜ r ≡ pairAt (now (w .entry)) k o c s sh ⌝ }
+{
+    let p = tap_on(w, k, o, c);
+    let n = tap_back(w, k, o, c);
+    cdef_sample::add(cdef_sample::constrain_tap(p, c, s, sh), cdef_sample::constrain_tap(n, c, s, sh))
+}
+
+fn low_pair(w: &[u16; 144], k: usize, o: usize, c: u16) -> u16
+    requires { ⌜ (26 ≤ k) × (k ≤ 117) × Near o × Held (now w) × (c ≤ 16384) ⌝ }
+    ensures { λ r. ⌜ (r ≡ lowPair (now (w .entry)) k o c) × (r ≤ 16384) ⌝ }
+{
+    cdef_sample::least(tap_on(w, k, o, c), tap_back(w, k, o, c))
+}
+
+fn high_pair(w: &[u16; 144], k: usize, o: usize, c: u16) -> u16
+    requires { ⌜ (26 ≤ k) × (k ≤ 117) × Near o × Held (now w) × (c ≤ 16384) ⌝ }
+    ensures { λ r. ⌜ (r ≡ highPair (now (w .entry)) k o c) × (r ≤ 16384) ⌝ }
+{
+    cdef_sample::most(tap_on(w, k, o, c), tap_back(w, k, o, c))
+}
+
+fn pri_at(w: &[u16; 144], k: usize, t: Taps, f: Strength) -> i16
+    requires { ⌜ (26 ≤ k) × (k ≤ 117) × Held (now w) × Near6 t × InRange f ⌝ }
+    ensures { λ r. ⌜ r ≡ priAt (now (w .entry)) k t f ⌝ }
+{
+    let c = w[k];
+    let a = pair(w, k, t.p0, c, f.s, f.sh);
+    let b = pair(w, k, t.p1, c, f.s, f.sh);
+    cdef_sample::add(cdef_sample::scale(f.w0, a), cdef_sample::scale(f.w1, b))
+}
+
+fn sec_at(w: &[u16; 144], k: usize, t: Taps, f: Strength) -> i16
+    requires { ⌜ (26 ≤ k) × (k ≤ 117) × Held (now w) × Near6 t × InRange f ⌝ }
+    ensures { λ r. ⌜ r ≡ secAt (now (w .entry)) k t f ⌝ }
+{
+    let c = w[k];
+    let a = cdef_sample::add(
+        pair(w, k, t.q0, c, f.s, f.sh),
+        pair(w, k, t.r0, c, f.s, f.sh),
+    );
+    let b = cdef_sample::add(
+        pair(w, k, t.q1, c, f.s, f.sh),
+        pair(w, k, t.r1, c, f.s, f.sh),
+    );
+    cdef_sample::add(cdef_sample::scale(f.w0, a), cdef_sample::scale(f.w1, b))
+}
+
+fn low_at(w: &[u16; 144], k: usize, t: Taps) -> u16
+    requires { ⌜ (26 ≤ k) × (k ≤ 117) × Held (now w) × Near6 t ⌝ }
+    ensures { λ r. ⌜ r ≡ lowAt (now (w .entry)) k t ⌝ }
+{
+    let c = w[k];
+    let p = cdef_sample::least(low_pair(w, k, t.p0, c), low_pair(w, k, t.p1, c));
+    let q = cdef_sample::least(low_pair(w, k, t.q0, c), low_pair(w, k, t.q1, c));
+    let r = cdef_sample::least(low_pair(w, k, t.r0, c), low_pair(w, k, t.r1, c));
+    cdef_sample::least(cdef_sample::least(p, q), cdef_sample::least(r, c))
+}
+
+fn high_at(w: &[u16; 144], k: usize, t: Taps) -> u16
+    requires { ⌜ (26 ≤ k) × (k ≤ 117) × Held (now w) × Near6 t ⌝ }
+    ensures { λ r. ⌜ r ≡ highAt (now (w .entry)) k t ⌝ }
+{
+    let c = w[k];
+    let p = cdef_sample::most(high_pair(w, k, t.p0, c), high_pair(w, k, t.p1, c));
+    let q = cdef_sample::most(high_pair(w, k, t.q0, c), high_pair(w, k, t.q1, c));
+    let r = cdef_sample::most(high_pair(w, k, t.r0, c), high_pair(w, k, t.r1, c));
+    cdef_sample::most(cdef_sample::most(p, q), cdef_sample::most(r, c))
+}
+
+pub fn pri_row(w: &[u16; 144], row: usize, t: Taps, f: Strength) -> [i16; 8]
+    requires { ⌜ (26 ≤ row) × (row ≤ 110) × Held (now w) × Near6 t × InRange f ⌝ }
+    ensures { λ r. ⌜ r ≡ upto (λ j. priAt (now (w .entry)) (row + j) t f) 8 ⌝ }
+{
+    let mut out = [0i16; 8];
+    for j in 0..8usize {
+        out[j] = pri_at(w, row + j, t, f);
+    }
+    out
+}
+
+pub fn sec_row(w: &[u16; 144], row: usize, t: Taps, f: Strength) -> [i16; 8]
+    requires { ⌜ (26 ≤ row) × (row ≤ 110) × Held (now w) × Near6 t × InRange f ⌝ }
+    ensures { λ r. ⌜ r ≡ upto (λ j. secAt (now (w .entry)) (row + j) t f) 8 ⌝ }
+{
+    let mut out = [0i16; 8];
+    for j in 0..8usize {
+        out[j] = sec_at(w, row + j, t, f);
+    }
+    out
+}
+
+pub fn low_row(w: &[u16; 144], row: usize, t: Taps) -> [u16; 8]
+    requires { ⌜ (26 ≤ row) × (row ≤ 110) × Held (now w) × Near6 t ⌝ }
+    ensures { λ r. ⌜ r ≡ upto (λ j. lowAt (now (w .entry)) (row + j) t) 8 ⌝ }
+{
+    let mut out = [0u16; 8];
+    for j in 0..8usize {
+        out[j] = low_at(w, row + j, t);
+    }
+    out
+}
+
+pub fn high_row(w: &[u16; 144], row: usize, t: Taps) -> [u16; 8]
+    requires { ⌜ (26 ≤ row) × (row ≤ 110) × Held (now w) × Near6 t ⌝ }
+    ensures { λ r. ⌜ r ≡ upto (λ j. highAt (now (w .entry)) (row + j) t) 8 ⌝ }
+{
+    let mut out = [0u16; 8];
+    for j in 0..8usize {
+        out[j] = high_at(w, row + j, t);
+    }
+    out
+}
+
+pub fn done_row(
+    w: &[u16; 144],
+    row: usize,
+    p: [i16; 8],
+    s: [i16; 8],
+    lo: [u16; 8],
+    hi: [u16; 8],
+) -> [u16; 8]
+    requires { ⌜ (26 ≤ row) × (row ≤ 110) × Held (now w) × Within p 3840 × Within s 7680 × Held lo × Held hi ⌝ }
+    ensures { λ r. ⌜ r ≡ upto (λ j. finishOf (getD (now (w .entry)) (row + j) 0) (getD p j (pos 0) +ℤ getD s j (pos 0)) (getD lo j 0) (getD hi j 0)) 8 ⌝ }
+{
+    let mut out = [0u16; 8];
+    for j in 0..8usize {
+        let at = row + j;
+        out[j] = cdef_sample::finish(w[at], cdef_sample::add(p[j], s[j]), lo[j], hi[j]);
+    }
+    out
+}
+
+// The filtered row that starts at `row` of the window.
+pub fn filtered_row(w: &[u16; 144], row: usize, t: Taps, f: Strength, g: Strength) -> [u16; 8]
+    requires { ⌜ (26 ≤ row) × (row ≤ 110) × Held (now w) × Near6 t × InRange f × InRange g ⌝ }
+    ensures { λ r. ⌜ r ≡ upto (λ j. filteredAt (now (w .entry)) (row + j) t f g) 8 ⌝ }
+{
+    let p = pri_row(w, row, t, f);
+    let s = sec_row(w, row, t, g);
+    let lo = low_row(w, row, t);
+    let hi = high_row(w, row, t);
+    done_row(w, row, p, s, lo, hi)
+}
+
+// A row moved by its sums alone.
+pub fn free_row(w: &[u16; 144], row: usize, s: [i16; 8]) -> [u16; 8]
+    requires { ⌜ (26 ≤ row) × (row ≤ 110) × Held (now w) × Within s 7680 ⌝ }
+    ensures { λ r. ⌜ r ≡ upto (λ j. freeOf (getD (now (w .entry)) (row + j) 0) (getD s j (pos 0))) 8 ⌝ }
+{
+    let mut out = [0u16; 8];
+    for j in 0..8usize {
+        let at = row + j;
+        out[j] = cdef_sample::free(w[at], s[j]);
+    }
+    out
+}
+
+// A row of the window as it stands.
+pub fn centre_row(w: &[u16; 144], row: usize) -> [u16; 8]
+    requires { ⌜ (26 ≤ row) × (row ≤ 110) ⌝ }
+    ensures { λ r. ⌜ r ≡ upto (λ j. getD (now (w .entry)) (row + j) 0) 8 ⌝ }
+{
+    let mut out = [0u16; 8];
+    for j in 0..8usize {
+        let at = row + j;
+        out[j] = w[at];
+    }
+    out
+}

@@ -47,7 +47,10 @@ fn pair(w: &[u16; 144], k: usize, o: usize, c: u16, s: u16, sh: u32) -> i16
 {
     let p = tap_on(w, k, o, c);
     let n = tap_back(w, k, o, c);
-    cdef_sample::add(cdef_sample::constrain_tap(p, c, s, sh), cdef_sample::constrain_tap(n, c, s, sh))
+    cdef_sample::add(
+        cdef_sample::constrain_tap(p, c, s, sh),
+        cdef_sample::constrain_tap(n, c, s, sh),
+    )
 }
 
 fn low_pair(w: &[u16; 144], k: usize, o: usize, c: u16) -> u16

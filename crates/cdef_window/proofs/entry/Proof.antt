@@ -11,9 +11,9 @@ use Rattle.cdef_window.proofs.entry.Tie as tie
 use Rattle.cdef_window.proofs.entry.Reads as reads
 use Rattle.cdef_window.proofs.entry.Lts as lts
 
-
 place : (c : tie.After-struct-known6) → let a = c .before .before .before .before .before .before .before .before .before .before .args in (a .b .y + a .i - 2) * a .w + (a .b .x + a .j - 2) < length (a .src .now)
 place c = let s = c .before .before .before .before .before .before .before .before .before .before in let q = s .pre .1 in looked-in (s .args .src .now) (s .args .w) (s .args .h) (s .args .b) (s .args .i) (s .args .j) (q .3) (s .args .r) (s .args .c) (q .0) (q .1) (omega arith) (omega arith) (s .pre .0 .full) (omega arith) (omega arith)
+
 returns : tie.Need-returns
 returns c = let s = c .before .before in let q = s .pre .1 in sym (row-before _ _ _ _ _ _ (q .3) _ _ (q .0) (q .1) (omega arith))
 

@@ -10,9 +10,9 @@ use Rattle.cdef_window.proofs.inside.Tie as tie
 use Rattle.cdef_window.proofs.inside.Reads as reads
 use Rattle.cdef_window.proofs.inside.Lts as lts
 
-
 no-so : {A : Type 0} → false ≡ true → A
 no-so e = let z : _≡_ {A = ℕ} 0 1 = cc in absurd (omega arith)
+
 returns : tie.Need-returns
 returns c = λ e. no-so e
 

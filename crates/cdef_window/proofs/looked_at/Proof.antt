@@ -9,9 +9,9 @@ use Rattle.cdef_window.proofs.looked_at.Tie as tie
 use Rattle.cdef_window.proofs.looked_at.Reads as reads
 use Rattle.cdef_window.proofs.looked_at.Lts as lts
 
-
 first : (c : tie.Joined1) → c .if1 .lo ≡ 2 - c .before .args .at
 first c = ⊎-elim (λ w. omega arith) (λ w. omega arith) (c .if1 .came)
+
 sub-lo : tie.Need-sub-lo
 sub-lo c = search needs
 

@@ -32,6 +32,7 @@ row-in s i j hi hj =
     let q = s .pre .1 in
     let d = digits-lt {q = a .b .y + i - 2} {m = a .h} {r = a .b .x - 2 + j} {c = a .w} (omega (arith, q)) (omega (arith, q)) in
     omega (arith, d, s .pre .0 .full, mul-comm (a .w) (a .h))
+
 -- what a turn reads
 read : (s : tie.Start Inv-loop2 μ-loop2 Inv-loop μ-loop) (i j : ℕ) → i < 12 → j < 12 → let a = s .args in getD (a .src .now) ((a .b .y + i - 2) * a .w + (a .b .x - 2) + j) 0 ≡ windowAt (planeOf (a .src .now) (a .w) (a .h)) (a .b) (i * 12 + j)
 read s i j hi hj =

@@ -25,6 +25,7 @@ abbrev μ-loop : tie.MeasureT-loop
 
 top-is : (d : ℕ) → d ≤ 12 → (1 * 2 ^ d) % 65536 ≡ 2 ^ d
 top-is d h = let l : 2 ^ d ≤ 2 ^ 12 = pow-mono {i = d} {j = 12} h in omega arith
+
 both-zero : (a b : ℕ) → eqb (a + b) 0 ≡ eqb a 0 && eqb b 0
 both-zero a b = go (ℕ-discrete a 0) (ℕ-discrete b 0)
   where
@@ -32,6 +33,7 @@ both-zero a b = go (ℕ-discrete a 0) (ℕ-discrete b 0)
     go (yes e) (yes f) = rw (eq-eqb (a + b) 0 (omega arith), eq-eqb a 0 e, eq-eqb b 0 f)
     go (yes e) (no g) = rw (ne-eqb (a + b) 0 (λ z. g (omega arith)), eq-eqb a 0 e, ne-eqb b 0 g)
     go (no g) f = rw (ne-eqb (a + b) 0 (λ z. g (omega arith)), ne-eqb a 0 g)
+
 step : (f : ℕ → Bool) (bad r k : ℕ) → eqb bad 0 ≡ every k f → eqb r 0 ≡ f k → eqb (bad + r) 0 ≡ every (k + 1) f
 unfolding every
 step f bad r k e g = both-zero bad r ∙ rw (e, g, add-one k)

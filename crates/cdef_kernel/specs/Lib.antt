@@ -1,0 +1,10 @@
+-- The kernel: what a row is filtered with, and the filtered sample of the window.
+pub mod Kernel
+-- Laws: the kernel's sample is the filtered sample of the plane.
+pub mod ScaleLaws
+pub mod TapLaws
+pub mod PlaceLaws
+pub mod OrderLaws
+pub mod SumLaws
+pub mod FinishLaws
+pub mod KernelLaws

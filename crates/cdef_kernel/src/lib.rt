@@ -1,0 +1,1 @@
+// What a row of the window is filtered with, and the filtered row.

@@ -16,12 +16,12 @@ use Rattle.cdef_spec.specs.Words.{_>>_}
 use Rattle.cdef_spec.specs.Standard.{Tap, missing, sample, Clip3, rounded, filterTaps, unclipped, CdefFilter, Cdef-Pri-Taps, Cdef-Sec-Taps}
 use Rattle.cdef_spec.specs.Document01.{Plane, mark, unmarked, available, orElse, dampingFrom1, filterCentre, filtered}
 use Rattle.cdef_spec.specs.CodeForm.{rowOf, colOf, sampleAt}
-use Rattle.cdef_spec.specs.PlaceLaws.{available-here2}
-use Rattle.cdef_spec.specs.FilterLaws.{Around, around, filter-off}
+use Rattle.cdef_spec.specs.PlaceLaws.{steps-low, available-here2}
+use Rattle.cdef_spec.specs.FilterLaws.{Around, around, clip-high, filter-off}
 use Rattle.cdef_spec.specs.ClipLaws.{clip-idle}
 use Rattle.cdef_spec.specs.TrialLaws.{total, highest, lowest, priTaps, secTaps, sum-splits, max-is, min-is}
 use Rattle.cdef_sample.specs.Sample.{orCentre, conOf, finishOf, freeOf}
-use Rattle.cdef_sample.specs.SampleLaws.{finish-mark, free-mark}
+use Rattle.cdef_sample.specs.SampleLaws.{centre-mark, centre-tap, finish-mark, free-mark}
 use Rattle.cdef_sample.specs.Bounds.{Held}
 use Rattle.cdef_sample.specs.Upto.{upto}
 use Rattle.cdef_rows.specs.declared.Taps.{Taps}
@@ -50,6 +50,16 @@ unfolding Cdef-Pri-Taps
 weights zero h = (refl, refl)
 weights (suc zero) h = (refl, refl)
 weights (suc (suc o)) h = absurd (omega arith)
+
+low-lt : (t : ℕ) → t ≤ 16384 → (t ≡ 16384 → ⊥) → t < 16384
+low-lt t h k = go (ℕ-discrete t 16384)
+  where
+    go : Dec (t ≡ 16384) → t < 16384
+    go (yes e) = absurd (k e)
+    go (no g) = omega arith
+
+max-below : {a b : ℕ} → a < 16384 → b < 16384 → max a b < 16384
+max-below h k = omega arith
 
 -- row i and column j of the block b of the plane p, filtered with q
 module _ (p : Plane) (b : Block) (q : FilterParams) (i j : ℕ) (hh : b .height ≤ 8) (hw : b .width ≤ 8) (hi : i < b .height) (hj : j < b .width) (hd : q .dir < 8) (held : Held (upto (windowAt p b) 144)) where
@@ -221,6 +231,38 @@ module _ (p : Plane) (b : Block) (q : FilterParams) (i j : ℕ) (hh : b .height 
     unfolding result dampingFrom1
     neither e f = here ∙ sym (filter-off (available p) (dampingFrom1 q) y x c e f)
 
+    centred : (t : ℕ) → t ≤ 16384 → orCentre t c < 16384
+    centred t h = go (ℕ-discrete t 16384)
+      where
+        c-below : c < 16384
+        c-below = low-lt c c-low n
+
+        go : Dec (t ≡ 16384) → orCentre t c < 16384
+        go (yes e) = rw (centre-mark t c e) c-below
+        go (no k) = rw (centre-tap t c k n) (low-lt t h k)
+
+    on-below : (dir k : ℕ) → dir < 8 → k < 2 → (orCentre (on dir k) c < 16384) × (orCentre (back dir k) c < 16384)
+    unfolding onSample backSample
+    on-below dir k h g =
+        let l = steps-low dir k h g in
+        (centred (sampleAt p (y + rowOf dir k) (x + colOf dir k)) (low (rowOf dir k) (colOf dir k) (l .0) (l .1)), centred (sampleAt p (y + (4 - rowOf dir k)) (x + (4 - colOf dir k))) (low (4 - rowOf dir k) (4 - colOf dir k) (omega arith) (omega arith)))
+
+    high-below : highAt win at (tapsOf (q .dir)) < 16384
+    high-below =
+        let a = on-below (q .dir) 0 hd (omega arith) in
+        let b = on-below (q .dir) 1 hd (omega arith) in
+        let e = on-below q2 0 q8 (omega arith) in
+        let f = on-below q2 1 q8 (omega arith) in
+        let g = on-below q6 0 r8 (omega arith) in
+        let h = on-below q6 1 r8 (omega arith) in
+        rw high-tree (max-below (max-below (max-below (max-below (a .0) (a .1)) (max-below (b .0) (b .1))) (max-below (max-below (e .0) (e .1)) (max-below (f .0) (f .1)))) (max-below (max-below (max-below (g .0) (g .1)) (max-below (h .0) (h .1))) (low-lt c c-low n)))
+
+    result-below : result < 16384
+    unfolding result CdefFilter
+    result-below =
+        let a : Around c (filterTaps (available p) (dampingFrom1 q) y x c) = around (available p) (dampingFrom1 q) y x c in
+        omega (arith, high-below, high-is, clip-high ((filterTaps (available p) (dampingFrom1 q) y x c) .min) ((filterTaps (available p) (dampingFrom1 q) y x c) .max) (unclipped (available p) (dampingFrom1 q) y x c) (omega (arith, a .low, a .high)))
+
     kernel-on : kernelAt win at (tapsOf (q .dir)) (priOf (q .pri) d (q .depth)) (secOf (q .sec) d) ≡ result
     unfolding kernelAt priOf secOf
     kernel-on = go (eqb (q .pri) 0) (eqb (q .sec) 0) refl refl
@@ -255,3 +297,12 @@ module _ (p : Plane) (b : Block) (q : FilterParams) (i j : ℕ) (hh : b .height 
       go : Dec (c ≡ 16384) → kernelAt win at (tapsOf (q .dir)) (priOf (q .pri) d (q .depth)) (secOf (q .sec) d) ≡ orElse mark (filterCentre p q y x (unmarked c))
       go (yes e) = rw (eq-eqb c 16384 e) (kernel-off e)
       go (no n) = rw (ne-eqb c 16384 n) (kernel-on n)
+
+  -- the same as a tap: the filtered sample is never the mark
+  pub kernel-tap : unmarked (kernelAt (upto (windowAt p b) 144) ((i + 2) * 12 + 2 + j) (tapsOf (q .dir)) (priOf (q .pri) (max 1 (q .damping .0)) (q .depth)) (secOf (q .sec) (max 1 (q .damping .0)))) ≡ filtered p q (b .y + i) (b .x + j)
+  unfolding filtered filterCentre unmarked win result
+  kernel-tap = rw centre-there (go (ℕ-discrete c 16384))
+    where
+      go : Dec (c ≡ 16384) → unmarked (kernelAt win at (tapsOf (q .dir)) (priOf (q .pri) d (q .depth)) (secOf (q .sec) d)) ≡ filterCentre p q y x (unmarked c)
+      go (yes e) = rw (kernel-off e, eq-eqb c 16384 e)
+      go (no n) = let b = result-below n in rw (kernel-on n, ne-eqb c 16384 n, ne-eqb (result n) 16384 (λ e. omega arith))

@@ -14,9 +14,9 @@ use Rattle.cdef_leaf.proofs.tables.direction_col.Reads as direction-col-reads
 use Rattle.cdef_leaf.proofs.tables.direction_row.Reads as direction-row-reads
 use Rattle.std.proofs.num.wrapping_add_usize.Reads as wrapping-add-usize-reads
 
-
 small : (c : tie.After-direction-col) → (c .before .direction-row .result ≤ 4) × (c .direction-col .result ≤ 4)
 small c = let s = c .before .before in let l = steps-low (s .args .dir) (s .args .k) (s .pre .0) (s .pre .1) in (omega (arith, c .before .direction-row .ensures, l .0), omega (arith, c .direction-col .ensures, l .1))
+
 direction-row-requires : tie.Need-direction-row-requires
 direction-row-requires c κs = search needs
 

@@ -10,10 +10,10 @@ use Rattle.cdef_kernel.proofs.taps.Reads as reads
 use Rattle.cdef_kernel.proofs.taps.Lts as lts
 use Rattle.cdef_kernel.proofs.offset.Reads as offset-reads
 
-
 glue : (d a b e f g h : ℕ) → a ≡ offAt d 0 → b ≡ offAt d 1 → e ≡ offAt ((d + 2) % 8) 0 → f ≡ offAt ((d + 2) % 8) 1 → g ≡ offAt ((d + 6) % 8) 0 → h ≡ offAt ((d + 6) % 8) 1 → _≡_ {A = Taps} (record { p0 = a; p1 = b; q0 = e; q1 = f; r0 = g; r1 = h }) (tapsOf d)
 unfolding tapsOf
 glue d a b e f g h i j k l m n = rw (i, j, k, l, m, n)
+
 add-q : tie.Need-add-q
 add-q c = search needs
 

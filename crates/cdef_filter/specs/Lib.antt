@@ -1,0 +1,3 @@
+-- What the block filter stores, and its laws.
+pub mod Store
+pub mod StoreLaws

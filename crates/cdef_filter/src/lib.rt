@@ -1,0 +1,117 @@
+// The block filter: a block of a plane filtered into rows of a destination.
+ghost use mathlib.Core.Path.{_≡_};
+ghost use Prim.Native.Nat.{ℕ, _+_, _-_, _*_, _≤_, _<_, min, max};
+ghost use lib.ListN.{length, getD};
+ghost use Rattle.cdef_spec.specs.Standard.{Tap};
+ghost use Rattle.cdef_spec.specs.Document01.{unmarked, orElse, filtered};
+ghost use Rattle.cdef_spec.specs.LoopForm.{putRow, putBlock};
+ghost use Rattle.cdef_sample.specs.Bounds.{Held};
+ghost use Rattle.cdef_sample.specs.Upto.{upto};
+ghost use Rattle.cdef_rows.specs.Sums.{Near6, InRange};
+ghost use Rattle.cdef_window.specs.Window.{planeOf, windowAt};
+ghost use Rattle.cdef_window.specs.Spans.{InPlane};
+ghost use Rattle.cdef_filter.specs.Store.{rowTap, windowTap, blockTap, Usable};
+use cdef_rows::Strength;
+use cdef_rows::Taps;
+use cdef_spec::Block;
+use cdef_spec::FilterParams;
+use cdef_spec::WorkingDamping;
+
+// What a place holds after v is stored: the mark is never written.
+fn keep(old: u16, v: u16) -> u16
+    ensures { λ r. ⌜ r ≡ orElse old (unmarked v) ⌝ }
+{
+    if v == 16384 { old } else { v }
+}
+
+// Stores n samples of a row at row r and column x of a destination w wide.
+fn store_row(dst: &mut [u16], w: usize, r: usize, x: usize, n: usize, row: [u16; 8])
+    requires { ⌜ (r * w + (x + n) ≤ length (now dst)) × (n ≤ 8) ⌝ }
+    ensures { λ _. ⌜ now (dst .exit) ≡ putRow (now (dst .entry)) w (rowTap row x) r x n ⌝ }
+{
+    for j in 0..n {
+        let k = r * w + (x + j);
+        dst[k] = keep(dst[k], row[j]);
+    }
+}
+
+// Filters the rows of a window, cols samples of each, into a destination w wide, from its row y and column x on.
+fn filter_rows(
+    dst: &mut [u16],
+    w: usize,
+    y: usize,
+    x: usize,
+    rows: usize,
+    cols: usize,
+    win: &[u16; 144],
+    t: Taps,
+    f: Strength,
+    g: Strength,
+)
+    requires { ⌜ (x + cols ≤ w) × (w ≤ 4096) × (y + rows ≤ 8192) × (rows ≤ 8) × (cols ≤ 8) × ((y + rows) * w ≤ length (now dst)) ⌝ }
+    requires { ⌜ Held (now win) × Near6 t × InRange f × InRange g ⌝ }
+    ensures { λ _. ⌜ now (dst .exit) ≡ putBlock (now (dst .entry)) w (windowTap (now (win .entry)) t f g y x) y x cols rows ⌝ }
+{
+    for i in 0..rows {
+        let row = cdef_kernel::kernel_row(win, (i + 2) * 12 + 2, t, f, g);
+        store_row(dst, w, y + i, x, cols, row);
+    }
+}
+
+// A working damping, where 0 counts as 1.
+fn from_one(damping: WorkingDamping) -> u32
+    ensures { λ r. ⌜ r ≡ max 1 (damping .0) ⌝ }
+{
+    if damping.0 == 0 {
+        return 1;
+    }
+    damping.0 as u32
+}
+
+fn lesser(a: usize, b: usize) -> usize
+    ensures { λ r. ⌜ r ≡ min a b ⌝ }
+{
+    if a < b { a } else { b }
+}
+
+// Filters a block from its window, in a plane w by h, into a destination whose first row is the plane's row y0.
+pub fn filter_window(
+    dst: &mut [u16],
+    y0: usize,
+    win: &[u16; 144],
+    w: usize,
+    h: usize,
+    b: Block,
+    q: FilterParams,
+)
+    requires { ⌜ (b .x < w) × (b .y < h) × (w ≤ 4096) × (h ≤ 4096) × (b .width ≤ 8) × (b .height ≤ 8) ⌝ }
+    requires { ⌜ (y0 ≤ b .y) × ((b .y - y0 + min (b .height) (h - b .y)) * w ≤ length (now dst)) ⌝ }
+    requires { ⌜ Held (now win) × Usable q ⌝ }
+    ensures { λ _. ⌜ now (dst .exit) ≡ putBlock (now (dst .entry)) w (blockTap (now (win .entry)) q (b .y - y0) (b .x)) (b .y - y0) (b .x) (min (b .width) (w - b .x)) (min (b .height) (h - b .y)) ⌝ }
+{
+    let d = from_one(q.damping);
+    let t = cdef_kernel::taps(q.dir as usize);
+    let f = cdef_kernel::primary(q.pri as u16, d, q.depth);
+    let g = cdef_kernel::secondary(q.sec as u16, d);
+    let cols = lesser(b.width, w - b.x);
+    let rows = lesser(b.height, h - b.y);
+    filter_rows(dst, w, b.y - y0, b.x, rows, cols, win, t, f, g);
+}
+
+// Filters a block of the plane src, w by h, into a destination whose first row is the plane's row y0.
+pub fn cdef_filter_block(
+    dst: &mut [u16],
+    y0: usize,
+    src: &[u16],
+    w: usize,
+    h: usize,
+    b: Block,
+    q: FilterParams,
+)
+    requires { ⌜ InPlane (now src) w h b × Held (upto (windowAt (planeOf (now src) w h) b) 144) × Usable q ⌝ }
+    requires { ⌜ (y0 ≤ b .y) × ((b .y - y0 + min (b .height) (h - b .y)) * w ≤ length (now dst)) ⌝ }
+    ensures { λ _. ⌜ now (dst .exit) ≡ putBlock (now (dst .entry)) w (λ r c. filtered (planeOf (now (src .entry)) w h) q (y0 + r) c) (b .y - y0) (b .x) (min (b .width) (w - b .x)) (min (b .height) (h - b .y)) ⌝ }
+{
+    let win = cdef_window::window(src, w, h, b);
+    filter_window(dst, y0, &win, w, h, b, q);
+}

@@ -32,6 +32,12 @@ build_reference() {
     crate support support/lib.rs --crate-type rlib --extern reference
 }
 
+# Compiles our C entries as a crate, with the library in it.
+build_ours() {
+    build_library
+    crate ours ours/lib.rs --crate-type rlib --extern support -L "native=$root/target/staticlib"
+}
+
 # Compiles a program over them: build_program NAME WORDS...
 build_program() {
     program=$1
@@ -52,11 +58,11 @@ build_library() {
 # The programs that compare, from sources that have been checked.
 build_all() {
     "$root/beside/check-sources" "$1"
-    build_library
     build_reference "$1"
+    build_ours
     build_program self_test
     build_program vectors
-    build_program compare -L "native=$root/target/staticlib"
+    build_program compare --extern ours
 }
 
 # Holds a stored sample against a fresh one, line by line: check_sample DATA-FOLDER

@@ -1,6 +1,5 @@
 //! The leaves: every case where that is possible, and refusals.
 
-use crate::ours;
 use support::STRENGTH_MAX;
 use support::adjust_pri::{AdjustPri, VARIANCE_MAX};
 use support::constrain::{Constrain, DAMPING_MAX, DIFFERENCE_MAX};
@@ -15,14 +14,14 @@ const HELD_U32: u32 = u32::MAX;
 const HELD_U8: u8 = u8::MAX;
 
 pub fn compare(report: &mut Report, long: bool, seed: u64) {
-    let mut r = Random::new(seed);
+    let r = || Random::new(seed);
     constrain(report, long);
-    constrain_refusals(report, long, &mut r);
-    adjust_pri(report, long, &mut r);
-    adjust_pri_refusals(report, long, &mut r);
+    constrain_refusals(report, long, &mut r());
+    adjust_pri(report, long, &mut r());
+    adjust_pri_refusals(report, long, &mut r());
     damping(report);
     damping_refusals(report);
-    log2_floor(report, long, &mut r);
+    log2_floor(report, long, &mut r());
 }
 
 /// Every difference and damping; every strength, or those at the ends and a spread.

@@ -4,10 +4,16 @@
 pub mod adjust_pri;
 pub mod constrain;
 pub mod damping;
+pub mod direction;
+pub mod filter;
 pub mod log2_floor;
 pub mod options;
+pub mod planes;
+pub mod questions;
 pub mod random;
+pub mod refusals;
 pub mod report;
+pub mod spot;
 
 use report::Value;
 use std::fmt::Display;
@@ -18,7 +24,8 @@ pub const STRENGTH_MAX: u32 = 240;
 /// Numbers that a narrower type would wrap into range, and the last ones.
 pub(crate) const WIDE: [u32; 6] = [256, 65_536, 65_540, 1 << 31, u32::MAX - 1, u32::MAX];
 
-/// Document 01's number, 0 for done, and the value, which is 0 after a refusal.
+/// Document 01's number, 0 for done, and the value. After a refusal a number is 0,
+/// and a lent list is what it was.
 #[derive(Clone, Debug, PartialEq)]
 pub struct Answer<V> {
     pub number: u32,
@@ -35,14 +42,26 @@ pub trait Case: Display {
     /// The Rust's result, asked for only where the number is 0.
     fn result(&self) -> Self::Value;
 
+    /// The value that is due after a refusal.
+    #[inline]
+    fn left(&self) -> Self::Value {
+        Self::Value::default()
+    }
+
     #[inline]
     fn expected(&self) -> Answer<Self::Value> {
         let number = self.number();
         let value = if number == 0 {
             self.result()
         } else {
-            Self::Value::default()
+            self.left()
         };
         Answer { number, value }
     }
+}
+
+/// Numbers parted by single spaces.
+pub fn joined<T: Display>(numbers: impl IntoIterator<Item = T>) -> String {
+    let words: Vec<String> = numbers.into_iter().map(|n| n.to_string()).collect();
+    words.join(" ")
 }

@@ -9,6 +9,11 @@ const SHOWN: u64 = 5;
 /// Something compared, that can be made wrong by one.
 pub trait Value: PartialEq + Debug {
     fn spoil(&mut self);
+
+    /// What was got, and what was expected instead.
+    fn apart(&self, expected: &Self) -> String {
+        format!("got {self:?}, expected {expected:?}")
+    }
 }
 
 impl Value for i64 {
@@ -24,9 +29,45 @@ impl Value for Vec<i64> {
     }
 }
 
+/// The last place is spoilt.
+impl Value for [i64; 2] {
+    fn spoil(&mut self) {
+        self[1] += 1;
+    }
+}
+
+/// The last place is spoilt, or one is added where there is none.
+impl Value for Vec<u16> {
+    fn spoil(&mut self) {
+        match self.last_mut() {
+            Some(last) => *last ^= 1,
+            None => self.push(0),
+        }
+    }
+
+    /// The first place alone, since such a list can be long.
+    fn apart(&self, expected: &Self) -> String {
+        let (got, due) = (self.len(), expected.len());
+        let mut places = self.iter().zip(expected).enumerate();
+        let count = places.clone().filter(|(_, (a, b))| a != b).count();
+        match places.find(|(_, (a, b))| a != b) {
+            Some((k, (a, b))) => format!("{count} of {got} places, at {k} got {a}, expected {b}"),
+            None => format!("got {got} places, expected {due}"),
+        }
+    }
+}
+
 impl<V: Value> Value for Answer<V> {
     fn spoil(&mut self) {
         self.value.spoil();
+    }
+
+    fn apart(&self, expected: &Self) -> String {
+        if self.number == expected.number {
+            self.value.apart(&expected.value)
+        } else {
+            format!("got number {}, expected {}", self.number, expected.number)
+        }
     }
 }
 
@@ -49,6 +90,8 @@ impl Plant {
 
 pub struct Report {
     plant: Option<Plant>,
+    only: Option<String>,
+    ran: bool,
     different: u64,
 }
 
@@ -62,15 +105,21 @@ pub struct Tally {
 }
 
 impl Report {
-    pub fn new(plant: Option<Plant>) -> Self {
+    pub fn new(plant: Option<Plant>, only: Option<String>) -> Self {
         Report {
             plant,
+            only,
+            ran: false,
             different: 0,
         }
     }
 
-    /// Runs one call's cases and prints its line.
+    /// Runs one call's cases and prints its line, unless another one alone is wanted.
     pub fn call(&mut self, call: &'static str, cases: impl FnOnce(&mut Tally)) {
+        if self.only.as_ref().is_some_and(|only| only != call) {
+            return;
+        }
+        self.ran = true;
         let plant = self.plant.as_ref().filter(|p| p.call == call);
         let mut tally = Tally {
             call,
@@ -88,8 +137,13 @@ impl Report {
         }
     }
 
-    /// The exit status: 0 all the same, 1 a difference, 2 a plant that no case met.
+    /// The exit status: 0 all the same, 1 a difference, 2 no call was run, or no case
+    /// was there to plant in.
     pub fn finish(self) -> u8 {
+        if !self.ran {
+            println!("no call of that name");
+            return 2;
+        }
         if let Some(p) = self.plant {
             println!("no case {} of {} to plant in", p.case, p.call);
             return 2;
@@ -115,7 +169,7 @@ impl Tally {
             self.planted = true;
         }
         if got != expected {
-            self.differs(inputs, &got, &expected);
+            self.differs(inputs, || got.apart(&expected));
         }
         self.cases += 1;
     }
@@ -126,10 +180,10 @@ impl Tally {
     }
 
     #[cold]
-    fn differs(&mut self, inputs: &dyn Display, got: &dyn Debug, expected: &dyn Debug) {
+    fn differs(&mut self, inputs: &dyn Display, apart: impl FnOnce() -> String) {
         if self.different < SHOWN {
             let (call, case) = (self.call, self.cases);
-            println!("DIFFERENT {call}:{case} ({inputs}): got {got:?}, expected {expected:?}");
+            println!("DIFFERENT {call}:{case} ({inputs}): {}", apart());
         }
         self.different += 1;
     }

@@ -1,13 +1,17 @@
 //! Writes the stored sample of the Rust's answers: vectors FOLDER. One file a
 //! call, one case a line: the inputs, document 01's number, the answer.
 
+mod chosen;
+
 use std::process::ExitCode;
-use support::Case;
 use support::adjust_pri::AdjustPri;
 use support::constrain::Constrain;
 use support::damping::{Damping, INDEX_MAX};
+use support::direction::Direction;
+use support::filter::Filter;
 use support::log2_floor::Log2Floor;
 use support::random::Random;
+use support::{Answer, Case, joined};
 
 /// Cases of a call, with random ones up to this count.
 const CASES: usize = 320;
@@ -19,15 +23,48 @@ struct Sample {
 }
 
 impl Sample {
-    fn write<C: Case<Value = i64>>(&self, call: &str, cases: &[C]) -> std::io::Result<()> {
+    fn write<C: Case>(
+        &self,
+        call: &str,
+        cases: &[C],
+        line: impl Fn(&C, Answer<C::Value>) -> String,
+    ) -> std::io::Result<()> {
         let mut text = String::new();
         for case in cases {
-            let answer = case.expected();
-            text += &format!("{case} {} {}\n", answer.number, answer.value);
+            text += &line(case, case.expected());
+            text += "\n";
         }
         println!("{call}: {} cases", cases.len());
         std::fs::write(format!("{}/{call}.txt", self.folder), text)
     }
+}
+
+/// The line of a call that answers with one number.
+fn one_number<C: Case<Value = i64>>(case: &C, answer: Answer<i64>) -> String {
+    format!("{case} {} {}", answer.number, answer.value)
+}
+
+/// The samples stand after the answer.
+fn direction(case: &Direction, answer: Answer<[i64; 2]>) -> String {
+    let [direction, variance] = answer.value;
+    let numbers = format!(
+        "{} {} {direction} {variance}",
+        case.numbers(),
+        answer.number
+    );
+    line([numbers, joined(case.0.plane.iter())])
+}
+
+/// The plane, the destination before and the destination after.
+fn filter(case: &Filter, answer: Answer<Vec<u16>>) -> String {
+    let numbers = format!("{} {}", case.numbers(), answer.number);
+    let (plane, before) = (joined(case.spot.plane.iter()), joined(case.dst.iter()));
+    line([numbers, plane, before, joined(answer.value)])
+}
+
+/// Lists parted by a space; an empty one leaves none.
+fn line<const N: usize>(lists: [String; N]) -> String {
+    joined(lists.into_iter().filter(|l| !l.is_empty()))
 }
 
 /// The list, filled up with random cases.
@@ -42,14 +79,22 @@ fn write_all(folder: String) -> std::io::Result<()> {
     let sample = Sample { folder };
     let mut r = Random::new(SEED);
     let fixed = [Constrain::edges(), Constrain::refused()].concat();
-    sample.write("constrain", &filled(fixed, &mut r, Constrain::random))?;
+    let cases = filled(fixed, &mut r, Constrain::random);
+    sample.write("constrain", &cases, one_number)?;
     let fixed = [AdjustPri::edges(), AdjustPri::refused()].concat();
-    sample.write("adjust_pri", &filled(fixed, &mut r, AdjustPri::random))?;
+    let cases = filled(fixed, &mut r, AdjustPri::random);
+    sample.write("adjust_pri", &cases, one_number)?;
     let all = (0..=INDEX_MAX).map(Damping);
     let cases: Vec<Damping> = all.chain(Damping::refused()).collect();
-    sample.write("damping", &cases)?;
-    let fixed = Log2Floor::edges();
-    sample.write("log2_floor", &filled(fixed, &mut r, Log2Floor::random))
+    sample.write("damping", &cases, one_number)?;
+    let cases = filled(Log2Floor::edges(), &mut r, Log2Floor::random);
+    sample.write("log2_floor", &cases, one_number)?;
+    let fixed = [Direction::edges(), chosen::directions()].concat();
+    let cases = filled(fixed, &mut r, Direction::random);
+    sample.write("direction", &cases, direction)?;
+    let fixed = [Filter::edges(), chosen::filters()].concat();
+    let cases = filled(fixed, &mut r, Filter::random);
+    sample.write("filter", &cases, filter)
 }
 
 fn main() -> ExitCode {

@@ -1,0 +1,104 @@
+//! The picture that is measured on, the same in every run.
+
+use std::fmt::{Display, Formatter, Result};
+use support::random::Random;
+
+pub const WIDTH: usize = 640;
+pub const HEIGHT: usize = 480;
+pub const DEPTH: u8 = 8;
+pub const DAMPING: u8 = 5;
+
+const SEED: u64 = 640_480;
+
+pub struct Scene {
+    pub plane: Vec<u16>,
+    /// The direction of each 8 by 8 block, in rows.
+    pub directions: Vec<u8>,
+}
+
+/// A surface of the picture: a disc with a level, a slope and a texture of its own.
+struct Surface {
+    centre: (i64, i64),
+    radius: i64,
+    level: i64,
+    slope: (i64, i64),
+    across: (i64, i64),
+    period: i64,
+    height: i64,
+}
+
+impl Surface {
+    fn random(r: &mut Random) -> Self {
+        Surface {
+            centre: (r.between(0, 639), r.between(0, 479)),
+            radius: r.between(30, 160),
+            level: r.between(40, 210),
+            slope: (r.between(-20, 20), r.between(-20, 20)),
+            across: (r.between(-8, 8), r.between(-8, 8)),
+            period: r.between(24, 120),
+            height: r.between(0, 14),
+        }
+    }
+
+    fn covers(&self, x: i64, y: i64) -> bool {
+        let (dx, dy) = (x - self.centre.0, y - self.centre.1);
+        dx * dx + dy * dy < self.radius * self.radius
+    }
+
+    /// The level, tilted, with ridges that rise and fall along one direction.
+    fn at(&self, x: i64, y: i64) -> i64 {
+        let (dx, dy) = (x - self.centre.0, y - self.centre.1);
+        let tilt = (self.slope.0 * dx + self.slope.1 * dy) / 64;
+        let along = (self.across.0 * x + self.across.1 * y).rem_euclid(self.period);
+        let ridge = (2 * along - self.period).abs() * self.height / self.period;
+        self.level + tilt + ridge
+    }
+}
+
+impl Scene {
+    /// Slopes and textures under discs with edges, and noise over all of it.
+    pub fn new() -> Self {
+        let r = &mut Random::new(SEED);
+        let mut ground = Surface::random(r);
+        ground.radius = 2_000;
+        let discs: Vec<Surface> = (0..40).map(|_| Surface::random(r)).collect();
+        let mut plane = Vec::with_capacity(WIDTH * HEIGHT);
+        for y in 0..HEIGHT as i64 {
+            for x in 0..WIDTH as i64 {
+                let top = discs.iter().find(|d| d.covers(x, y)).unwrap_or(&ground);
+                let noise = r.between(-2, 2) + r.between(-1, 1);
+                plane.push((top.at(x, y) + noise).clamp(0, 255) as u16);
+            }
+        }
+        let directions = reference::direction_pass(&plane, WIDTH, HEIGHT, DEPTH).0;
+        Scene { plane, directions }
+    }
+
+    /// The 8 by 8 blocks, of the edge or not: where each begins, and its direction.
+    pub fn blocks(&self, wanted: impl Fn(bool) -> bool) -> Vec<(usize, usize, u8)> {
+        let (columns, rows) = (WIDTH / 8, HEIGHT / 8);
+        let mut list = Vec::new();
+        for (k, &direction) in self.directions.iter().enumerate() {
+            let (bx, by) = (k % columns, k / columns);
+            let edge = bx == 0 || by == 0 || bx == columns - 1 || by == rows - 1;
+            if wanted(edge) {
+                list.push((bx * 8, by * 8, direction));
+            }
+        }
+        list
+    }
+}
+
+impl Display for Scene {
+    fn fmt(&self, f: &mut Formatter) -> Result {
+        let mut counts = [0; 8];
+        for &d in &self.directions {
+            counts[d as usize] += 1;
+        }
+        write!(
+            f,
+            "plane: {WIDTH} by {HEIGHT} of u16, depth {DEPTH}, working damping {DAMPING}, \
+             seed {SEED}; blocks of each direction: {counts:?}"
+        )
+    }
+}

@@ -1,0 +1,194 @@
+//! Our C entries, declared once, and each as a safe function of a case.
+
+pub mod bare;
+
+use support::Answer;
+use support::adjust_pri::AdjustPri;
+use support::constrain::Constrain;
+use support::damping::Damping;
+use support::direction::Direction;
+use support::filter::Filter;
+use support::log2_floor::Log2Floor;
+use support::planes::SIDE_MAX;
+
+#[link(name = "cdef_c", kind = "static")]
+unsafe extern "C" {
+    fn quern_constrain(difference: i32, strength: u32, damping: u8, out: *mut i32) -> u32;
+    fn quern_adjust_pri(strength: u32, variance: u32, out: *mut u32) -> u32;
+    fn quern_damping(index: u32, out: *mut u8) -> u32;
+    fn quern_log2_floor(v: u32) -> u32;
+    fn quern_direction(
+        plane: *const u16,
+        plane_len: usize,
+        width: usize,
+        height: usize,
+        x: usize,
+        y: usize,
+        depth: u8,
+        direction: *mut u8,
+        variance: *mut u32,
+    ) -> u32;
+    fn quern_filter_block(
+        dst: *mut u16,
+        dst_len: usize,
+        y0: usize,
+        plane: *const u16,
+        plane_len: usize,
+        width: usize,
+        height: usize,
+        x: usize,
+        y: usize,
+        block_width: usize,
+        block_height: usize,
+        pri: u32,
+        sec: u32,
+        dir: u8,
+        damping: u8,
+        depth: u8,
+    ) -> u32;
+}
+
+/// The number of an answer after which memory beside what is lent was altered.
+const BESIDE: u32 = u32::MAX;
+
+/// One number lent, with `held` in it and on both sides of it before the call.
+struct Lent<T> {
+    held: T,
+    places: [T; 3],
+}
+
+impl<T: Copy + Into<i64> + PartialEq> Lent<T> {
+    #[inline]
+    fn new(held: T) -> Self {
+        Lent {
+            held,
+            places: [held; 3],
+        }
+    }
+
+    #[inline]
+    fn out(&mut self) -> *mut T {
+        // SAFETY: the middle place of three.
+        unsafe { self.places.as_mut_ptr().add(1) }
+    }
+
+    #[inline]
+    fn is_alone(&self) -> bool {
+        self.places[0] == self.held && self.places[2] == self.held
+    }
+
+    /// What it holds; after a refusal how far it was moved.
+    #[inline]
+    fn value(&self, number: u32) -> i64 {
+        let moved_from = if number == 0 { 0 } else { self.held.into() };
+        self.places[1].into() - moved_from
+    }
+}
+
+/// The number and what `out` holds; after a refusal how far it was moved.
+#[inline]
+fn answer<T: Copy + Into<i64> + PartialEq>(
+    held: T,
+    call: impl FnOnce(*mut T) -> u32,
+) -> Answer<i64> {
+    let mut lent = Lent::new(held);
+    let number = call(lent.out());
+    Answer {
+        number: if lent.is_alone() { number } else { BESIDE },
+        value: lent.value(number),
+    }
+}
+
+#[inline]
+pub fn constrain(c: &Constrain, held: i32) -> Answer<i64> {
+    answer(held, |out| {
+        // SAFETY: `out` is one number that is lent for the call.
+        unsafe { quern_constrain(c.difference, c.strength, c.damping, out) }
+    })
+}
+
+#[inline]
+pub fn adjust_pri(c: &AdjustPri, held: u32) -> Answer<i64> {
+    answer(held, |out| {
+        // SAFETY: as above.
+        unsafe { quern_adjust_pri(c.strength, c.variance, out) }
+    })
+}
+
+#[inline]
+pub fn damping(c: &Damping, held: u8) -> Answer<i64> {
+    answer(held, |out| {
+        // SAFETY: as above.
+        unsafe { quern_damping(c.0, out) }
+    })
+}
+
+#[inline]
+pub fn log2_floor(c: &Log2Floor) -> Answer<i64> {
+    // SAFETY: it takes any number and no memory.
+    let value = unsafe { quern_log2_floor(c.0) }.into();
+    Answer { number: 0, value }
+}
+
+pub fn direction(c: &Direction, held: (u8, u32)) -> Answer<[i64; 2]> {
+    let s = &c.0;
+    let (mut direction, mut variance) = (Lent::new(held.0), Lent::new(held.1));
+    // SAFETY: the plane has the length given; `out` twice as above.
+    let number = unsafe {
+        quern_direction(
+            s.plane.as_ptr(),
+            s.plane.len(),
+            s.width,
+            s.height,
+            s.x,
+            s.y,
+            s.depth,
+            direction.out(),
+            variance.out(),
+        )
+    };
+    let alone = direction.is_alone() && variance.is_alone();
+    Answer {
+        number: if alone { number } else { BESIDE },
+        value: [direction.value(number), variance.value(number)],
+    }
+}
+
+/// What stands on both sides of a destination; no filtered sample.
+const HELD: u16 = 50_000;
+
+/// The number and the whole destination, which has rows to spare on both sides.
+pub fn filter(c: &Filter) -> Answer<Vec<u16>> {
+    let s = &c.spot;
+    let spare = 16 + 2 * s.width.min(SIDE_MAX);
+    let end = spare + c.dst.len();
+    let mut lent = vec![HELD; end + spare];
+    lent[spare..end].copy_from_slice(&c.dst);
+    // SAFETY: destination and plane have the lengths given, and are apart.
+    let number = unsafe {
+        quern_filter_block(
+            lent.as_mut_ptr().add(spare),
+            c.dst.len(),
+            c.y0,
+            s.plane.as_ptr(),
+            s.plane.len(),
+            s.width,
+            s.height,
+            s.x,
+            s.y,
+            c.block_width,
+            c.block_height,
+            c.pri,
+            c.sec,
+            c.dir,
+            c.damping,
+            s.depth,
+        )
+    };
+    let mut beside = lent[..spare].iter().chain(&lent[end..]);
+    let alone = beside.all(|&v| v == HELD);
+    Answer {
+        number: if alone { number } else { BESIDE },
+        value: lent[spare..end].to_vec(),
+    }
+}

@@ -1,0 +1,170 @@
+//! Cases of the direction of a block.
+
+use crate::planes::{DEPTHS, Plane, SIDE_MAX};
+use crate::random::Random;
+use crate::refusals::{Break, Stated, broken, corner_breaks, scan, spot_breaks};
+use crate::spot::{Area, Spot};
+use crate::{Case, joined, questions};
+use std::fmt::{Display, Formatter, Result};
+
+#[derive(Clone)]
+pub struct Direction<'a>(pub Spot<'a>);
+
+impl<'a> Direction<'a> {
+    /// A block of a plane; in part of the cases nothing else there is a sample.
+    pub fn on(plane: &'a Plane, r: &mut Random) -> Self {
+        let mut c = Direction(plane.any_spot(r));
+        if r.below(4) == 0 {
+            let area = c.area();
+            c.0.spoil_elsewhere(&area, r);
+        }
+        c
+    }
+
+    /// As `on`, with one number or the other out of range.
+    pub fn any(plane: &'a Plane, r: &mut Random) -> Self {
+        let mut c = Self::on(plane, r);
+        c.0.wild(r);
+        c.0.wild(r);
+        c
+    }
+
+    /// What is looked at, for a place on the plane.
+    pub fn area(&self) -> Area {
+        self.0.area(8, 8, 0)
+    }
+
+    /// The numbers of a stored line that stand before document 01's.
+    pub fn numbers(&self) -> String {
+        let s = &self.0;
+        format!("{} {} {} {} {}", s.depth, s.width, s.height, s.x, s.y)
+    }
+
+    pub fn owned(self) -> Direction<'static> {
+        Direction(self.0.owned())
+    }
+}
+
+impl Direction<'static> {
+    fn at(samples: Vec<u16>, size: (usize, usize), depth: u8, x: usize, y: usize) -> Self {
+        Direction(Plane::new(samples, size.0, size.1, depth).spot(x, y)).owned()
+    }
+
+    pub fn random(r: &mut Random) -> Self {
+        let size = (r.between(1, 14) as usize, r.between(1, 14) as usize);
+        let depth = r.between(8, 12) as u8;
+        Direction::on(&Plane::random(r, size, depth), r).owned()
+    }
+
+    /// Worked lines, each direction at each depth, and cut blocks.
+    pub fn edges() -> Vec<Self> {
+        let r = &mut Random::new(1);
+        let flat = vec![130; 64];
+        let rows: Vec<u16> = (0..64).map(|i| i / 8 / 4 * 255).collect();
+        let columns: Vec<u16> = (0..64).map(|i| i % 8 / 4 * 255).collect();
+        let worked = [flat, rows, columns];
+        let mut list: Vec<Self> = worked.map(|s| Self::at(s, (8, 8), 8, 0, 0)).into();
+        for depth in DEPTHS {
+            for wanted in 0..8 {
+                list.push(loop {
+                    let size = (r.between(8, 11) as usize, r.between(8, 11) as usize);
+                    let plane = Plane::random(r, size, depth);
+                    let c = Direction::on(&plane, r);
+                    if c.result()[0] == wanted {
+                        break c.owned();
+                    }
+                });
+            }
+            for size in [(1, 1), (1, 9), (9, 1), (7, 8), (8, 7), (9, 9), (24, 20)] {
+                let plane = Plane::random(r, size, depth);
+                list.push(Direction(plane.spot(0, 0)).owned());
+                list.push(Direction(plane.spot(size.0 - 1, size.1 - 1)).owned());
+                list.push(Direction::on(&plane, r).owned());
+            }
+        }
+        list
+    }
+
+    /// Sides at their limits, with planes that fit.
+    pub fn limits() -> Vec<Stated<Self>> {
+        let of = |width: usize, height: usize| {
+            let samples = (0..width * height).map(|k| (k / 3 % 10) as u16);
+            let (x, y) = (width.saturating_sub(1), height.saturating_sub(1));
+            Self::at(samples.collect(), (width, height), 8, x, y)
+        };
+        let mut nothing = of(0, 0);
+        nothing.0.depth = 7;
+        vec![
+            (0, of(SIDE_MAX, 1)),
+            (0, of(1, SIDE_MAX)),
+            (2, of(SIDE_MAX + 1, 1)),
+            (2, of(1, SIDE_MAX + 1)),
+            (2, of(0, 5)),
+            (2, of(5, 0)),
+            (2, of(0, 0)),
+            (1, nothing),
+        ]
+    }
+
+    /// The limits, and what is asked of good cases and broken ones.
+    pub fn stated() -> Vec<Stated<Self>> {
+        [Self::limits(), Self::asked()].concat()
+    }
+
+    /// Each question's no, and a scan of the samples looked at.
+    pub fn asked() -> Vec<Stated<Self>> {
+        let r = &mut Random::new(2);
+        let mut good = Vec::new();
+        for (size, depth, x, y) in [
+            ((19, 17), 10, 6, 5),
+            ((12, 13), 8, 0, 0),
+            ((11, 14), 12, 8, 11),
+            ((2, 3), 9, 1, 1),
+        ] {
+            let plane = Plane::random(r, size, depth);
+            good.push(Direction(plane.spot(x, y)).owned());
+        }
+        let mut breaks = corner_breaks(|c: &Self| c.area(), |c| &mut c.0);
+        let marks = |c: &mut Self| c.0.plane.to_mut().fill(reference::MARK);
+        breaks.push(Break::new(9, marks));
+        breaks.extend(
+            spot_breaks()
+                .into_iter()
+                .map(|b| b.of_part(|c: &mut Self| &mut c.0)),
+        );
+        let mut list = broken(&good, &breaks);
+        for c in &good {
+            list.extend(scan(c, |c| &mut c.0, (8, 8), 0, false));
+        }
+        list
+    }
+}
+
+impl Display for Direction<'_> {
+    fn fmt(&self, f: &mut Formatter) -> Result {
+        f.write_str(&self.numbers())?;
+        if matches!(self.number(), 0 | 9) {
+            write!(
+                f,
+                ", looked at {}",
+                joined(self.0.rows(self.area()).flatten())
+            )?;
+        }
+        Ok(())
+    }
+}
+
+/// The direction and the variance.
+impl Case for Direction<'_> {
+    type Value = [i64; 2];
+
+    fn number(&self) -> u32 {
+        questions::direction(self)
+    }
+
+    fn result(&self) -> [i64; 2] {
+        let s = &self.0;
+        let (direction, variance) = reference::cdef_direction(&s.plane, s.width, s.x, s.y, s.depth);
+        [direction.into(), variance.into()]
+    }
+}

@@ -1,0 +1,5 @@
+-- The code's own forms of the line sums, the costs and the samples looked at, and their laws.
+pub mod Lines
+pub mod LinesLaws
+pub mod Costs
+pub mod Looked

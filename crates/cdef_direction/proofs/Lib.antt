@@ -1,2 +1,3 @@
 -- Laws that belong to no one function.
 pub mod Less128
+pub mod Squares

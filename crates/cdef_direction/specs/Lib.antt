@@ -2,4 +2,6 @@
 pub mod Lines
 pub mod LinesLaws
 pub mod Costs
+pub mod CostsLaws
 pub mod Looked
+pub mod LookedLaws

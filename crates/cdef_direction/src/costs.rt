@@ -1,10 +1,7 @@
 // The cost of each direction from its line sums, and the best.
 ghost use mathlib.Core.Path.{_≡_};
-ghost use mathlib.Core.List.{[], _∷_};
-ghost use Prim.Native.Nat.{ℕ, _+_, _≤_, _<_};
-ghost use lib.IntN.{pos};
-ghost use lib.ListN.{length, getD};
-ghost use Rattle.cdef_spec.specs.Standard.{square, costStraight, costDiagonal, costBetween};
+ghost use Prim.Native.Nat.{_+_, _*_, _≤_, _<_};
+ghost use Rattle.cdef_spec.specs.Standard.{square, divBy, costStraight, costDiagonal, costBetween};
 ghost use Rattle.cdef_direction.specs.Costs.{entry, costList, CostsFit, bestOf};
 use cdef_leaf::tables;
 use crate::Found;
@@ -17,19 +14,28 @@ fn square_of(v: i16) -> u32
     (w * w) as u32
 }
 
-fn two(l: &[i16; 16], a: usize, b: usize) -> u32
-    requires { ⌜ (a < 16) × (b < 16) ⌝ }
-    ensures { λ r. ⌜ r ≡ square (entry (now (l .entry)) a) + square (entry (now (l .entry)) b) ⌝ }
+// A line of n samples.
+fn one(l: &[i16; 16], a: usize, n: u32) -> u32
+    requires { ⌜ (a < 16) × (n ≤ 8) × (square (entry (now l) a) * divBy n ≤ 880803840) ⌝ }
+    ensures { λ r. ⌜ r ≡ square (entry (now (l .entry)) a) * divBy n ⌝ }
 {
-    square_of(l[a]) + square_of(l[b])
+    square_of(l[a]) * tables::div_table(n)
 }
 
-// Directions 2 and 6: eight lines of eight samples.
+// Two lines of n samples.
+fn two(l: &[i16; 16], a: usize, b: usize, n: u32) -> u32
+    requires { ⌜ (a < 16) × (b < 16) × (n ≤ 8) × ((square (entry (now l) a) + square (entry (now l) b)) * divBy n ≤ 880803840) ⌝ }
+    ensures { λ r. ⌜ r ≡ (square (entry (now (l .entry)) a) + square (entry (now (l .entry)) b)) * divBy n ⌝ }
+{
+    (square_of(l[a]) + square_of(l[b])) * tables::div_table(n)
+}
+
+// Directions 2 and 6: eight lines of 8 samples.
 fn cost_straight(l: &[i16; 16]) -> u32
     requires { ⌜ costStraight (entry (now l)) ≤ 880803840 ⌝ }
     ensures { λ r. ⌜ r ≡ costStraight (entry (now (l .entry))) ⌝ }
 {
-    (two(l, 0, 1) + two(l, 2, 3) + two(l, 4, 5) + two(l, 6, 7)) * tables::div_table(8)
+    two(l, 0, 1, 8) + two(l, 2, 3, 8) + two(l, 4, 5, 8) + two(l, 6, 7, 8)
 }
 
 // Directions 0 and 4: fifteen lines, of 1 to 8 and back to 1 samples.
@@ -37,14 +43,14 @@ fn cost_diagonal(l: &[i16; 16]) -> u32
     requires { ⌜ costDiagonal (entry (now l)) ≤ 880803840 ⌝ }
     ensures { λ r. ⌜ r ≡ costDiagonal (entry (now (l .entry))) ⌝ }
 {
-    two(l, 0, 14) * tables::div_table(1)
-        + two(l, 1, 13) * tables::div_table(2)
-        + two(l, 2, 12) * tables::div_table(3)
-        + two(l, 3, 11) * tables::div_table(4)
-        + two(l, 4, 10) * tables::div_table(5)
-        + two(l, 5, 9) * tables::div_table(6)
-        + two(l, 6, 8) * tables::div_table(7)
-        + square_of(l[7]) * tables::div_table(8)
+    two(l, 0, 14, 1)
+        + two(l, 1, 13, 2)
+        + two(l, 2, 12, 3)
+        + two(l, 3, 11, 4)
+        + two(l, 4, 10, 5)
+        + two(l, 5, 9, 6)
+        + two(l, 6, 8, 7)
+        + one(l, 7, 8)
 }
 
 // The odd directions: eleven lines, of 2, 4 and 6 samples at either end and of 8 between.
@@ -52,10 +58,12 @@ fn cost_between(l: &[i16; 16]) -> u32
     requires { ⌜ costBetween (entry (now l)) ≤ 880803840 ⌝ }
     ensures { λ r. ⌜ r ≡ costBetween (entry (now (l .entry))) ⌝ }
 {
-    (two(l, 3, 4) + two(l, 5, 6) + square_of(l[7])) * tables::div_table(8)
-        + two(l, 0, 10) * tables::div_table(2)
-        + two(l, 1, 9) * tables::div_table(4)
-        + two(l, 2, 8) * tables::div_table(6)
+    two(l, 0, 10, 2)
+        + two(l, 1, 9, 4)
+        + two(l, 2, 8, 6)
+        + two(l, 3, 7, 8)
+        + two(l, 4, 6, 8)
+        + one(l, 5, 8)
 }
 
 pub fn costs(p: Partials) -> [u32; 8]

@@ -1,179 +1,80 @@
 -- `cdef_direction::cost_diagonal` meets its contract.
-use borrow.Author.Needs.{needs}
+use native.Mathlib.Omega.{arith}
+use Rattle.cdef_spec.specs.Standard.{Div-Table}
+use Rattle.cdef_direction.specs.Costs.{entry}
+use Rattle.cdef_direction.specs.CostsLaws.{diagonal-is}
 use Rattle.cdef_direction.proofs.costs.cost_diagonal.Statement.{statement}
 use Rattle.cdef_direction.proofs.costs.cost_diagonal.Tie as tie
 use Rattle.cdef_direction.proofs.costs.cost_diagonal.Reads as reads
 use Rattle.cdef_direction.proofs.costs.cost_diagonal.Lts as lts
-use Rattle.cdef_direction.proofs.costs.square_of.Reads as square-of-reads
+use Rattle.cdef_direction.proofs.costs.one.Reads as one-reads
 use Rattle.cdef_direction.proofs.costs.two.Reads as two-reads
-use Rattle.cdef_leaf.proofs.tables.div_table.Reads as div-table-reads
 
--- src/costs.rt:40:5
 two-requires : tie.Need-two-requires
-two-requires c κs = search needs
+two-requires c κs = unfold Div-Table in (omega arith, omega arith, omega arith, omega (arith, diagonal-is (entry (c .args .l .now)), c .pre))
 
--- src/costs.rt:40:21
-div-table-requires : tie.Need-div-table-requires
-div-table-requires c κs = search needs
-
--- src/costs.rt:40:5
-mul-result : tie.Need-mul-result
-mul-result c = ?
-
--- src/costs.rt:41:11
 two-requires-2 : tie.Need-two-requires-2
-two-requires-2 c κs = search needs
+two-requires-2 c κs = unfold Div-Table in (omega arith, omega arith, omega arith, omega (arith, diagonal-is (entry (c .before .args .l .now)), c .before .pre))
 
--- src/costs.rt:41:27
-div-table-requires-2 : tie.Need-div-table-requires-2
-div-table-requires-2 c κs = search needs
-
--- src/costs.rt:41:11
-mul-result-2 : tie.Need-mul-result-2
-mul-result-2 c = ?
-
--- src/costs.rt:40:5
 add-result : tie.Need-add-result
-add-result c = ?
+add-result c = unfold Div-Table in record { fits = omega (arith, diagonal-is (entry (c .before .before .args .l .now)), c .before .before .pre, c .before .two .ensures, c .two2 .ensures) }
 
--- src/costs.rt:42:11
 two-requires-3 : tie.Need-two-requires-3
-two-requires-3 c κs = search needs
+two-requires-3 c κs = unfold Div-Table in (omega arith, omega arith, omega arith, omega (arith, diagonal-is (entry (c .before .before .args .l .now)), c .before .before .pre))
 
--- src/costs.rt:42:27
-div-table-requires-3 : tie.Need-div-table-requires-3
-div-table-requires-3 c κs = search needs
-
--- src/costs.rt:42:11
-mul-result-3 : tie.Need-mul-result-3
-mul-result-3 c = ?
-
--- src/costs.rt:40:5
 add-result-2 : tie.Need-add-result-2
-add-result-2 c = ?
+add-result-2 c = unfold Div-Table in record { fits = omega (arith, diagonal-is (entry (c .before .before .before .args .l .now)), c .before .before .before .pre, c .before .before .two .ensures, c .before .two2 .ensures, c .two3 .ensures) }
 
--- src/costs.rt:43:11
 two-requires-4 : tie.Need-two-requires-4
-two-requires-4 c κs = search needs
+two-requires-4 c κs = unfold Div-Table in (omega arith, omega arith, omega arith, omega (arith, diagonal-is (entry (c .before .before .before .args .l .now)), c .before .before .before .pre))
 
--- src/costs.rt:43:27
-div-table-requires-4 : tie.Need-div-table-requires-4
-div-table-requires-4 c κs = search needs
-
--- src/costs.rt:43:11
-mul-result-4 : tie.Need-mul-result-4
-mul-result-4 c = ?
-
--- src/costs.rt:40:5
 add-result-3 : tie.Need-add-result-3
-add-result-3 c = ?
+add-result-3 c = unfold Div-Table in record { fits = omega (arith, diagonal-is (entry (c .before .before .before .before .args .l .now)), c .before .before .before .before .pre, c .before .before .before .two .ensures, c .before .before .two2 .ensures, c .before .two3 .ensures, c .two4 .ensures) }
 
--- src/costs.rt:44:11
 two-requires-5 : tie.Need-two-requires-5
-two-requires-5 c κs = search needs
+two-requires-5 c κs = unfold Div-Table in (omega arith, omega arith, omega arith, omega (arith, diagonal-is (entry (c .before .before .before .before .args .l .now)), c .before .before .before .before .pre))
 
--- src/costs.rt:44:27
-div-table-requires-5 : tie.Need-div-table-requires-5
-div-table-requires-5 c κs = search needs
-
--- src/costs.rt:44:11
-mul-result-5 : tie.Need-mul-result-5
-mul-result-5 c = ?
-
--- src/costs.rt:40:5
 add-result-4 : tie.Need-add-result-4
-add-result-4 c = ?
+add-result-4 c = unfold Div-Table in record { fits = omega (arith, diagonal-is (entry (c .before .before .before .before .before .args .l .now)), c .before .before .before .before .before .pre, c .before .before .before .before .two .ensures, c .before .before .before .two2 .ensures, c .before .before .two3 .ensures, c .before .two4 .ensures, c .two5 .ensures) }
 
--- src/costs.rt:45:11
 two-requires-6 : tie.Need-two-requires-6
-two-requires-6 c κs = search needs
+two-requires-6 c κs = unfold Div-Table in (omega arith, omega arith, omega arith, omega (arith, diagonal-is (entry (c .before .before .before .before .before .args .l .now)), c .before .before .before .before .before .pre))
 
--- src/costs.rt:45:26
-div-table-requires-6 : tie.Need-div-table-requires-6
-div-table-requires-6 c κs = search needs
-
--- src/costs.rt:45:11
-mul-result-6 : tie.Need-mul-result-6
-mul-result-6 c = ?
-
--- src/costs.rt:40:5
 add-result-5 : tie.Need-add-result-5
-add-result-5 c = ?
+add-result-5 c = unfold Div-Table in record { fits = omega (arith, diagonal-is (entry (c .before .before .before .before .before .before .args .l .now)), c .before .before .before .before .before .before .pre, c .before .before .before .before .before .two .ensures, c .before .before .before .before .two2 .ensures, c .before .before .before .two3 .ensures, c .before .before .two4 .ensures, c .before .two5 .ensures, c .two6 .ensures) }
 
--- src/costs.rt:46:11
 two-requires-7 : tie.Need-two-requires-7
-two-requires-7 c κs = search needs
+two-requires-7 c κs = unfold Div-Table in (omega arith, omega arith, omega arith, omega (arith, diagonal-is (entry (c .before .before .before .before .before .before .args .l .now)), c .before .before .before .before .before .before .pre))
 
--- src/costs.rt:46:26
-div-table-requires-7 : tie.Need-div-table-requires-7
-div-table-requires-7 c κs = search needs
-
--- src/costs.rt:46:11
-mul-result-7 : tie.Need-mul-result-7
-mul-result-7 c = ?
-
--- src/costs.rt:40:5
 add-result-6 : tie.Need-add-result-6
-add-result-6 c = ?
+add-result-6 c = unfold Div-Table in record { fits = omega (arith, diagonal-is (entry (c .before .before .before .before .before .before .before .args .l .now)), c .before .before .before .before .before .before .before .pre, c .before .before .before .before .before .before .two .ensures, c .before .before .before .before .before .two2 .ensures, c .before .before .before .before .two3 .ensures, c .before .before .before .two4 .ensures, c .before .before .two5 .ensures, c .before .two6 .ensures, c .two7 .ensures) }
 
--- src/costs.rt:47:21
-element-copy-out-square-of : tie.Need-element-copy-out-square-of
-element-copy-out-square-of c = search needs
+one-requires : tie.Need-one-requires
+one-requires c κs = unfold Div-Table in (omega arith, omega arith, omega (arith, diagonal-is (entry (c .before .before .before .before .before .before .before .args .l .now)), c .before .before .before .before .before .before .before .pre))
 
--- src/costs.rt:47:11
-square-of-requires : tie.Need-square-of-requires
-square-of-requires c κs = search needs
-
--- src/costs.rt:47:29
-div-table-requires-8 : tie.Need-div-table-requires-8
-div-table-requires-8 c κs = search needs
-
--- src/costs.rt:47:11
-mul-result-8 : tie.Need-mul-result-8
-mul-result-8 c = ?
-
--- src/costs.rt:40:5
 add-result-7 : tie.Need-add-result-7
-add-result-7 c = ?
+add-result-7 c = unfold Div-Table in record { fits = omega (arith, diagonal-is (entry (c .before .before .before .before .before .before .before .before .args .l .now)), c .before .before .before .before .before .before .before .before .pre, c .before .before .before .before .before .before .before .two .ensures, c .before .before .before .before .before .before .two2 .ensures, c .before .before .before .before .before .two3 .ensures, c .before .before .before .before .two4 .ensures, c .before .before .before .two5 .ensures, c .before .before .two6 .ensures, c .before .two7 .ensures, c .one .ensures) }
 
--- src/costs.rt:36:1
 returns : tie.Need-returns
-returns c = ?
+returns c = unfold Div-Table in omega (arith, diagonal-is (entry (c .before .before .before .before .before .before .before .before .args .l .now)), c .before .before .before .before .before .before .before .two .ensures, c .before .before .before .before .before .before .two2 .ensures, c .before .before .before .before .before .two3 .ensures, c .before .before .before .before .two4 .ensures, c .before .before .before .two5 .ensures, c .before .before .two6 .ensures, c .before .two7 .ensures, c .one .ensures)
 
 pub cost-diagonal-spec : {M : Type 1} → statement M
 cost-diagonal-spec =
     tie.close
     (tie.spec
     two-requires
-    div-table-requires
-    mul-result
     two-requires-2
-    div-table-requires-2
-    mul-result-2
     add-result
     two-requires-3
-    div-table-requires-3
-    mul-result-3
     add-result-2
     two-requires-4
-    div-table-requires-4
-    mul-result-4
     add-result-3
     two-requires-5
-    div-table-requires-5
-    mul-result-5
     add-result-4
     two-requires-6
-    div-table-requires-6
-    mul-result-6
     add-result-5
     two-requires-7
-    div-table-requires-7
-    mul-result-7
     add-result-6
-    element-copy-out-square-of
-    square-of-requires
-    div-table-requires-8
-    mul-result-8
+    one-requires
     add-result-7
     returns)

@@ -1,51 +1,37 @@
 -- `cdef_direction::cost_straight` meets its contract.
-use borrow.Author.Needs.{needs}
+use native.Mathlib.Omega.{arith}
+use Rattle.cdef_spec.specs.Standard.{Div-Table}
+use Rattle.cdef_direction.specs.Costs.{entry}
+use Rattle.cdef_direction.specs.CostsLaws.{straight-is}
 use Rattle.cdef_direction.proofs.costs.cost_straight.Statement.{statement}
 use Rattle.cdef_direction.proofs.costs.cost_straight.Tie as tie
 use Rattle.cdef_direction.proofs.costs.cost_straight.Reads as reads
 use Rattle.cdef_direction.proofs.costs.cost_straight.Lts as lts
 use Rattle.cdef_direction.proofs.costs.two.Reads as two-reads
-use Rattle.cdef_leaf.proofs.tables.div_table.Reads as div-table-reads
 
--- src/costs.rt:32:6
 two-requires : tie.Need-two-requires
-two-requires c κs = search needs
+two-requires c κs = unfold Div-Table in (omega arith, omega arith, omega arith, omega (arith, straight-is (entry (c .args .l .now)), c .pre))
 
--- src/costs.rt:32:21
 two-requires-2 : tie.Need-two-requires-2
-two-requires-2 c κs = search needs
+two-requires-2 c κs = unfold Div-Table in (omega arith, omega arith, omega arith, omega (arith, straight-is (entry (c .before .args .l .now)), c .before .pre))
 
--- src/costs.rt:32:6
 add-result : tie.Need-add-result
-add-result c = ?
+add-result c = unfold Div-Table in record { fits = omega (arith, straight-is (entry (c .before .before .args .l .now)), c .before .before .pre, c .before .two .ensures, c .two2 .ensures) }
 
--- src/costs.rt:32:36
 two-requires-3 : tie.Need-two-requires-3
-two-requires-3 c κs = search needs
+two-requires-3 c κs = unfold Div-Table in (omega arith, omega arith, omega arith, omega (arith, straight-is (entry (c .before .before .args .l .now)), c .before .before .pre))
 
--- src/costs.rt:32:6
 add-result-2 : tie.Need-add-result-2
-add-result-2 c = ?
+add-result-2 c = unfold Div-Table in record { fits = omega (arith, straight-is (entry (c .before .before .before .args .l .now)), c .before .before .before .pre, c .before .before .two .ensures, c .before .two2 .ensures, c .two3 .ensures) }
 
--- src/costs.rt:32:51
 two-requires-4 : tie.Need-two-requires-4
-two-requires-4 c κs = search needs
+two-requires-4 c κs = unfold Div-Table in (omega arith, omega arith, omega arith, omega (arith, straight-is (entry (c .before .before .before .args .l .now)), c .before .before .before .pre))
 
--- src/costs.rt:32:6
 add-result-3 : tie.Need-add-result-3
-add-result-3 c = ?
+add-result-3 c = unfold Div-Table in record { fits = omega (arith, straight-is (entry (c .before .before .before .before .args .l .now)), c .before .before .before .before .pre, c .before .before .before .two .ensures, c .before .before .two2 .ensures, c .before .two3 .ensures, c .two4 .ensures) }
 
--- src/costs.rt:32:67
-div-table-requires : tie.Need-div-table-requires
-div-table-requires c κs = search needs
-
--- src/costs.rt:32:5
-mul-result : tie.Need-mul-result
-mul-result c = ?
-
--- src/costs.rt:28:1
 returns : tie.Need-returns
-returns c = ?
+returns c = unfold Div-Table in omega (arith, straight-is (entry (c .before .before .before .before .args .l .now)), c .before .before .before .two .ensures, c .before .before .two2 .ensures, c .before .two3 .ensures, c .two4 .ensures)
 
 pub cost-straight-spec : {M : Type 1} → statement M
 cost-straight-spec =
@@ -58,6 +44,4 @@ cost-straight-spec =
     add-result-2
     two-requires-4
     add-result-3
-    div-table-requires
-    mul-result
     returns)

@@ -7,9 +7,9 @@ use native.Mathlib.Decide.{decLt}
 use native.Mathlib.Nat.{div-lt-iff-lt-mul}
 use native.Mathlib.Numerals.{add-one}
 use native.Mathlib.Omega.{arith}
-use borrow.Author.Tests.{lt-ltb, le-ltb, ltb-true}
+use borrow.Author.Tests.{lt-ltb, le-ltb, ltb-true, eq-eqb, ne-eqb}
 use lib.Bits.{bitOr, bitAnd, or-lt, or-comm, or-add-and, and-le-l, and-le-r}
-use lib.Dec.{ltb}
+use lib.Dec.{ltb, eqb}
 use lib.ListN.{getD}
 use lib.IntN.{ℤ, pos, _-ℤ_}
 use lib.Pow.{pow-pos, pow-add}
@@ -37,6 +37,22 @@ or-below k a b = go (decLt a (2 ^ k)) (decLt b (2 ^ k))
         let l : 2 ^ k ≤ a = omega arith in
         let m : 2 ^ k ≤ bitOr a b = omega (arith, or-high a b .0) in
         rw (le-ltb a (2 ^ k) l) (le-ltb (bitOr a b) (2 ^ k) m)
+
+-- what is left of the bits past the first k, as a test
+pub shifted-none : (a k : ℕ) → eqb (a / 2 ^ k) 0 ≡ ltb a (2 ^ k)
+shifted-none a k = go (decLt a (2 ^ k))
+  where
+    low : a < 1 * 2 ^ k → a / 2 ^ k < 1
+    low h = div-lt-iff-lt-mul {y = 1} (pow-pos k) .1 h
+
+    go : Dec (a < 2 ^ k) → eqb (a / 2 ^ k) 0 ≡ ltb a (2 ^ k)
+    go (yes h) = let z : a / 2 ^ k ≡ 0 = omega (arith, low (omega arith)) in rw (lt-ltb a (2 ^ k) h) (eq-eqb (a / 2 ^ k) 0 z)
+    go (no h) =
+        let g : 2 ^ k ≤ a = omega arith in
+        rw (le-ltb a (2 ^ k) g) (ne-eqb (a / 2 ^ k) 0 (λ z. h (back z)))
+      where
+        back : a / 2 ^ k ≡ 0 → a < 2 ^ k
+        back z = let l : a < 1 * 2 ^ k = div-lt-iff-lt-mul {y = 1} (pow-pos k) .0 (omega arith) in omega arith
 
 module _ (s : List ℕ) where
   pub row-none : (at : ℕ) → 0 ≡ orRow s at 0

@@ -50,3 +50,8 @@ module _ (s : List ℕ) (w h d y x : ℕ) where
         let a : (i * 8 + j) / 8 ≡ i = omega arith in
         let b : (i * 8 + j) % 8 ≡ j = omega arith in
         rw (q, back (pos (v / 2 ^ (d - 8)) -ℤ pos 128) (omega (arith, less-128 (v / 2 ^ (d - 8)) read-low)), a, b, e)
+
+module _ (s : List ℕ) (w h d y x : ℕ) (hy : y < h) (hx : x < w) (cut : cutTaken (sized s w h) d y x ≡ true) (hd : 8 ≤ d) where
+  pub input-small : (i j : ℕ) → i < 8 → j < 8 → natAbs (directionInput (sized s w h) d y x i j) ≤ 128
+  unfolding directionInput
+  input-small i j hi hj = less-128 _ (shifted-low s w h d y x hy hx cut hd i j hi hj)

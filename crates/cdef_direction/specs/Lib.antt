@@ -5,3 +5,4 @@ pub mod Costs
 pub mod CostsLaws
 pub mod Looked
 pub mod LookedLaws
+pub mod FoundLaws

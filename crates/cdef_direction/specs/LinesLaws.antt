@@ -134,10 +134,9 @@ sum-eight f = eight (f 0) (f 1) (f 2) (f 3) (f 4) (f 5) (f 6) (f 7)
 
 -- rows x whose lines are L: the row i starts at first + i / 2 * two + i % 2 * one, which is 8 - o i places before the sample that lies on line 0
 module _ (x : ℕ → ℕ → ℤ) (L : ℕ → ℕ → ℕ) (o : ℕ → ℕ) (first one two : ℕ)
-  (line : (i j : ℕ) → i < 8 → j < 8 → L i j + o i ≡ j + 8)
-  (low : (i : ℕ) → i < 8 → o i ≤ 8)
-  (starts : (i : ℕ) → i < 8 → first + i / 2 * two + i % 2 * one ≡ i * 24 + o i) where
-
+    (line : (i j : ℕ) → i < 8 → j < 8 → L i j + o i ≡ j + 8)
+    (low : (i : ℕ) → i < 8 → o i ≤ 8)
+    (starts : (i : ℕ) → i < 8 → first + i / 2 * two + i % 2 * one ≡ i * 24 + o i) where
   pad-row : (i n : ℕ) → i < 8 → padAt (blockOf x) i (n + o i) ≡ sumℤ 8 (λ j. cond (eqb (L i j) n) (x i j) (pos 0))
   unfolding padAt
   pad-row i n hi = go (decLe 8 (n + o i)) (decLe 16 (n + o i)) ∙ sym (row-is (x i) (L i) n (o i) 8 (λ j hj. line i j hi hj))
@@ -240,3 +239,21 @@ module _ (x : ℕ → ℕ → ℤ) where
   } ≡ partialsOf x
   unfolding partialsOf
   partials-are = rw (turned-block x, lines-0, lines-1, lines-2, lines-3, lines-4, lines-5, lines-6, lines-7)
+
+  -- the same, from the code's calls
+  pub partials-from : (b t zb zt l0 l1 l2 l3 l4 l5 l6 l7 : List ℤ)
+      → b ≡ blockOf x
+      → t ≡ turnedOf b
+      → zb ≡ paddedOf b
+      → zt ≡ paddedOf t
+      → l0 ≡ linesOf zb 8 23 46
+      → l1 ≡ linesOf zt 8 24 47
+      → l2 ≡ linesOf zt 8 24 48
+      → l3 ≡ linesOf zt 5 24 49
+      → l4 ≡ linesOf zt 1 25 50
+      → l5 ≡ linesOf zb 5 24 49
+      → l6 ≡ linesOf zb 8 24 48
+      → l7 ≡ linesOf zb 8 24 47
+      → record { d0 = l0; d1 = l1; d2 = l2; d3 = l3; d4 = l4; d5 = l5; d6 = l6; d7 = l7 } ≡ partialsOf x
+  partials-from b t zb zt l0 l1 l2 l3 l4 l5 l6 l7 eb et ezb ezt e0 e1 e2 e3 e4 e5 e6 e7 =
+      rw (e0, e1, e2, e3, e4, e5, e6, e7, ezt, ezb, et, eb) partials-are

@@ -3,9 +3,9 @@ ghost use mathlib.Core.Path.{_≡_};
 ghost use Prim.Native.Nat.{_+_, _*_, _≤_, _<_};
 ghost use Rattle.cdef_spec.specs.Standard.{square, divBy, costStraight, costDiagonal, costBetween};
 ghost use Rattle.cdef_direction.specs.Costs.{entry, costList, CostsFit, bestOf};
-use cdef_leaf::tables;
 use crate::Found;
 use crate::Partials;
+use cdef_leaf::tables;
 
 fn square_of(v: i16) -> u32
     ensures { λ r. ⌜ r ≡ square v ⌝ }
@@ -104,5 +104,8 @@ pub fn best(cost: &[u32; 8]) -> Found
         }
     }
     let across = (direction + 4) % 8;
-    Found { direction: direction as u8, variance: (most - cost[across]) >> 10 }
+    Found {
+        direction: direction as u8,
+        variance: (most - cost[across]) >> 10,
+    }
 }

@@ -23,7 +23,14 @@ fn level(v: u16, shift: u32) -> i16
 }
 
 // The block wholly inside the plane.
-fn levels_inside(plane: &[u16], width: usize, height: usize, x: usize, y: usize, depth: u8) -> [i16; 64]
+fn levels_inside(
+    plane: &[u16],
+    width: usize,
+    height: usize,
+    x: usize,
+    y: usize,
+    depth: u8,
+) -> [i16; 64]
     requires { ⌜ length (now plane) ≡ width * height ⌝ }
     requires { ⌜ (width ≤ 4096) × (height ≤ 4096) × (x + 8 ≤ width) × (y + 8 ≤ height) × (8 ≤ depth) × (depth ≤ 12) ⌝ }
     requires { ⌜ cutTaken (record { samples = now plane; width = width; height = height }) depth y x ≡ true ⌝ }
@@ -42,7 +49,14 @@ fn levels_inside(plane: &[u16], width: usize, height: usize, x: usize, y: usize,
 }
 
 // Any block: past the right or bottom edge the nearest sample repeats.
-fn levels_edge(plane: &[u16], width: usize, height: usize, x: usize, y: usize, depth: u8) -> [i16; 64]
+fn levels_edge(
+    plane: &[u16],
+    width: usize,
+    height: usize,
+    x: usize,
+    y: usize,
+    depth: u8,
+) -> [i16; 64]
     requires { ⌜ length (now plane) ≡ width * height ⌝ }
     requires { ⌜ (width ≤ 4096) × (height ≤ 4096) × (x < width) × (y < height) × (8 ≤ depth) × (depth ≤ 12) ⌝ }
     requires { ⌜ cutTaken (record { samples = now plane; width = width; height = height }) depth y x ≡ true ⌝ }
@@ -61,7 +75,14 @@ fn levels_edge(plane: &[u16], width: usize, height: usize, x: usize, y: usize, d
     b
 }
 
-pub fn levels(plane: &[u16], width: usize, height: usize, x: usize, y: usize, depth: u8) -> [i16; 64]
+pub fn levels(
+    plane: &[u16],
+    width: usize,
+    height: usize,
+    x: usize,
+    y: usize,
+    depth: u8,
+) -> [i16; 64]
     requires { ⌜ length (now plane) ≡ width * height ⌝ }
     requires { ⌜ (width ≤ 4096) × (height ≤ 4096) × (x < width) × (y < height) × (8 ≤ depth) × (depth ≤ 12) ⌝ }
     requires { ⌜ cutTaken (record { samples = now plane; width = width; height = height }) depth y x ≡ true ⌝ }

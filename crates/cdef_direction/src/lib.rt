@@ -32,7 +32,14 @@ pub struct Partials {
 }
 
 // The line sums of the block at (x, y).
-pub fn cdef_direction_partials(plane: &[u16], width: usize, height: usize, x: usize, y: usize, depth: u8) -> Partials
+pub fn cdef_direction_partials(
+    plane: &[u16],
+    width: usize,
+    height: usize,
+    x: usize,
+    y: usize,
+    depth: u8,
+) -> Partials
     requires { ⌜ length (now plane) ≡ width * height ⌝ }
     requires { ⌜ (width ≤ 4096) × (height ≤ 4096) × (x < width) × (y < height) × (8 ≤ depth) × (depth ≤ 12) ⌝ }
     requires { ⌜ cutTaken (record { samples = now plane; width = width; height = height }) depth y x ≡ true ⌝ }
@@ -63,7 +70,14 @@ pub fn cdef_direction_cost(p: Partials) -> Found
 }
 
 // The direction and the variance of the block at (x, y); past the plane's right or bottom edge the nearest sample repeats.
-pub fn cdef_direction(plane: &[u16], width: usize, height: usize, x: usize, y: usize, depth: u8) -> Found
+pub fn cdef_direction(
+    plane: &[u16],
+    width: usize,
+    height: usize,
+    x: usize,
+    y: usize,
+    depth: u8,
+) -> Found
     requires { ⌜ length (now plane) ≡ width * height ⌝ }
     requires { ⌜ (width ≤ 4096) × (height ≤ 4096) × (x < width) × (y < height) × (8 ≤ depth) × (depth ≤ 12) ⌝ }
     requires { ⌜ cutTaken (record { samples = now plane; width = width; height = height }) depth y x ≡ true ⌝ }

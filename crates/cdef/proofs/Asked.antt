@@ -1,11 +1,15 @@
 -- What the questions' functions say of their tests, and what a yes says as a bound.
 use mathlib.Core.Path.{_≡_, sym, _∙_}
-use mathlib.Core.Bool.{Bool, true, false, not}
-use Prim.Native.Nat.{ℕ, _≤_}
+use mathlib.Core.Bool.{Bool, true, false, not, _&&_}
+use Prim.Native.Nat.{ℕ, _*_, _≤_, _<_}
+use lib.Dec.{leb, ltb}
 use lib.IntN.{ℤ, natAbs}
-use borrow.Author.Tests.{not-true, not-false, leb-true}
+use lib.ListN.{length}
+use borrow.Author.Tests.{not-true, not-false, leb-true, ltb-true, eqb-true}
 use Rattle.cdef_spec.specs.declared.WorkingDamping.{WorkingDamping}
-use Rattle.cdef_spec.specs.Questions.{strengthTaken, workingTaken, differenceTaken}
+use Rattle.cdef_spec.specs.Document01.{Plane}
+use Rattle.cdef_spec.specs.Questions.{sideTaken, full, cornerTaken, strengthTaken, workingTaken, differenceTaken}
+use Rattle.cdef_spec.specs.WordsLaws.{and-both}
 
 -- `if !said` taken is a no, left a yes
 pub no-so : {said test : Bool} → said ≡ test → not said ≡ true → test ≡ false
@@ -13,6 +17,22 @@ no-so {said} e h = sym e ∙ not-true said h
 
 pub yes-so : {said test : Bool} → said ≡ test → not said ≡ false → test ≡ true
 yes-so {said} e h = sym e ∙ not-false said h
+
+pub side-le : (n : ℕ) → sideTaken n ≡ true → (1 ≤ n) × (n ≤ 4096)
+unfolding sideTaken
+side-le n e = let b = and-both (leb 1 n) (leb n 4096) e in (leb-true 1 n (b .0), leb-true n 4096 (b .1))
+
+-- what `full` says once the sides are taken
+pub full-so : {a b c said : Bool} → a ≡ true → b ≡ true → said ≡ (a && b) && c → said ≡ c
+full-so e f h = rw (e, f) at h
+
+pub full-length : (p : Plane) → full p ≡ true → length (p .samples) ≡ p .width * p .height
+unfolding full
+full-length p e = eqb-true (length (p .samples)) (p .width * p .height) e
+
+pub corner-low : (p : Plane) (y x : ℕ) → cornerTaken p y x ≡ true → (x < p .width) × (y < p .height)
+unfolding cornerTaken
+corner-low p y x e = let b = and-both (ltb x (p .width)) (ltb y (p .height)) e in (ltb-true x (p .width) (b .0), ltb-true y (p .height) (b .1))
 
 pub strength-le : (s : ℕ) → strengthTaken s ≡ true → s ≤ 240
 unfolding strengthTaken

@@ -1,3 +1,4 @@
 // The public calls. Each asks document 01's questions in order, then works; no function here requires anything.
+pub mod direction; // direction.rt: the direction of a block
 pub mod numbers; // numbers.rt: the calls on single numbers
 mod questions; // questions.rt: the questions' tests

@@ -1,7 +1,54 @@
 // The tests that the questions are made of, each with its definition's name.
 ghost use mathlib.Core.Path.{_≡_};
-ghost use Rattle.cdef_spec.specs.Questions.{strengthTaken, workingTaken, varianceTaken, indexTaken, differenceTaken};
+ghost use mathlib.Core.Bool.{_&&_};
+ghost use mathlib.Core.List.{List};
+ghost use Prim.Native.Nat.{ℕ};
+ghost use Rattle.cdef_spec.specs.Document01.{Plane};
+ghost use Rattle.cdef_spec.specs.Questions.{depthTaken, sideTaken, full, cornerTaken, strengthTaken, workingTaken, varianceTaken, indexTaken, differenceTaken};
 use cdef_spec::WorkingDamping;
+
+// 1: a bit depth, 8 to 12.
+pub fn depth_taken(depth: u8) -> bool
+    ensures { λ r. ⌜ r ≡ depthTaken depth ⌝ }
+{
+    if depth < 8 {
+        return false;
+    }
+    depth <= 12
+}
+
+// 2: a side, 1 to 4,096.
+pub fn side_taken(n: usize) -> bool
+    ensures { λ r. ⌜ r ≡ sideTaken n ⌝ }
+{
+    if n == 0 {
+        return false;
+    }
+    n <= 4096
+}
+
+// 4: a plane holds exactly width * height samples. The sides are tested first, so that the product fits.
+pub fn full(plane: &[u16], width: usize, height: usize) -> bool
+    ensures { λ r. ⌜ r ≡ (sideTaken width && sideTaken height) && full (record { samples = now (plane .entry); width = width; height = height }) ⌝ }
+{
+    if !side_taken(width) {
+        return false;
+    }
+    if !side_taken(height) {
+        return false;
+    }
+    plane.len() == width * height
+}
+
+// 5: a corner in the plane, whatever that holds.
+pub fn corner_taken(width: usize, height: usize, x: usize, y: usize) -> bool
+    ensures { λ r. ⌜ ((s : List ℕ) → r ≡ cornerTaken (record { samples = s; width = width; height = height }) y x) ⌝ }
+{
+    if width <= x {
+        return false;
+    }
+    y < height
+}
 
 // 8: a strength that is adjusted or constrained alone, up to 240.
 pub fn strength_taken(strength: u32) -> bool

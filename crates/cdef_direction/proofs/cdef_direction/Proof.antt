@@ -1,0 +1,31 @@
+-- `cdef_direction::cdef_direction` meets its contract.
+use mathlib.Core.Path.{_≡_, ap, _∙_}
+use Rattle.cdef_spec.specs.Document01.{directionInput, blockDirection, blockVariance}
+use Rattle.cdef_direction.specs.declared.Found.{Found}
+use Rattle.cdef_direction.specs.Costs.{foundOf}
+use Rattle.cdef_direction.specs.FoundLaws.{costs-fit, found-are}
+use Rattle.cdef_direction.proofs.Places.{input-small}
+use borrow.Author.Needs.{needs}
+use Rattle.cdef_direction.proofs.cdef_direction.Statement.{statement}
+use Rattle.cdef_direction.proofs.cdef_direction.Tie as tie
+use Rattle.cdef_direction.proofs.cdef_direction.Reads as reads
+use Rattle.cdef_direction.proofs.cdef_direction.Lts as lts
+use Rattle.cdef_direction.proofs.cdef_direction_cost.Reads as cdef-direction-cost-reads
+use Rattle.cdef_direction.proofs.cdef_direction_partials.Reads as cdef-direction-partials-reads
+
+cdef-direction-partials-requires : tie.Need-cdef-direction-partials-requires
+cdef-direction-partials-requires c κs = search needs
+
+cdef-direction-cost-requires : tie.Need-cdef-direction-cost-requires
+cdef-direction-cost-requires c κs = let s = c .before .before in
+    let a = s .args in
+    let h = s .pre .1 .0 in
+    rw (c .cdef-direction-partials .ensures) (costs-fit _ (input-small (a .plane .now) (a .width) (a .height) (a .depth) (a .y) (a .x) (h .3) (h .2) (s .pre .1 .1) (h .4)))
+
+returns : tie.Need-returns
+returns c = unfold blockDirection blockVariance in let e = c .cdef-direction-cost .ensures ∙ ap foundOf (c .before .cdef-direction-partials .ensures) ∙ found-are _ in
+    (ap (λ (f : Found). f .direction) e, ap (λ (f : Found). f .variance) e)
+
+pub cdef-direction-spec : {M : Type 1} → statement M
+cdef-direction-spec =
+    tie.close (tie.spec cdef-direction-partials-requires cdef-direction-cost-requires returns)

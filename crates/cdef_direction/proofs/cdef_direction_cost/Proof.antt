@@ -1,0 +1,22 @@
+-- `cdef_direction::cdef_direction_cost` meets its contract.
+use mathlib.Core.Path.{_≡_, ap, _∙_}
+use Rattle.cdef_direction.specs.Costs.{bestOf, foundOf}
+use borrow.Author.Needs.{needs}
+use Rattle.cdef_direction.proofs.cdef_direction_cost.Statement.{statement}
+use Rattle.cdef_direction.proofs.cdef_direction_cost.Tie as tie
+use Rattle.cdef_direction.proofs.cdef_direction_cost.Reads as reads
+use Rattle.cdef_direction.proofs.cdef_direction_cost.Lts as lts
+use Rattle.cdef_direction.proofs.costs.best.Reads as best-reads
+use Rattle.cdef_direction.proofs.costs.costs.Reads as costs-reads
+
+costs-requires : tie.Need-costs-requires
+costs-requires c κs = search needs
+
+best-requires : tie.Need-best-requires
+best-requires c κs = search needs
+
+returns : tie.Need-returns
+returns c = unfold foundOf in c .best .ensures ∙ ap bestOf (c .before .before .costs .ensures)
+
+pub cdef-direction-cost-spec : {M : Type 1} → statement M
+cdef-direction-cost-spec = tie.close (tie.spec costs-requires best-requires returns)

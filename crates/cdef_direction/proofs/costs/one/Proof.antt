@@ -1,0 +1,53 @@
+-- `cdef_direction::one` meets its contract.
+use mathlib.Core.Path.{_≡_, ap, _∙_}
+use Prim.Native.Nat.{_*_}
+use native.Mathlib.Omega.{arith}
+use lib.ListN.{getD}
+use lib.IntN.{pos}
+use mir.Syntax.{w16}
+use mir.ValLaws.{toZ-ofZ}
+use Rattle.cdef_spec.specs.Standard.{square, divBy}
+use Rattle.cdef_direction.specs.Costs.{entry}
+use borrow.Author.Needs.{needs}
+use Rattle.cdef_direction.proofs.costs.one.Statement.{statement}
+use Rattle.cdef_direction.proofs.costs.one.Tie as tie
+use Rattle.cdef_direction.proofs.costs.one.Reads as reads
+use Rattle.cdef_direction.proofs.costs.one.Lts as lts
+use Rattle.cdef_direction.proofs.costs.square_of.Reads as square-of-reads
+use Rattle.cdef_leaf.proofs.tables.div_table.Reads as div-table-reads
+
+first : (c : tie.After-square-of) → c .square-of .result ≡ square (entry (c .before .before .args .l .now) (c .before .before .args .a))
+unfolding entry
+first c = c .square-of .ensures ∙ ap square (toZ-ofZ w16 _ (record { sfits = c .before .square-of-arg .given }))
+
+product : (c : tie.After-div-table) → c .before .square-of .result * c .div-table .result ≡ square (entry (c .before .before .before .args .l .now) (c .before .before .before .args .a)) * divBy (c .before .before .before .args .n)
+product c = rw (first (c .before), c .div-table .ensures)
+
+mul-square-of : tie.Need-mul-square-of
+mul-square-of c = search needs
+
+element-copy-out-square-of : tie.Need-element-copy-out-square-of
+element-copy-out-square-of c = search needs
+
+square-of-requires : tie.Need-square-of-requires
+square-of-requires c κs = search needs
+
+div-table-requires : tie.Need-div-table-requires
+div-table-requires c κs = search needs
+
+mul-result : tie.Need-mul-result
+mul-result c = record { fits = omega (arith, product c, c .before .before .before .pre .2) }
+
+returns : tie.Need-returns
+returns c = product c
+
+pub one-spec : {M : Type 1} → statement M
+one-spec =
+    tie.close
+    (tie.spec
+    mul-square-of
+    element-copy-out-square-of
+    square-of-requires
+    div-table-requires
+    mul-result
+    returns)

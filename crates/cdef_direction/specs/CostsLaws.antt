@@ -1,0 +1,60 @@
+-- Laws of the costs and of the best: as plain sums, and from the line sums of a block.
+use mathlib.Core.Path.{_≡_, refl, sym, ap, _∙_}
+use mathlib.Core.Bool.{Bool, true, false, cond}
+use mathlib.Core.List.{List, [], _∷_}
+use Prim.Native.Nat.{ℕ, zero, suc, _+_, _-_, _*_, _%_, _≤_, _<_}
+use native.Mathlib.Numerals.{add-one}
+use native.Mathlib.Omega.{arith}
+use borrow.Author.Tests.{lt-ltb, le-ltb}
+use lib.Dec.{ltb}
+use lib.ListN.{getD}
+use lib.IntN.{ℤ, pos}
+use Rattle.cdef_spec.specs.Words.{sum, for, _>>_}
+use Rattle.cdef_spec.specs.WordsLaws.{sum-same}
+use Rattle.cdef_spec.specs.Standard.{square, Div-Table, divBy, costStraight, costDiagonal, costBetween, Best, better, best}
+use Rattle.cdef_direction.specs.declared.Found.{Found}
+use Rattle.cdef_direction.specs.Costs.{bestOf}
+
+-- ---- the costs as plain sums
+
+module _ (p : ℕ → ℤ) where
+  pub straight-is : costStraight p ≡ (square (p 0) + square (p 1)) * 105 + (square (p 2) + square (p 3)) * 105 + (square (p 4) + square (p 5)) * 105 + (square (p 6) + square (p 7)) * 105
+  unfolding costStraight sum Div-Table
+  straight-is = omega arith
+
+  pub diagonal-is : costDiagonal p ≡ (square (p 0) + square (p 14)) * 840 + (square (p 1) + square (p 13)) * 420 + (square (p 2) + square (p 12)) * 280 + (square (p 3) + square (p 11)) * 210 + (square (p 4) + square (p 10)) * 168 + (square (p 5) + square (p 9)) * 140 + (square (p 6) + square (p 8)) * 120 + square (p 7) * 105
+  unfolding costDiagonal sum Div-Table
+  diagonal-is = omega arith
+
+  pub between-is : costBetween p ≡ (square (p 0) + square (p 10)) * 420 + (square (p 1) + square (p 9)) * 210 + (square (p 2) + square (p 8)) * 140 + (square (p 3) + square (p 7)) * 105 + (square (p 4) + square (p 6)) * 105 + square (p 5) * 105
+  unfolding costBetween sum Div-Table
+  between-is = omega arith
+
+-- ---- the best of the first n costs
+
+unfoldable pub bestTo : (ℕ → ℕ) → ℕ → Best
+bestTo c zero = record { bestCost = 0; yDir = 0 }
+bestTo c (suc n) = better c n (bestTo c n)
+
+module _ (c : ℕ → ℕ) where
+  pub best-none : record { bestCost = 0; yDir = 0 } ≡ bestTo c 0
+  unfolding bestTo
+  best-none = refl
+
+  pub best-all : bestTo c 8 ≡ best c
+  unfolding bestTo best for
+  best-all = refl
+
+  pub best-new : (n m d : ℕ) → record { bestCost = m; yDir = d } ≡ bestTo c n → m < c n → record { bestCost = c n; yDir = n } ≡ bestTo c (n + 1)
+  unfolding bestTo better
+  best-new n m d e h = rw (add-one n, ← e, lt-ltb m (c n) h)
+
+  pub best-old : (n m d : ℕ) → record { bestCost = m; yDir = d } ≡ bestTo c n → c n ≤ m → record { bestCost = m; yDir = d } ≡ bestTo c (n + 1)
+  unfolding bestTo better
+  best-old n m d e h = rw (add-one n, ← e, le-ltb m (c n) h)
+
+pub found-is : (l : List ℕ) (n m d v : ℕ) → record { bestCost = m; yDir = d } ≡ bestTo (λ k. getD l k 0) n → n ≡ 8 → v ≡ (m - getD l ((d + 4) % 8) 0) >> 10 → record { direction = d; variance = v } ≡ bestOf l
+unfolding bestOf
+found-is l n m d v e h g =
+    let b : record { bestCost = m; yDir = d } ≡ best (λ k. getD l k 0) = e ∙ rw h (best-all (λ k. getD l k 0)) in
+    rw (g, ← b)

@@ -1,0 +1,127 @@
+-- From the line sums of a block to its direction and variance: the costs are the standard's and fit, and so the best is.
+use mathlib.Core.Path.{_≡_, refl, sym, ap, _∙_}
+use mathlib.Core.Bool.{Bool, true, false, cond}
+use mathlib.Core.List.{List, [], _∷_}
+use Prim.Native.Nat.{ℕ, zero, suc, _+_, _-_, _*_, _%_, _≤_, _<_, min}
+use native.Mathlib.Omega.{arith}
+use lib.Dec.{eqb, ltb}
+use lib.ListN.{getD}
+use lib.IntN.{ℤ, pos, natAbs}
+use Rattle.cdef_spec.specs.Words.{sumℤ, for, _>>_}
+use Rattle.cdef_spec.specs.DirectionLaws.{cost-high}
+use Rattle.cdef_spec.specs.DirectionLocal.{sumℤ-same}
+use Rattle.cdef_spec.specs.Standard.{lineOf, partial, square, costStraight, costDiagonal, costBetween, cost, Best, better, best, direction, variance}
+use Rattle.cdef_sample.specs.Upto.{upto, getD-upto, upto-ext}
+use Rattle.cdef_direction.specs.declared.Partials.{Partials}
+use Rattle.cdef_direction.specs.declared.Found.{Found}
+use Rattle.cdef_direction.specs.Lines.{partialsOf}
+use Rattle.cdef_direction.specs.Costs.{entry, costList, CostsFit, bestOf, foundOf}
+use Rattle.cdef_direction.specs.CostsLaws.{straight-is, diagonal-is, between-is}
+
+-- ---- a cost looks at its first lines only
+
+module _ (p r : ℕ → ℤ) (h : (n : ℕ) → n < 16 → p n ≡ r n) where
+  straight-same : costStraight p ≡ costStraight r
+  straight-same = straight-is p ∙ rw (h 0 (omega arith), h 1 (omega arith), h 2 (omega arith), h 3 (omega arith), h 4 (omega arith), h 5 (omega arith), h 6 (omega arith), h 7 (omega arith)) (sym (straight-is r))
+
+  diagonal-same : costDiagonal p ≡ costDiagonal r
+  diagonal-same = diagonal-is p ∙ rw (
+    h 0 (omega arith),
+    h 1 (omega arith),
+    h 2 (omega arith),
+    h 3 (omega arith),
+    h 4 (omega arith),
+    h 5 (omega arith),
+    h 6 (omega arith),
+    h 7 (omega arith),
+    h 8 (omega arith),
+    h 9 (omega arith),
+    h 10 (omega arith),
+    h 11 (omega arith),
+    h 12 (omega arith),
+    h 13 (omega arith),
+    h 14 (omega arith),
+  ) (sym (diagonal-is r))
+
+  between-same : costBetween p ≡ costBetween r
+  between-same = between-is p ∙ rw (
+    h 0 (omega arith),
+    h 1 (omega arith),
+    h 2 (omega arith),
+    h 3 (omega arith),
+    h 4 (omega arith),
+    h 5 (omega arith),
+    h 6 (omega arith),
+    h 7 (omega arith),
+    h 8 (omega arith),
+    h 9 (omega arith),
+    h 10 (omega arith),
+  ) (sym (between-is r))
+
+-- ---- the costs of a block's line sums
+
+module _ (x : ℕ → ℕ → ℤ) where
+  line-at : (d n : ℕ) → n < 16 → entry (upto (partial x d) 16) n ≡ partial x d n
+  unfolding entry
+  line-at d n h = getD-upto (partial x d) 16 n (pos 0) h
+
+  costs-are : (d : ℕ) → d < 8 → getD (costList (partialsOf x)) d 0 ≡ cost x d
+  unfolding costList partialsOf cost
+  costs-are zero h = diagonal-same (entry (upto (partial x 0) 16)) (partial x 0) (line-at 0)
+  costs-are (suc zero) h = between-same (entry (upto (partial x 1) 16)) (partial x 1) (line-at 1)
+  costs-are (suc (suc zero)) h = straight-same (entry (upto (partial x 2) 16)) (partial x 2) (line-at 2)
+  costs-are (suc (suc (suc zero))) h = between-same (entry (upto (partial x 3) 16)) (partial x 3) (line-at 3)
+  costs-are (suc (suc (suc (suc zero)))) h = diagonal-same (entry (upto (partial x 4) 16)) (partial x 4) (line-at 4)
+  costs-are (suc (suc (suc (suc (suc zero))))) h = between-same (entry (upto (partial x 5) 16)) (partial x 5) (line-at 5)
+  costs-are (suc (suc (suc (suc (suc (suc zero)))))) h = straight-same (entry (upto (partial x 6) 16)) (partial x 6) (line-at 6)
+  costs-are (suc (suc (suc (suc (suc (suc (suc zero))))))) h = between-same (entry (upto (partial x 7) 16)) (partial x 7) (line-at 7)
+  costs-are (suc (suc (suc (suc (suc (suc (suc (suc d)))))))) h = absurd (omega arith)
+
+-- ---- the costs fit: a line sum takes samples of the block only, and each is at most 128 in size
+
+module _ (x : ℕ → ℕ → ℤ) (small : (i j : ℕ) → i < 8 → j < 8 → natAbs (x i j) ≤ 128) where
+  -- the block again, bounded everywhere
+  near : ℕ → ℕ → ℤ
+  near i j = x (min i 7) (min j 7)
+
+  near-same : (i j : ℕ) → i < 8 → j < 8 → x i j ≡ near i j
+  unfolding near
+  near-same i j hi hj =
+      let a : min i 7 ≡ i = omega arith in
+      let b : min j 7 ≡ j = omega arith in
+      rw (a, b)
+
+  partial-near : (d n : ℕ) → partial x d n ≡ partial near d n
+  unfolding partial
+  partial-near d n = sumℤ-same 8 _ _ (λ i hi. sumℤ-same 8 _ _ (λ j hj. ap (λ (z : ℤ). cond (eqb (lineOf d i j) n) z (pos 0)) (near-same i j hi hj)))
+
+  partials-near : partialsOf x ≡ partialsOf near
+  unfolding partialsOf
+  partials-near =
+      let e : (d : ℕ) → upto (partial x d) 16 ≡ upto (partial near d) 16 = λ d. upto-ext _ _ 16 (λ n h. partial-near d n) in
+      rw (e 0, e 1, e 2, e 3, e 4, e 5, e 6, e 7)
+
+  near-small : (i j : ℕ) → natAbs (near i j) ≤ 128
+  unfolding near
+  near-small i j = small (min i 7) (min j 7) (omega arith) (omega arith)
+
+  pub costs-fit : CostsFit (partialsOf x)
+  costs-fit = record { all = λ d h. rw (partials-near, costs-are near d h) (cost-high near near-small d h) }
+
+-- ---- the best
+
+module _ (c c′ : ℕ → ℕ) (same : (d : ℕ) → d < 8 → c d ≡ c′ d) where
+  better-same : (d : ℕ) → d < 8 → {b b′ : Best} → b ≡ b′ → better c d b ≡ better c′ d b′
+  unfolding better
+  better-same d h {b} {b′} e = rw (e, same d h)
+
+  best-same : best c ≡ best c′
+  unfolding best for
+  best-same = better-same 7 (omega arith) (better-same 6 (omega arith) (better-same 5 (omega arith) (better-same 4 (omega arith) (better-same 3 (omega arith) (better-same 2 (omega arith) (better-same 1 (omega arith) (better-same 0 (omega arith) refl)))))))
+
+-- THE DIRECTION AND THE VARIANCE from a block's line sums are the standard's
+pub found-are : (x : ℕ → ℕ → ℤ) → foundOf (partialsOf x) ≡ record { direction = direction x; variance = variance x }
+unfolding foundOf bestOf direction variance
+found-are x =
+    let e : best (λ d. getD (costList (partialsOf x)) d 0) ≡ best (cost x) = best-same _ _ (costs-are x) in
+    rw (e, costs-are x (((best (cost x)) .yDir + 4) % 8) (omega arith))

@@ -1,0 +1,35 @@
+// Are the samples that are looked at below 2^depth?
+ghost use mathlib.Core.Path.{_≡_};
+ghost use Prim.Native.Nat.{_+_, _*_, _≤_, _<_};
+ghost use lib.ListN.{length};
+ghost use Rattle.cdef_spec.specs.Document01.{Plane};
+ghost use Rattle.cdef_spec.specs.Questions.{cutTaken};
+ghost use Rattle.cdef_direction.specs.Looked.{orRow};
+use crate::levels;
+
+// The bits that are set in any of n samples, from `at` on.
+fn row_bits(plane: &[u16], at: usize, n: usize) -> u16
+    requires { ⌜ at + n ≤ length (now plane) ⌝ }
+    ensures { λ r. ⌜ r ≡ orRow (now (plane .entry)) at n ⌝ }
+{
+    let mut bits = 0u16;
+    for j in 0..n {
+        bits = bits | plane[at + j];
+    }
+    bits
+}
+
+// The 8 by 8 block at (x, y), cut to the plane.
+pub fn cut_taken(plane: &[u16], width: usize, height: usize, x: usize, y: usize, depth: u8) -> bool
+    requires { ⌜ length (now plane) ≡ width * height ⌝ }
+    requires { ⌜ (width ≤ 4096) × (height ≤ 4096) × (x < width) × (y < height) × (depth ≤ 12) ⌝ }
+    ensures { λ r. ⌜ r ≡ cutTaken (record { samples = now (plane .entry); width = width; height = height }) depth y x ⌝ }
+{
+    let cols = levels::least(8, width - x);
+    let rows = levels::least(8, height - y);
+    let mut bits = 0u16;
+    for i in 0..rows {
+        bits = bits | row_bits(plane, (y + i) * width + x, cols);
+    }
+    bits >> (depth as u32) == 0
+}

@@ -1,0 +1,35 @@
+// The call for the block filter.
+ghost use mathlib.Core.Path.{_≡_};
+ghost use Rattle.cdef_spec.specs.Document01.{Plane};
+ghost use Rattle.cdef_spec.specs.Answers.{readAnswer};
+ghost use Rattle.cdef_spec.specs.BlockCalls.{filterOutcome};
+use crate::block_questions;
+use cdef_spec::Answer;
+use cdef_spec::Block;
+use cdef_spec::FilterParams;
+
+// Filters a block of a plane into a destination of whole rows, whose first is the plane's row y0.
+// A place outside the block, off the plane or with a marked centre keeps what it held.
+pub fn filter_block(
+    dst: &mut [u16],
+    y0: usize,
+    plane: &[u16],
+    width: usize,
+    height: usize,
+    block: Block,
+    params: FilterParams,
+) -> Answer
+    ensures { λ r. ⌜ readAnswer r ≡ (filterOutcome (record { samples = now (plane .entry); width = width; height = height }) block params y0 (now (dst .entry))) .answer ⌝ }
+    ensures { λ _. ⌜ now (dst .exit) ≡ (filterOutcome (record { samples = now (plane .entry); width = width; height = height }) block params y0 (now (dst .entry))) .dst ⌝ }
+{
+    let no = block_questions::filter_no(dst, y0, plane, width, height, block, params);
+    if no != 0 {
+        return Answer::Refused(no);
+    }
+    let win = cdef_window::window(plane, width, height, block);
+    if !cdef_window::window_taken(&win, params.depth) {
+        return Answer::Refused(9);
+    }
+    cdef_filter::filter_window(dst, y0, &win, width, height, block, params);
+    Answer::Done
+}

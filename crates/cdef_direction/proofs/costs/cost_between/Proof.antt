@@ -1,14 +1,10 @@
--- `cdef_direction::cost_between` meets its contract.
+-- `cdef_direction::costs::cost_between` meets its contract.
 use native.Mathlib.Omega.{arith}
 use Rattle.cdef_spec.specs.Standard.{Div-Table}
 use Rattle.cdef_direction.specs.Costs.{entry}
 use Rattle.cdef_direction.specs.CostsLaws.{between-is}
 use Rattle.cdef_direction.proofs.costs.cost_between.Statement.{statement}
 use Rattle.cdef_direction.proofs.costs.cost_between.Tie as tie
-use Rattle.cdef_direction.proofs.costs.cost_between.Reads as reads
-use Rattle.cdef_direction.proofs.costs.cost_between.Lts as lts
-use Rattle.cdef_direction.proofs.costs.one.Reads as one-reads
-use Rattle.cdef_direction.proofs.costs.two.Reads as two-reads
 
 two-requires : tie.Need-two-requires
 two-requires c κs = unfold Div-Table in (omega arith, omega arith, omega arith, omega (arith, between-is (entry (c .args .l .now)), c .pre))

@@ -1,14 +1,10 @@
--- `cdef_direction::cost_diagonal` meets its contract.
+-- `cdef_direction::costs::cost_diagonal` meets its contract.
 use native.Mathlib.Omega.{arith}
 use Rattle.cdef_spec.specs.Standard.{Div-Table}
 use Rattle.cdef_direction.specs.Costs.{entry}
 use Rattle.cdef_direction.specs.CostsLaws.{diagonal-is}
 use Rattle.cdef_direction.proofs.costs.cost_diagonal.Statement.{statement}
 use Rattle.cdef_direction.proofs.costs.cost_diagonal.Tie as tie
-use Rattle.cdef_direction.proofs.costs.cost_diagonal.Reads as reads
-use Rattle.cdef_direction.proofs.costs.cost_diagonal.Lts as lts
-use Rattle.cdef_direction.proofs.costs.one.Reads as one-reads
-use Rattle.cdef_direction.proofs.costs.two.Reads as two-reads
 
 two-requires : tie.Need-two-requires
 two-requires c κs = unfold Div-Table in (omega arith, omega arith, omega arith, omega (arith, diagonal-is (entry (c .args .l .now)), c .pre))

@@ -1,13 +1,10 @@
--- `cdef_direction::cost_straight` meets its contract.
+-- `cdef_direction::costs::cost_straight` meets its contract.
 use native.Mathlib.Omega.{arith}
 use Rattle.cdef_spec.specs.Standard.{Div-Table}
 use Rattle.cdef_direction.specs.Costs.{entry}
 use Rattle.cdef_direction.specs.CostsLaws.{straight-is}
 use Rattle.cdef_direction.proofs.costs.cost_straight.Statement.{statement}
 use Rattle.cdef_direction.proofs.costs.cost_straight.Tie as tie
-use Rattle.cdef_direction.proofs.costs.cost_straight.Reads as reads
-use Rattle.cdef_direction.proofs.costs.cost_straight.Lts as lts
-use Rattle.cdef_direction.proofs.costs.two.Reads as two-reads
 
 two-requires : tie.Need-two-requires
 two-requires c κs = unfold Div-Table in (omega arith, omega arith, omega arith, omega (arith, straight-is (entry (c .args .l .now)), c .pre))

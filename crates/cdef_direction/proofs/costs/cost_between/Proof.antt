@@ -1,4 +1,5 @@
 -- `cdef_direction::costs::cost_between` meets its contract.
+use mathlib.Core.Path.{_≡_, sym}
 use native.Mathlib.Omega.{arith}
 use Rattle.cdef_spec.specs.Standard.{Div-Table}
 use Rattle.cdef_direction.specs.Costs.{entry}
@@ -40,7 +41,7 @@ add-result-5 : tie.Need-add-result-5
 add-result-5 c = unfold Div-Table in record { fits = omega (arith, between-is (entry (c .before .before .before .before .before .before .args .l .now)), c .before .before .before .before .before .before .pre, c .before .before .before .before .before .two .ensures, c .before .before .before .before .two2 .ensures, c .before .before .before .two3 .ensures, c .before .before .two4 .ensures, c .before .two5 .ensures, c .one .ensures) }
 
 returns : tie.Need-returns
-returns c = unfold Div-Table in omega (arith, between-is (entry (c .before .before .before .before .before .before .args .l .now)), c .before .before .before .before .before .two .ensures, c .before .before .before .before .two2 .ensures, c .before .before .before .two3 .ensures, c .before .before .two4 .ensures, c .before .two5 .ensures, c .one .ensures)
+returns c = unfold Div-Table in rw (c .before .before .before .before .before .two .ensures, c .before .before .before .before .two2 .ensures, c .before .before .before .two3 .ensures, c .before .before .two4 .ensures, c .before .two5 .ensures, c .one .ensures) (sym (between-is (entry (c .before .before .before .before .before .before .args .l .now))))
 
 pub cost-between-spec : {M : Type 1} → statement M
 cost-between-spec =

@@ -26,7 +26,7 @@ abbrev μ-loop : tie.MeasureT-loop
 
 -- the place of a turn
 row-is : (c : tie.After-least Inv-loop2 μ-loop2 Inv-loop μ-loop) → let a = c .before .before .before .before .args in c .least .result * a .width ≡ min (a .y + c .before .before .loop .i) (a .height - 1) * a .width
-row-is c = rw (c .least .ensures)
+row-is c = ap (λ (n : ℕ). n * c .before .before .before .before .args .width) (c .least .ensures)
 
 place-is : (c : tie.After-least2 Inv-loop2 μ-loop2 Inv-loop μ-loop) → let a = c .before .before .before .before .before .before .before .args in c .before .before .before .least .result * a .width + c .least2 .result ≡ min (a .y + c .before .before .before .before .before .loop .i) (a .height - 1) * a .width + min (a .x + c .before .before .loop2 .j) (a .width - 1)
 place-is c = rw (c .before .before .before .least .ensures, c .least2 .ensures)

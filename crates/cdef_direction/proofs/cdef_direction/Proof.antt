@@ -8,10 +8,6 @@ use Rattle.cdef_direction.proofs.Places.{input-small}
 use borrow.Author.Needs.{needs}
 use Rattle.cdef_direction.proofs.cdef_direction.Statement.{statement}
 use Rattle.cdef_direction.proofs.cdef_direction.Tie as tie
-use Rattle.cdef_direction.proofs.cdef_direction.Reads as reads
-use Rattle.cdef_direction.proofs.cdef_direction.Lts as lts
-use Rattle.cdef_direction.proofs.cdef_direction_cost.Reads as cdef-direction-cost-reads
-use Rattle.cdef_direction.proofs.cdef_direction_partials.Reads as cdef-direction-partials-reads
 
 cdef-direction-partials-requires : tie.Need-cdef-direction-partials-requires
 cdef-direction-partials-requires c κs = search needs

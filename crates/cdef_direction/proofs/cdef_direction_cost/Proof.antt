@@ -4,10 +4,6 @@ use Rattle.cdef_direction.specs.Costs.{bestOf, foundOf}
 use borrow.Author.Needs.{needs}
 use Rattle.cdef_direction.proofs.cdef_direction_cost.Statement.{statement}
 use Rattle.cdef_direction.proofs.cdef_direction_cost.Tie as tie
-use Rattle.cdef_direction.proofs.cdef_direction_cost.Reads as reads
-use Rattle.cdef_direction.proofs.cdef_direction_cost.Lts as lts
-use Rattle.cdef_direction.proofs.costs.best.Reads as best-reads
-use Rattle.cdef_direction.proofs.costs.costs.Reads as costs-reads
 
 costs-requires : tie.Need-costs-requires
 costs-requires c κs = search needs

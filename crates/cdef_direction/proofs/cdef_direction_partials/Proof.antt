@@ -7,12 +7,6 @@ use Rattle.cdef_direction.proofs.Places.{input-small}
 use borrow.Author.Needs.{needs}
 use Rattle.cdef_direction.proofs.cdef_direction_partials.Statement.{statement}
 use Rattle.cdef_direction.proofs.cdef_direction_partials.Tie as tie
-use Rattle.cdef_direction.proofs.cdef_direction_partials.Reads as reads
-use Rattle.cdef_direction.proofs.cdef_direction_partials.Lts as lts
-use Rattle.cdef_direction.proofs.levels.levels.Reads as levels-reads
-use Rattle.cdef_direction.proofs.lines.lines.Reads as lines-reads
-use Rattle.cdef_direction.proofs.lines.padded.Reads as padded-reads
-use Rattle.cdef_direction.proofs.lines.turned.Reads as turned-reads
 
 -- the samples are small, and so are their lists
 levels-small : (c : tie.After-levels) → Within (c .levels .result) 128

@@ -1,4 +1,4 @@
--- `cdef::direction` meets its contract.
+-- `cdef::direction::direction` meets its contract.
 use mathlib.Core.Path.{_≡_, ap, _∙_}
 use mathlib.Core.Bool.{true, false}
 use Prim.Native.Nat.{ℕ, _*_, _≤_, _<_}
@@ -13,14 +13,6 @@ use Rattle.cdef.proofs.Asked.{no-so, yes-so, side-le, full-so, full-len
 use borrow.Author.Needs.{needs}
 use Rattle.cdef.proofs.direction.direction.Statement.{statement}
 use Rattle.cdef.proofs.direction.direction.Tie as tie
-use Rattle.cdef.proofs.direction.direction.Reads as reads
-use Rattle.cdef.proofs.direction.direction.Lts as lts
-use Rattle.cdef.proofs.questions.corner_taken.Reads as corner-taken-reads
-use Rattle.cdef.proofs.questions.depth_taken.Reads as depth-taken-reads
-use Rattle.cdef.proofs.questions.full.Reads as full-reads
-use Rattle.cdef.proofs.questions.side_taken.Reads as side-taken-reads
-use Rattle.cdef_direction.proofs.cdef_direction.Reads as cdef-direction-reads
-use Rattle.cdef_direction.proofs.looked.cut_taken.Reads as cut-taken-reads
 
 -- the outcome, by the first no
 module _ (p : Plane) (d y x : ℕ) where

@@ -1,11 +1,9 @@
--- `cdef::corner_taken` meets its contract.
+-- `cdef::questions::corner_taken` meets its contract.
 use mathlib.Core.Path.{_≡_}
 use borrow.Author.Tests.{lt-ltb, le-ltb}
 use Rattle.cdef_spec.specs.Questions.{cornerTaken}
 use Rattle.cdef.proofs.questions.corner_taken.Statement.{statement}
 use Rattle.cdef.proofs.questions.corner_taken.Tie as tie
-use Rattle.cdef.proofs.questions.corner_taken.Reads as reads
-use Rattle.cdef.proofs.questions.corner_taken.Lts as lts
 
 returns : tie.Need-returns
 returns c = unfold cornerTaken in λ s. rw (le-ltb (c .before .args .x) (c .before .args .width) (c .if1 .taken))

@@ -1,11 +1,9 @@
--- `cdef::depth_taken` meets its contract.
+-- `cdef::questions::depth_taken` meets its contract.
 use mathlib.Core.Path.{_≡_}
 use borrow.Author.Tests.{lt-leb, le-leb}
 use Rattle.cdef_spec.specs.Questions.{depthTaken}
 use Rattle.cdef.proofs.questions.depth_taken.Statement.{statement}
 use Rattle.cdef.proofs.questions.depth_taken.Tie as tie
-use Rattle.cdef.proofs.questions.depth_taken.Reads as reads
-use Rattle.cdef.proofs.questions.depth_taken.Lts as lts
 
 returns : tie.Need-returns
 returns c = unfold depthTaken in rw (lt-leb 8 (c .before .args .depth) (c .if1 .taken))

@@ -1,4 +1,4 @@
--- `cdef::full` meets its contract.
+-- `cdef::questions::full` meets its contract.
 use mathlib.Core.Path.{_≡_}
 use mathlib.Core.Bool.{true, false}
 use Prim.Native.Nat.{_*_, _≤_}
@@ -9,9 +9,6 @@ use Rattle.cdef.proofs.Asked.{no-so, yes-so, side-le}
 use borrow.Author.Needs.{needs}
 use Rattle.cdef.proofs.questions.full.Statement.{statement}
 use Rattle.cdef.proofs.questions.full.Tie as tie
-use Rattle.cdef.proofs.questions.full.Reads as reads
-use Rattle.cdef.proofs.questions.full.Lts as lts
-use Rattle.cdef.proofs.questions.side_taken.Reads as side-taken-reads
 
 width-yes : (c : tie.Else1) → sideTaken (c .before .before .before .args .width) ≡ true
 width-yes c = yes-so (c .before .side-taken .ensures) (c .if1 .left)

@@ -1,4 +1,4 @@
--- `cdef::side_taken` meets its contract.
+-- `cdef::questions::side_taken` meets its contract.
 use mathlib.Core.Path.{_≡_}
 use Prim.Native.Nat.{_≤_}
 use native.Mathlib.Omega.{arith}
@@ -6,8 +6,6 @@ use borrow.Author.Tests.{le-leb}
 use Rattle.cdef_spec.specs.Questions.{sideTaken}
 use Rattle.cdef.proofs.questions.side_taken.Statement.{statement}
 use Rattle.cdef.proofs.questions.side_taken.Tie as tie
-use Rattle.cdef.proofs.questions.side_taken.Reads as reads
-use Rattle.cdef.proofs.questions.side_taken.Lts as lts
 
 returns : tie.Need-returns
 returns c = unfold sideTaken in rw (c .if1 .taken)

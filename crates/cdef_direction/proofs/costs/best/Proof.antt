@@ -1,4 +1,4 @@
--- `cdef_direction::best` meets its contract.
+-- `cdef_direction::costs::best` meets its contract.
 use mathlib.Core.Path.{_≡_, refl, sym, ap, _∙_}
 use mathlib.Core.Logic.{⊎-elim}
 use Prim.Native.Nat.{ℕ, _+_, _-_, _*_, _%_, _≤_, _<_}
@@ -9,8 +9,6 @@ use Rattle.cdef_spec.specs.Standard.{Best}
 use Rattle.cdef_direction.specs.CostsLaws.{bestTo, best-none, best-new, best-old, found-is}
 use Rattle.cdef_direction.proofs.costs.best.Statement.{statement}
 use Rattle.cdef_direction.proofs.costs.best.Tie as tie
-use Rattle.cdef_direction.proofs.costs.best.Reads as reads
-use Rattle.cdef_direction.proofs.costs.best.Lts as lts
 
 abbrev Inv-loop : tie.InvT-loop
 Inv-loop cost direction₀ most₀ d₀ direction most d = (record { bestCost = most; yDir = direction } ≡ bestTo (λ (k : ℕ). getD cost k 0) d) × ((k : ℕ) → k < d → getD cost k 0 ≤ most) × (direction < 8) × (d ≤ 8)

@@ -1,14 +1,11 @@
--- `cdef_direction::cost_diagonal` meets its contract.
+-- `cdef_direction::costs::cost_diagonal` meets its contract.
+use mathlib.Core.Path.{_≡_, sym}
 use native.Mathlib.Omega.{arith}
 use Rattle.cdef_spec.specs.Standard.{Div-Table}
 use Rattle.cdef_direction.specs.Costs.{entry}
 use Rattle.cdef_direction.specs.CostsLaws.{diagonal-is}
 use Rattle.cdef_direction.proofs.costs.cost_diagonal.Statement.{statement}
 use Rattle.cdef_direction.proofs.costs.cost_diagonal.Tie as tie
-use Rattle.cdef_direction.proofs.costs.cost_diagonal.Reads as reads
-use Rattle.cdef_direction.proofs.costs.cost_diagonal.Lts as lts
-use Rattle.cdef_direction.proofs.costs.one.Reads as one-reads
-use Rattle.cdef_direction.proofs.costs.two.Reads as two-reads
 
 two-requires : tie.Need-two-requires
 two-requires c κs = unfold Div-Table in (omega arith, omega arith, omega arith, omega (arith, diagonal-is (entry (c .args .l .now)), c .pre))
@@ -56,7 +53,7 @@ add-result-7 : tie.Need-add-result-7
 add-result-7 c = unfold Div-Table in record { fits = omega (arith, diagonal-is (entry (c .before .before .before .before .before .before .before .before .args .l .now)), c .before .before .before .before .before .before .before .before .pre, c .before .before .before .before .before .before .before .two .ensures, c .before .before .before .before .before .before .two2 .ensures, c .before .before .before .before .before .two3 .ensures, c .before .before .before .before .two4 .ensures, c .before .before .before .two5 .ensures, c .before .before .two6 .ensures, c .before .two7 .ensures, c .one .ensures) }
 
 returns : tie.Need-returns
-returns c = unfold Div-Table in omega (arith, diagonal-is (entry (c .before .before .before .before .before .before .before .before .args .l .now)), c .before .before .before .before .before .before .before .two .ensures, c .before .before .before .before .before .before .two2 .ensures, c .before .before .before .before .before .two3 .ensures, c .before .before .before .before .two4 .ensures, c .before .before .before .two5 .ensures, c .before .before .two6 .ensures, c .before .two7 .ensures, c .one .ensures)
+returns c = unfold Div-Table in rw (c .before .before .before .before .before .before .before .two .ensures, c .before .before .before .before .before .before .two2 .ensures, c .before .before .before .before .before .two3 .ensures, c .before .before .before .before .two4 .ensures, c .before .before .before .two5 .ensures, c .before .before .two6 .ensures, c .before .two7 .ensures, c .one .ensures) (sym (diagonal-is (entry (c .before .before .before .before .before .before .before .before .args .l .now))))
 
 pub cost-diagonal-spec : {M : Type 1} → statement M
 cost-diagonal-spec =

@@ -1,13 +1,11 @@
--- `cdef_direction::cost_straight` meets its contract.
+-- `cdef_direction::costs::cost_straight` meets its contract.
+use mathlib.Core.Path.{_≡_, sym}
 use native.Mathlib.Omega.{arith}
 use Rattle.cdef_spec.specs.Standard.{Div-Table}
 use Rattle.cdef_direction.specs.Costs.{entry}
 use Rattle.cdef_direction.specs.CostsLaws.{straight-is}
 use Rattle.cdef_direction.proofs.costs.cost_straight.Statement.{statement}
 use Rattle.cdef_direction.proofs.costs.cost_straight.Tie as tie
-use Rattle.cdef_direction.proofs.costs.cost_straight.Reads as reads
-use Rattle.cdef_direction.proofs.costs.cost_straight.Lts as lts
-use Rattle.cdef_direction.proofs.costs.two.Reads as two-reads
 
 two-requires : tie.Need-two-requires
 two-requires c κs = unfold Div-Table in (omega arith, omega arith, omega arith, omega (arith, straight-is (entry (c .args .l .now)), c .pre))
@@ -31,7 +29,7 @@ add-result-3 : tie.Need-add-result-3
 add-result-3 c = unfold Div-Table in record { fits = omega (arith, straight-is (entry (c .before .before .before .before .args .l .now)), c .before .before .before .before .pre, c .before .before .before .two .ensures, c .before .before .two2 .ensures, c .before .two3 .ensures, c .two4 .ensures) }
 
 returns : tie.Need-returns
-returns c = unfold Div-Table in omega (arith, straight-is (entry (c .before .before .before .before .args .l .now)), c .before .before .before .two .ensures, c .before .before .two2 .ensures, c .before .two3 .ensures, c .two4 .ensures)
+returns c = unfold Div-Table in rw (c .before .before .before .two .ensures, c .before .before .two2 .ensures, c .before .two3 .ensures, c .two4 .ensures) (sym (straight-is (entry (c .before .before .before .before .args .l .now))))
 
 pub cost-straight-spec : {M : Type 1} → statement M
 cost-straight-spec =

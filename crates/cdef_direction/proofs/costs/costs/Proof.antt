@@ -1,14 +1,9 @@
--- `cdef_direction::costs` meets its contract.
+-- `cdef_direction::costs::costs` meets its contract.
 use mathlib.Core.Path.{_≡_}
 use native.Mathlib.Omega.{arith}
 use Rattle.cdef_direction.specs.Costs.{costList}
 use Rattle.cdef_direction.proofs.costs.costs.Statement.{statement}
 use Rattle.cdef_direction.proofs.costs.costs.Tie as tie
-use Rattle.cdef_direction.proofs.costs.costs.Reads as reads
-use Rattle.cdef_direction.proofs.costs.costs.Lts as lts
-use Rattle.cdef_direction.proofs.costs.cost_between.Reads as cost-between-reads
-use Rattle.cdef_direction.proofs.costs.cost_diagonal.Reads as cost-diagonal-reads
-use Rattle.cdef_direction.proofs.costs.cost_straight.Reads as cost-straight-reads
 
 cost-diagonal-requires : tie.Need-cost-diagonal-requires
 cost-diagonal-requires c κs = unfold costList in c .before .before .before .before .before .before .before .before .before .pre .all 0 (omega arith)

@@ -1,4 +1,4 @@
--- `cdef_direction::one` meets its contract.
+-- `cdef_direction::costs::one` meets its contract.
 use mathlib.Core.Path.{_≡_, ap, _∙_}
 use Prim.Native.Nat.{_*_}
 use native.Mathlib.Omega.{arith}
@@ -11,10 +11,6 @@ use Rattle.cdef_direction.specs.Costs.{entry}
 use borrow.Author.Needs.{needs}
 use Rattle.cdef_direction.proofs.costs.one.Statement.{statement}
 use Rattle.cdef_direction.proofs.costs.one.Tie as tie
-use Rattle.cdef_direction.proofs.costs.one.Reads as reads
-use Rattle.cdef_direction.proofs.costs.one.Lts as lts
-use Rattle.cdef_direction.proofs.costs.square_of.Reads as square-of-reads
-use Rattle.cdef_leaf.proofs.tables.div_table.Reads as div-table-reads
 
 first : (c : tie.After-square-of) → c .square-of .result ≡ square (entry (c .before .before .args .l .now) (c .before .before .args .a))
 unfolding entry

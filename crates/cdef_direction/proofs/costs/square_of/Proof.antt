@@ -1,12 +1,10 @@
--- `cdef_direction::square_of` meets its contract.
+-- `cdef_direction::costs::square_of` meets its contract.
 use native.Mathlib.Omega.{arith}
 use mathlib.Core.Path.{_≡_, ap}
 use lib.IntN.{natAbs}
 use Rattle.cdef_direction.proofs.Squares.{square-low, wide-fits, product-fits, product-back}
 use Rattle.cdef_direction.proofs.costs.square_of.Statement.{statement}
 use Rattle.cdef_direction.proofs.costs.square_of.Tie as tie
-use Rattle.cdef_direction.proofs.costs.square_of.Reads as reads
-use Rattle.cdef_direction.proofs.costs.square_of.Lts as lts
 
 cast-w : tie.Need-cast-w
 cast-w c = wide-fits _ (c .fits .v)

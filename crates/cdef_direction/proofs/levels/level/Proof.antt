@@ -1,10 +1,8 @@
--- `cdef_direction::level` meets its contract.
+-- `cdef_direction::levels::level` meets its contract.
 use Rattle.cdef_direction.proofs.Less128.{level-fits, level-back}
 use borrow.Author.Needs.{needs}
 use Rattle.cdef_direction.proofs.levels.level.Statement.{statement}
 use Rattle.cdef_direction.proofs.levels.level.Tie as tie
-use Rattle.cdef_direction.proofs.levels.level.Reads as reads
-use Rattle.cdef_direction.proofs.levels.level.Lts as lts
 
 cast-result : tie.Need-cast-result
 cast-result c = search needs

@@ -1,4 +1,4 @@
--- `cdef_direction::levels_edge` meets its contract.
+-- `cdef_direction::levels::levels_edge` meets its contract.
 use mathlib.Core.Path.{_≡_, refl, sym, ap, _∙_}
 use Prim.Native.Nat.{ℕ, _+_, _-_, _*_, _/_, _%_, _^_, _≤_, _<_, min}
 use native.Mathlib.Omega.{arith}
@@ -11,10 +11,6 @@ use Rattle.cdef_direction.specs.Lines.{blockOf}
 use Rattle.cdef_direction.proofs.Places.{place-low, plane-low, edge-is, read-low, stored-is}
 use Rattle.cdef_direction.proofs.levels.levels_edge.Statement.{statement}
 use Rattle.cdef_direction.proofs.levels.levels_edge.Tie as tie
-use Rattle.cdef_direction.proofs.levels.levels_edge.Reads as reads
-use Rattle.cdef_direction.proofs.levels.levels_edge.Lts as lts
-use Rattle.cdef_direction.proofs.levels.least.Reads as least-reads
-use Rattle.cdef_direction.proofs.levels.level.Reads as level-reads
 
 abbrev Inv-loop2 : tie.InvT-loop2
 Inv-loop2 plane width height x y depth shift b₀ i row to j₀ b j = (take (to + j) b ≡ upto (λ (k : ℕ). directionInput (record { samples = plane; width = width; height = height }) depth y x (k / 8) (k % 8)) (to + j)) × (length b ≡ 64) × (j ≤ 8)
@@ -30,7 +26,7 @@ abbrev μ-loop : tie.MeasureT-loop
 
 -- the place of a turn
 row-is : (c : tie.After-least Inv-loop2 μ-loop2 Inv-loop μ-loop) → let a = c .before .before .before .before .args in c .least .result * a .width ≡ min (a .y + c .before .before .loop .i) (a .height - 1) * a .width
-row-is c = rw (c .least .ensures)
+row-is c = ap (λ (n : ℕ). n * c .before .before .before .before .args .width) (c .least .ensures)
 
 place-is : (c : tie.After-least2 Inv-loop2 μ-loop2 Inv-loop μ-loop) → let a = c .before .before .before .before .before .before .before .args in c .before .before .before .least .result * a .width + c .least2 .result ≡ min (a .y + c .before .before .before .before .before .loop .i) (a .height - 1) * a .width + min (a .x + c .before .before .loop2 .j) (a .width - 1)
 place-is c = rw (c .before .before .before .least .ensures, c .least2 .ensures)

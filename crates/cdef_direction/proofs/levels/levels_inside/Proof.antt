@@ -1,4 +1,4 @@
--- `cdef_direction::levels_inside` meets its contract.
+-- `cdef_direction::levels::levels_inside` meets its contract.
 use mathlib.Core.Path.{_≡_, refl, sym, ap, _∙_}
 use Prim.Native.Nat.{ℕ, _+_, _-_, _*_, _/_, _%_, _^_, _≤_, _<_, min}
 use native.Mathlib.Omega.{arith}
@@ -11,9 +11,6 @@ use Rattle.cdef_direction.specs.Lines.{blockOf}
 use Rattle.cdef_direction.proofs.Places.{place-low, plane-low, inside-is, read-low, stored-is}
 use Rattle.cdef_direction.proofs.levels.levels_inside.Statement.{statement}
 use Rattle.cdef_direction.proofs.levels.levels_inside.Tie as tie
-use Rattle.cdef_direction.proofs.levels.levels_inside.Reads as reads
-use Rattle.cdef_direction.proofs.levels.levels_inside.Lts as lts
-use Rattle.cdef_direction.proofs.levels.level.Reads as level-reads
 
 abbrev Inv-loop2 : tie.InvT-loop2
 Inv-loop2 plane width height x y depth shift b₀ i at to j₀ b j = (take (to + j) b ≡ upto (λ (k : ℕ). directionInput (record { samples = plane; width = width; height = height }) depth y x (k / 8) (k % 8)) (to + j)) × (length b ≡ 64) × (j ≤ 8)

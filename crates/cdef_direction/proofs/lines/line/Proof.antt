@@ -1,4 +1,4 @@
--- `cdef_direction::line` meets its contract.
+-- `cdef_direction::lines::line` meets its contract.
 use Prim.Native.Nat.{_+_, _*_}
 use native.Mathlib.Omega.{arith}
 use lib.IntN.{_+ℤ_}
@@ -8,10 +8,6 @@ use Rattle.cdef_direction.specs.LinesLaws.{pair-size}
 use borrow.Author.Needs.{needs}
 use Rattle.cdef_direction.proofs.lines.line.Statement.{statement}
 use Rattle.cdef_direction.proofs.lines.line.Tie as tie
-use Rattle.cdef_direction.proofs.lines.line.Reads as reads
-use Rattle.cdef_direction.proofs.lines.line.Lts as lts
-use Rattle.cdef_direction.proofs.lines.pair.Reads as pair-reads
-use Rattle.cdef_sample.proofs.add.Reads as add-reads
 
 p1 : (c : tie.After-pair) → let a = c .before .args in Is (c .pair .result) (pairAt (a .z .now) (a .k) (a .one)) 256
 p1 c = record { is = c .pair .ensures; small = pair-size _ _ _ (c .before .pre .1) }

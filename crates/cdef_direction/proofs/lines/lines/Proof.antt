@@ -1,4 +1,4 @@
--- `cdef_direction::lines` meets its contract.
+-- `cdef_direction::lines::lines` meets its contract.
 use mathlib.Core.Path.{_≡_, refl, sym}
 use Prim.Native.Nat.{ℕ, _+_, _-_, _≤_}
 use native.Mathlib.Omega.{arith}
@@ -9,9 +9,6 @@ use Rattle.cdef_direction.specs.Lines.{lineAt, linesOf}
 use Rattle.cdef_direction.specs.LinesLaws.{line-size}
 use Rattle.cdef_direction.proofs.lines.lines.Statement.{statement}
 use Rattle.cdef_direction.proofs.lines.lines.Tie as tie
-use Rattle.cdef_direction.proofs.lines.lines.Reads as reads
-use Rattle.cdef_direction.proofs.lines.lines.Lts as lts
-use Rattle.cdef_direction.proofs.lines.line.Reads as line-reads
 
 abbrev Inv-loop : tie.InvT-loop
 Inv-loop z first one two l₀ n₀ l n = (take n l ≡ upto (λ (n : ℕ). lineAt z (first + n) one two) n) × (length l ≡ 16) × (n ≤ 16)

@@ -1,4 +1,4 @@
--- `cdef_direction::pad` meets its contract.
+-- `cdef_direction::lines::pad` meets its contract.
 use mathlib.Core.Path.{_≡_, sym, _∙_}
 use Prim.Native.Nat.{_+_, _-_, _*_}
 use native.Mathlib.Omega.{arith}
@@ -9,8 +9,6 @@ use Rattle.cdef_direction.specs.LinesLaws.{pad-left, pad-right, pad-in}
 use borrow.Author.Needs.{needs}
 use Rattle.cdef_direction.proofs.lines.pad.Statement.{statement}
 use Rattle.cdef_direction.proofs.lines.pad.Tie as tie
-use Rattle.cdef_direction.proofs.lines.pad.Reads as reads
-use Rattle.cdef_direction.proofs.lines.pad.Lts as lts
 
 returns : tie.Need-returns
 returns c = sym (pad-left _ _ _ (c .if1 .taken))

@@ -1,4 +1,4 @@
--- `cdef_direction::padded` meets its contract.
+-- `cdef_direction::lines::padded` meets its contract.
 use mathlib.Core.Path.{_≡_, refl, sym, _∙_}
 use Prim.Native.Nat.{ℕ, _+_, _-_, _*_, _/_, _%_, _≤_}
 use native.Mathlib.Omega.{arith}
@@ -11,9 +11,6 @@ use Rattle.cdef_direction.specs.Lines.{padAt, paddedOf}
 use Rattle.cdef_direction.specs.LinesLaws.{pad-size}
 use Rattle.cdef_direction.proofs.lines.padded.Statement.{statement}
 use Rattle.cdef_direction.proofs.lines.padded.Tie as tie
-use Rattle.cdef_direction.proofs.lines.padded.Reads as reads
-use Rattle.cdef_direction.proofs.lines.padded.Lts as lts
-use Rattle.cdef_direction.proofs.lines.pad.Reads as pad-reads
 
 abbrev Inv-loop2 : tie.InvT-loop2
 Inv-loop2 b z₀ i to j₀ z j = (take (to + j) z ≡ upto (λ (k : ℕ). padAt b (k / 24) (k % 24)) (to + j)) × (length z ≡ 192) × (j ≤ 24)

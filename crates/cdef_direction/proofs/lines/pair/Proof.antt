@@ -1,4 +1,4 @@
--- `cdef_direction::pair` meets its contract.
+-- `cdef_direction::lines::pair` meets its contract.
 use mathlib.Core.Path.{refl}
 use Prim.Native.Nat.{ℕ, _+_}
 use native.Mathlib.Omega.{arith}
@@ -9,9 +9,6 @@ use Rattle.cdef_direction.specs.Lines.{pairAt}
 use borrow.Author.Needs.{needs}
 use Rattle.cdef_direction.proofs.lines.pair.Statement.{statement}
 use Rattle.cdef_direction.proofs.lines.pair.Tie as tie
-use Rattle.cdef_direction.proofs.lines.pair.Reads as reads
-use Rattle.cdef_direction.proofs.lines.pair.Lts as lts
-use Rattle.cdef_sample.proofs.add.Reads as add-reads
 
 -- what was read
 at : (s : tie.Start) (k : ℕ) → Is (getD (s .args .z .now) k (pos 0)) (getD (s .args .z .now) k (pos 0)) 128

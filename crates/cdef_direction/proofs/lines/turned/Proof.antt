@@ -1,4 +1,4 @@
--- `cdef_direction::turned` meets its contract.
+-- `cdef_direction::lines::turned` meets its contract.
 use mathlib.Core.Path.{_≡_, refl, sym, _∙_}
 use Prim.Native.Nat.{ℕ, _+_, _-_, _*_, _/_, _%_, _≤_}
 use native.Mathlib.Omega.{arith}
@@ -11,8 +11,6 @@ use Rattle.cdef_sample.proofs.Sums16.{back}
 use Rattle.cdef_direction.specs.Lines.{turnedOf}
 use Rattle.cdef_direction.proofs.lines.turned.Statement.{statement}
 use Rattle.cdef_direction.proofs.lines.turned.Tie as tie
-use Rattle.cdef_direction.proofs.lines.turned.Reads as reads
-use Rattle.cdef_direction.proofs.lines.turned.Lts as lts
 
 abbrev Inv-loop2 : tie.InvT-loop2
 Inv-loop2 b t₀ i to j₀ t j = (take (to + j) t ≡ upto (λ (k : ℕ). getD b (k % 8 * 8 + k / 8) (pos 0)) (to + j)) × (length t ≡ 64) × (j ≤ 8)

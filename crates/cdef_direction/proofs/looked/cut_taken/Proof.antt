@@ -1,4 +1,4 @@
--- `cdef_direction::cut_taken` meets its contract.
+-- `cdef_direction::looked::cut_taken` meets its contract.
 use mathlib.Core.Path.{_≡_, sym, ap, _∙_}
 use mathlib.Core.Bool.{Bool}
 use Prim.Native.Nat.{ℕ, _+_, _-_, _*_, _/_, _^_, _≤_, _<_, min}
@@ -13,10 +13,6 @@ use Rattle.cdef_direction.specs.LookedLaws.{rows-none, rows-more, cut-bi
 use Rattle.cdef_direction.proofs.Places.{place-low, plane-low}
 use Rattle.cdef_direction.proofs.looked.cut_taken.Statement.{statement}
 use Rattle.cdef_direction.proofs.looked.cut_taken.Tie as tie
-use Rattle.cdef_direction.proofs.looked.cut_taken.Reads as reads
-use Rattle.cdef_direction.proofs.looked.cut_taken.Lts as lts
-use Rattle.cdef_direction.proofs.levels.least.Reads as least-reads
-use Rattle.cdef_direction.proofs.looked.row_bits.Reads as row-bits-reads
 
 abbrev Inv-loop : tie.InvT-loop
 Inv-loop plane width height x y depth cols rows bits₀ i₀ bits i = (bits ≡ orRows plane width y x cols i) × (i ≤ rows)

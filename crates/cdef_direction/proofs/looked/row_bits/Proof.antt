@@ -1,4 +1,4 @@
--- `cdef_direction::row_bits` meets its contract.
+-- `cdef_direction::looked::row_bits` meets its contract.
 use mathlib.Core.Path.{_≡_, ap, _∙_}
 use Prim.Native.Nat.{_+_, _-_, _≤_}
 use native.Mathlib.Omega.{arith}
@@ -8,8 +8,6 @@ use Rattle.cdef_direction.specs.Looked.{orRow}
 use Rattle.cdef_direction.specs.LookedLaws.{row-none, row-more}
 use Rattle.cdef_direction.proofs.looked.row_bits.Statement.{statement}
 use Rattle.cdef_direction.proofs.looked.row_bits.Tie as tie
-use Rattle.cdef_direction.proofs.looked.row_bits.Reads as reads
-use Rattle.cdef_direction.proofs.looked.row_bits.Lts as lts
 
 abbrev Inv-loop : tie.InvT-loop
 Inv-loop plane at n bits₀ j₀ bits j = (bits ≡ orRow plane at j) × (j ≤ n)

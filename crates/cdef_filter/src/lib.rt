@@ -1,5 +1,6 @@
 // The block filter: a block of a plane filtered into rows of a destination.
 pub mod asked; // asked.rt: the questions of the block filter alone
+
 ghost use mathlib.Core.Path.{_≡_};
 ghost use Prim.Native.Nat.{ℕ, _+_, _-_, _*_, _≤_, _<_, min, max};
 ghost use lib.ListN.{length, getD};

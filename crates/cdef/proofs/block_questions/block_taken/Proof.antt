@@ -15,11 +15,12 @@ use Rattle.cdef.proofs.block_questions.block_taken.Lts as lts
 use Rattle.cdef.proofs.block_questions.block_side_taken.Reads as block-side-taken-reads
 use Rattle.cdef.proofs.questions.corner_taken.Reads as corner-taken-reads
 
-
 corner-yes : (c : tie.Else1) (s : List ℕ) → let a = c .before .before .args in cornerTaken (record { samples = s; width = a .width; height = a .height }) (a .b .y) (a .b .x) ≡ true
 corner-yes c s = yes-so (c .before .corner-taken .ensures s) (c .if1 .left)
+
 side-yes : (c : tie.Else2) → blockSideTaken (c .before .before .before .before .args .b .width) ≡ true
 side-yes c = yes-so (c .before .block-side-taken .ensures) (c .if2 .left)
+
 corner-taken-requires : tie.Need-corner-taken-requires
 corner-taken-requires c κs = search needs
 

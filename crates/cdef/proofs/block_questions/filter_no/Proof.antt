@@ -19,17 +19,21 @@ use Rattle.cdef.proofs.block_questions.plane_no.Reads as plane-no-reads
 use Rattle.cdef_filter.proofs.asked.params_taken.Reads as params-taken-reads
 use Rattle.cdef_filter.proofs.asked.rows_taken.Reads as rows-taken-reads
 
-
 abbrev planeOf : tie.Start → Plane
 planeOf s = record { samples = s .args .plane .now; width = s .args .width; height = s .args .height }
+
 zero-so : (c : tie.Else1) → firstNo (planeFirst (planeOf (c .before .before .before .before)) (c .before .before .before .before .args .q .depth)) ≡ 0
 zero-so c = sym (c .before .plane-no .ensures) ∙ c .if1 .left
+
 facts : (c : tie.Else1) → PlaneFacts (planeOf (c .before .before .before .before)) (c .before .before .before .before .args .q .depth)
 facts c = plane-yes (planeOf (c .before .before .before .before)) (c .before .before .before .before .args .q .depth) (zero-so c)
+
 block-yes : (c : tie.Else2) → blockTaken (planeOf (c .before .before .before .before .before .before)) (c .before .before .before .before .before .before .args .b) ≡ true
 block-yes c = yes-so (c .before .block-taken .ensures (c .before .before .before .before .before .before .args .plane .now)) (c .if2 .left)
+
 rows-yes : (c : tie.Else3) → rowsTaken (planeOf (c .before .before .before .before .before .before .before .before)) (c .before .before .before .before .before .before .before .before .args .b) (c .before .before .before .before .before .before .before .before .args .y0) (c .before .before .before .before .before .before .before .before .args .dst .now) ≡ true
 rows-yes c = yes-so (c .before .rows-taken .ensures (c .before .before .before .before .before .before .before .before .args .plane .now)) (c .if3 .left)
+
 plane-no-requires : tie.Need-plane-no-requires
 plane-no-requires c κs = search needs
 

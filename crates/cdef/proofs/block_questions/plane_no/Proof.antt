@@ -13,13 +13,15 @@ use Rattle.cdef.proofs.questions.depth_taken.Reads as depth-taken-reads
 use Rattle.cdef.proofs.questions.full.Reads as full-reads
 use Rattle.cdef.proofs.questions.side_taken.Reads as side-taken-reads
 
-
 depth-yes : (c : tie.Else1) → depthTaken (c .before .before .before .args .depth) ≡ true
 depth-yes c = yes-so (c .before .depth-taken .ensures) (c .if1 .left)
+
 width-yes : (c : tie.Else2) → sideTaken (c .before .before .before .before .before .args .width) ≡ true
 width-yes c = yes-so (c .before .side-taken .ensures) (c .if2 .left)
+
 height-yes : (c : tie.Else3) → sideTaken (c .before .before .before .before .before .before .before .args .height) ≡ true
 height-yes c = yes-so (c .before .side-taken2 .ensures) (c .if3 .left)
+
 depth-taken-requires : tie.Need-depth-taken-requires
 depth-taken-requires c κs = search needs
 

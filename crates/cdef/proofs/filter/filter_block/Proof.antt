@@ -30,20 +30,25 @@ use Rattle.cdef_filter.proofs.filter_window.Reads as filter-window-reads
 use Rattle.cdef_window.proofs.window.Reads as window-reads
 use Rattle.cdef_window.proofs.window_taken.Reads as window-taken-reads
 
-
 abbrev planeOf : tie.Start → Plane
 planeOf s = record { samples = s .args .plane .now; width = s .args .width; height = s .args .height }
+
 zero-so : (c : tie.Else1) → let s = c .before .before .before .before .before in firstNo (filterFirst (planeOf s) (s .args .block) (s .args .params) (s .args .y0) (s .args .dst .now)) ≡ 0
 zero-so c = sym (c .before .filter-no .ensures) ∙ c .if1 .left
+
 facts : (c : tie.Else1) → let s = c .before .before .before .before .before in FilterFacts (planeOf s) (s .args .block) (s .args .params) (s .args .y0) (s .args .dst .now)
 facts c = let s = c .before .before .before .before .before in filter-facts (planeOf s) (s .args .block) (s .args .params) (s .args .y0) (s .args .dst .now) (zero-so c)
+
 -- the window's answer is question 9's
 window-asked : (p : Plane) (b : Block) (q : FilterParams) (y0 : ℕ) (d : List ℕ) (w : List ℕ) → FilterFacts p b q y0 d → w ≡ upto (windowAt p b) 144 → every 144 (λ k. sampleOrMark (q .depth) (getD w k 0)) ≡ widenedTaken p (q .depth) b
 window-asked p b q y0 d w f e = let g = f .block in rw e (window-taken-is p b (q .depth) (g .x-in) (g .y-in) (g .bw) (g .bh))
+
 held-so : (p : Plane) (b : Block) (q : FilterParams) (y0 : ℕ) (d : List ℕ) → FilterFacts p b q y0 d → widenedTaken p (q .depth) b ≡ true → Held (upto (windowAt p b) 144)
 held-so p b q y0 d f t = let g = f .block in window-held p b (q .depth) (g .x-in) (g .y-in) (g .bw) (g .bh) (f .plane .flat) (window-taken-is p b (q .depth) (g .x-in) (g .y-in) (g .bw) (g .bh) ∙ t)
+
 taken-so : (c : tie.Else2) → let s = c .before .before .before .before .before .before .before .before .before in widenedTaken (planeOf s) (s .args .params .depth) (s .args .block) ≡ true
 taken-so c = let s = c .before .before .before .before .before .before .before .before .before in yes-so (c .before .window-taken .ensures ∙ window-asked (planeOf s) (s .args .block) (s .args .params) (s .args .y0) (s .args .dst .now) _ (facts (c .before .before .before .before)) (c .before .before .before .window .ensures)) (c .if2 .left)
+
 filter-no-requires : tie.Need-filter-no-requires
 filter-no-requires c κs = search needs
 

@@ -15,7 +15,6 @@ use Rattle.cdef_filter.proofs.asked.params_taken.Tie as tie
 use Rattle.cdef_filter.proofs.asked.params_taken.Reads as reads
 use Rattle.cdef_filter.proofs.asked.params_taken.Lts as lts
 
-
 -- the shifted limit fits
 limit : (n d : ℕ) → n ≤ 15 → d ≤ 12 → (n * 2 ^ (d - 8)) % 2 ^ 32 ≡ n * 2 ^ (d - 8)
 limit n d hn hd =
@@ -23,19 +22,24 @@ limit n d hn hd =
     let l : 2 ^ (d - 8) ≤ 2 ^ 4 = pow-mono {i = d - 8} {j = 4} k in
     let m : n * 2 ^ (d - 8) ≤ 15 * 2 ^ 4 = mul-le-mul hn l in
     omega arith
+
 module _ (q : FilterParams) where
   no-pri : 15 * 2 ^ (q .depth - 8) < q .pri → false ≡ paramsTaken q
   unfolding paramsTaken
   no-pri h = rw (lt-leb (q .pri) (15 * 2 ^ (q .depth - 8)) h)
+
   no-sec : q .pri ≤ 15 * 2 ^ (q .depth - 8) → 4 * 2 ^ (q .depth - 8) < q .sec → false ≡ paramsTaken q
   unfolding paramsTaken
   no-sec h g = rw (le-leb (q .pri) (15 * 2 ^ (q .depth - 8)) h, lt-leb (q .sec) (4 * 2 ^ (q .depth - 8)) g)
+
   no-dir : q .pri ≤ 15 * 2 ^ (q .depth - 8) → q .sec ≤ 4 * 2 ^ (q .depth - 8) → 8 ≤ q .dir → false ≡ paramsTaken q
   unfolding paramsTaken
   no-dir h g k = rw (le-leb (q .pri) (15 * 2 ^ (q .depth - 8)) h, le-leb (q .sec) (4 * 2 ^ (q .depth - 8)) g, le-ltb (q .dir) 8 k)
+
   rest : q .pri ≤ 15 * 2 ^ (q .depth - 8) → q .sec ≤ 4 * 2 ^ (q .depth - 8) → q .dir < 8 → leb (q .damping .0) 31 ≡ paramsTaken q
   unfolding paramsTaken workingTaken
   rest h g k = rw (le-leb (q .pri) (15 * 2 ^ (q .depth - 8)) h, le-leb (q .sec) (4 * 2 ^ (q .depth - 8)) g, lt-ltb (q .dir) 8 k)
+
 sub-shift : tie.Need-sub-shift
 sub-shift c = search needs
 

@@ -17,14 +17,15 @@ use Rattle.cdef_filter.proofs.asked.rows_taken.Tie as tie
 use Rattle.cdef_filter.proofs.asked.rows_taken.Reads as reads
 use Rattle.cdef_filter.proofs.asked.rows_taken.Lts as lts
 
-
 module _ (d s : List ℕ) (y0 w h : ℕ) (b : Block) where
   no-rows : (length d % w ≡ 0 → ⊥) → false ≡ rowsTaken (record { samples = s; width = w; height = h }) b y0 d
   unfolding rowsTaken
   no-rows n = rw (ne-eqb (length d % w) 0 n)
+
   no-start : length d % w ≡ 0 → b .y < y0 → false ≡ rowsTaken (record { samples = s; width = w; height = h }) b y0 d
   unfolding rowsTaken
   no-start e l = rw (eq-eqb (length d % w) 0 e, lt-leb y0 (b .y) l)
+
   by-end : length d % w ≡ 0 → y0 ≤ b .y → (n : ℕ) → n ≡ min (b .y + b .height) h → y0 ≤ n → leb (n - y0) (length d / w) ≡ rowsTaken (record { samples = s; width = w; height = h }) b y0 d
   unfolding rowsTaken
   by-end e l n f g = rw (eq-eqb (length d % w) 0 e, le-leb y0 (b .y) l, ← f) (go (decLe (n - y0) (length d / w)))
@@ -32,8 +33,10 @@ module _ (d s : List ℕ) (y0 w h : ℕ) (b : Block) where
       go : Dec (n - y0 ≤ length d / w) → leb (n - y0) (length d / w) ≡ leb n (y0 + length d / w)
       go (yes k) = rw (le-leb (n - y0) (length d / w) k, le-leb n (y0 + length d / w) (omega arith))
       go (no k) = rw (lt-leb (n - y0) (length d / w) (omega arith), lt-leb n (y0 + length d / w) (omega arith))
+
 end-is : (c : tie.After-row-known) → let a = c .before .before .before .before .before .before .args in c .before .if3 .end ≡ min (a .b .y + a .b .height) (a .height)
 end-is c = ⊎-elim (λ w. omega arith) (λ w. omega arith) (c .before .if3 .came)
+
 rem-if1 : tie.Need-rem-if1
 rem-if1 c = search needs
 

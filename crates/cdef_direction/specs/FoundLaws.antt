@@ -8,8 +8,8 @@ use lib.Dec.{eqb, ltb}
 use lib.ListN.{getD}
 use lib.IntN.{ℤ, pos, natAbs}
 use Rattle.cdef_spec.specs.Words.{sumℤ, for, _>>_}
-use Rattle.cdef_spec.specs.DirectionLaws.{cost-high}
-use Rattle.cdef_spec.specs.DirectionLocal.{sumℤ-same}
+use Rattle.cdef_spec.specs.DirectionLaws.{cost-high, direction-low, variance-high}
+use Rattle.cdef_spec.specs.DirectionLocal.{sumℤ-same, direction-same, variance-same}
 use Rattle.cdef_spec.specs.Standard.{lineOf, partial, square, costStraight, costDiagonal, costBetween, cost, Best, better, best, direction, variance}
 use Rattle.cdef_sample.specs.Upto.{upto, getD-upto, upto-ext}
 use Rattle.cdef_direction.specs.declared.Partials.{Partials}
@@ -107,6 +107,12 @@ module _ (x : ℕ → ℕ → ℤ) (small : (i j : ℕ) → i < 8 → j < 8 → 
 
   pub costs-fit : CostsFit (partialsOf x)
   costs-fit = record { all = λ d h. rw (partials-near, costs-are near d h) (cost-high near near-small d h) }
+
+  pub direction-below : direction x < 8
+  direction-below = rw (direction-same x near near-same) (direction-low near near-small)
+
+  pub variance-below : variance x ≤ 860160
+  variance-below = rw (variance-same x near near-same) (variance-high near near-small)
 
 -- ---- the best
 

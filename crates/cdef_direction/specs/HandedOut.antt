@@ -1,14 +1,13 @@
 -- What the direction call hands out passes question 8 later: a direction below 8, a variance up to 860,160.
-use mathlib.Core.Path.{_≡_, sym, ap, _∙_}
+use mathlib.Core.Path.{_≡_}
 use mathlib.Core.Bool.{true}
-use mathlib.Core.List.{List, [], _∷_}
-use Prim.Native.Nat.{ℕ, _≤_, _<_}
+use Prim.Native.Nat.{ℕ, _<_}
 use native.Mathlib.Omega.{arith}
 use borrow.Author.Tests.{lt-ltb, le-leb, ltb-true}
 use lib.Dec.{ltb}
 use Rattle.cdef_spec.specs.Document01.{Plane, directionInput, blockDirection, blockVariance}
 use Rattle.cdef_spec.specs.WordsLaws.{and-both}
-use Rattle.cdef_spec.specs.Questions.{ask, depthTaken, sideTaken, full, cornerTaken, cutTaken, varianceTaken}
+use Rattle.cdef_spec.specs.Questions.{ask, depthTaken, cornerTaken, cutTaken, varianceTaken}
 use Rattle.cdef_spec.specs.QuestionLaws.{first-yes, depth-high}
 use Rattle.cdef_spec.specs.BlockCalls.{directionNo}
 use Rattle.cdef_direction.specs.LookedLaws.{input-small}

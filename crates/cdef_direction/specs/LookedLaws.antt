@@ -1,5 +1,5 @@
 -- The samples that are looked at are below 2 ^ depth where their bits are, and so is each sample that the direction process takes.
-use mathlib.Core.Path.{_≡_, refl, sym, ap, _∙_}
+use mathlib.Core.Path.{_≡_, refl, ap, _∙_}
 use mathlib.Core.Bool.{Bool, true, false, cond, _&&_}
 use mathlib.Core.List.{List}
 use Prim.Native.Nat.{ℕ, zero, suc, _+_, _-_, _*_, _/_, _^_, _≤_, _<_, min}
@@ -8,12 +8,12 @@ use native.Mathlib.Nat.{div-lt-iff-lt-mul}
 use native.Mathlib.Numerals.{add-one}
 use native.Mathlib.Omega.{arith}
 use borrow.Author.Tests.{lt-ltb, le-ltb, ltb-true, eq-eqb, ne-eqb}
-use lib.Bits.{bitOr, bitAnd, or-lt, or-comm, or-add-and, and-le-l, and-le-r}
+use lib.Bits.{bitOr, or-lt, or-add-and, and-le-l, and-le-r}
 use lib.Dec.{ltb, eqb}
 use lib.ListN.{getD}
-use lib.IntN.{ℤ, pos, negsuc, natAbs, _-ℤ_}
+use lib.IntN.{pos, negsuc, natAbs, _-ℤ_}
 use lib.Pow.{pow-pos, pow-add}
-use Rattle.cdef_spec.specs.Words.{every, _>>_}
+use Rattle.cdef_spec.specs.Words.{every}
 use Rattle.cdef_spec.specs.WordsLaws.{every-at}
 use Rattle.cdef_spec.specs.Document01.{Plane, edgeSample, directionInput}
 use Rattle.cdef_spec.specs.Questions.{sampleTaken, lookedAt, cutTaken}

@@ -1,5 +1,5 @@
 -- `cdef_direction::cdef_direction` meets its contract.
-use mathlib.Core.Path.{_≡_, ap, _∙_}
+use mathlib.Core.Path.{ap, _∙_}
 use Prim.Native.Nat.{ℕ}
 use lib.IntN.{ℤ}
 use Rattle.cdef_spec.specs.Document01.{directionInput, blockDirection, blockVariance}

@@ -1,5 +1,4 @@
 -- `cdef_direction::cdef_direction_partials` meets its contract.
-use mathlib.Core.Path.{_≡_}
 use Prim.Native.Nat.{ℕ}
 use native.Mathlib.Omega.{arith}
 use lib.IntN.{ℤ}

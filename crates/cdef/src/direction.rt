@@ -1,6 +1,5 @@
 // The call for the direction of a block.
 ghost use mathlib.Core.Path.{_≡_};
-ghost use Rattle.cdef_spec.specs.Document01.{Plane};
 ghost use Rattle.cdef_spec.specs.Answers.{readDirection};
 ghost use Rattle.cdef_spec.specs.BlockCalls.{directionOutcome};
 use crate::questions;

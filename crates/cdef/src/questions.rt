@@ -3,7 +3,6 @@ ghost use mathlib.Core.Path.{_≡_};
 ghost use mathlib.Core.Bool.{_&&_};
 ghost use mathlib.Core.List.{List};
 ghost use Prim.Native.Nat.{ℕ};
-ghost use Rattle.cdef_spec.specs.Document01.{Plane};
 ghost use Rattle.cdef_spec.specs.Questions.{depthTaken, sideTaken, full, cornerTaken, strengthTaken, workingTaken, varianceTaken, indexTaken, differenceTaken};
 use cdef_spec::WorkingDamping;
 

@@ -1,7 +1,6 @@
 // The call for the direction of a block.
 ghost use mathlib.Core.Path.{_≡_};
-ghost use Rattle.cdef_spec.specs.Document01.{Plane};
-ghost use Rattle.cdef_spec.specs.Answers.{numberOf, DirectionFound};
+ghost use Rattle.cdef_spec.specs.Answers.{numberOf};
 ghost use Rattle.cdef_spec.specs.BlockCalls.{directionOutcome};
 ghost use Rattle.cdef_c.specs.Values.{valueOr};
 use cdef_spec::DirectionAnswer;

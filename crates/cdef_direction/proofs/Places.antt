@@ -1,20 +1,19 @@
 -- The places of a block in its plane, and what a turn of the loops reads and stores.
-use mathlib.Core.Path.{_≡_, refl, sym, ap, _∙_}
+use mathlib.Core.Path.{_≡_}
 use mathlib.Core.Bool.{true}
 use mathlib.Core.List.{List}
 use Prim.Native.Nat.{ℕ, _+_, _-_, _*_, _/_, _%_, _^_, _≤_, _<_, min}
 use native.Mathlib.Nat.{mul-comm, mul-le-mul}
 use native.Mathlib.Omega.{arith}
 use lib.Arith.{digits-lt}
-use lib.IntN.{ℤ, pos, natAbs, _-ℤ_}
+use lib.IntN.{ℤ, pos, _-ℤ_}
 use lib.ListN.{getD}
 use mir.Syntax.{w16}
 use mir.Val.{toZ, ofZ}
 use Rattle.cdef_spec.specs.Document01.{Plane, edgeSample, directionInput}
 use Rattle.cdef_spec.specs.Questions.{cutTaken}
 use Rattle.cdef_sample.proofs.Sums16.{back}
-use Rattle.cdef_direction.specs.LookedLaws.{shifted-low}
-use Rattle.cdef_direction.proofs.Less128.{less-128}
+use Rattle.cdef_direction.specs.LookedLaws.{less-128, shifted-low}
 
 pub place-low : (w h r c : ℕ) → r < h → c < w → r * w + c < w * h
 place-low w h r c hr hc = rw (mul-comm w h) (digits-lt {q = r} {m = h} {r = c} {c = w} hr hc)
@@ -50,8 +49,3 @@ module _ (s : List ℕ) (w h d y x : ℕ) where
         let a : (i * 8 + j) / 8 ≡ i = omega arith in
         let b : (i * 8 + j) % 8 ≡ j = omega arith in
         rw (q, back (pos (v / 2 ^ (d - 8)) -ℤ pos 128) (omega (arith, less-128 (v / 2 ^ (d - 8)) read-low)), a, b, e)
-
-module _ (s : List ℕ) (w h d y x : ℕ) (hy : y < h) (hx : x < w) (cut : cutTaken (sized s w h) d y x ≡ true) (hd : 8 ≤ d) where
-  pub input-small : (i j : ℕ) → i < 8 → j < 8 → natAbs (directionInput (sized s w h) d y x i j) ≤ 128
-  unfolding directionInput
-  input-small i j hi hj = less-128 _ (shifted-low s w h d y x hy hx cut hd i j hi hj)

@@ -4,7 +4,7 @@ use mathlib.Core.List.{List, [], _∷_}
 use lib.ListN.{getD}
 use lib.IntN.{ℤ, pos}
 use Rattle.cdef_spec.specs.Words.{_>>_}
-use Rattle.cdef_spec.specs.Standard.{costStraight, costDiagonal, costBetween, Best, best}
+use Rattle.cdef_spec.specs.Standard.{costStraight, costDiagonal, costBetween, best}
 use Rattle.cdef_direction.specs.declared.Partials.{Partials}
 use Rattle.cdef_direction.specs.declared.Found.{Found}
 

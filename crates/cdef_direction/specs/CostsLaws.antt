@@ -1,18 +1,14 @@
 -- Laws of the costs and of the best: as plain sums, and from the line sums of a block.
-use mathlib.Core.Path.{_≡_, refl, sym, ap, _∙_}
-use mathlib.Core.Bool.{Bool, true, false, cond}
-use mathlib.Core.List.{List, [], _∷_}
+use mathlib.Core.Path.{_≡_, refl, _∙_}
+use mathlib.Core.List.{List}
 use Prim.Native.Nat.{ℕ, zero, suc, _+_, _-_, _*_, _%_, _≤_, _<_}
 use native.Mathlib.Numerals.{add-one}
 use native.Mathlib.Omega.{arith}
 use borrow.Author.Tests.{lt-ltb, le-ltb}
-use lib.Dec.{ltb}
 use lib.ListN.{getD}
-use lib.IntN.{ℤ, pos}
+use lib.IntN.{ℤ}
 use Rattle.cdef_spec.specs.Words.{sum, for, _>>_}
-use Rattle.cdef_spec.specs.WordsLaws.{sum-same}
-use Rattle.cdef_spec.specs.Standard.{square, Div-Table, divBy, costStraight, costDiagonal, costBetween, Best, better, best}
-use Rattle.cdef_direction.specs.declared.Found.{Found}
+use Rattle.cdef_spec.specs.Standard.{square, Div-Table, costStraight, costDiagonal, costBetween, Best, better, best}
 use Rattle.cdef_direction.specs.Costs.{bestOf}
 
 -- ---- the costs as plain sums

@@ -1,19 +1,16 @@
 -- From the line sums of a block to its direction and variance: the costs are the standard's and fit, and so the best is.
 use mathlib.Core.Path.{_≡_, refl, sym, ap, _∙_}
-use mathlib.Core.Bool.{Bool, true, false, cond}
-use mathlib.Core.List.{List, [], _∷_}
-use Prim.Native.Nat.{ℕ, zero, suc, _+_, _-_, _*_, _%_, _≤_, _<_, min}
+use mathlib.Core.Bool.{cond}
+use Prim.Native.Nat.{ℕ, zero, suc, _+_, _%_, _≤_, _<_, min}
 use native.Mathlib.Omega.{arith}
-use lib.Dec.{eqb, ltb}
+use lib.Dec.{eqb}
 use lib.ListN.{getD}
 use lib.IntN.{ℤ, pos, natAbs}
-use Rattle.cdef_spec.specs.Words.{sumℤ, for, _>>_}
-use Rattle.cdef_spec.specs.DirectionLaws.{cost-high}
-use Rattle.cdef_spec.specs.DirectionLocal.{sumℤ-same}
-use Rattle.cdef_spec.specs.Standard.{lineOf, partial, square, costStraight, costDiagonal, costBetween, cost, Best, better, best, direction, variance}
+use Rattle.cdef_spec.specs.Words.{for}
+use Rattle.cdef_spec.specs.DirectionLaws.{cost-high, direction-low, variance-high}
+use Rattle.cdef_spec.specs.DirectionLocal.{sumℤ-same, direction-same, variance-same}
+use Rattle.cdef_spec.specs.Standard.{lineOf, partial, costStraight, costDiagonal, costBetween, cost, Best, better, best, direction, variance}
 use Rattle.cdef_sample.specs.Upto.{upto, getD-upto, upto-ext}
-use Rattle.cdef_direction.specs.declared.Partials.{Partials}
-use Rattle.cdef_direction.specs.declared.Found.{Found}
 use Rattle.cdef_direction.specs.Lines.{partialsOf}
 use Rattle.cdef_direction.specs.Costs.{entry, costList, CostsFit, bestOf, foundOf}
 use Rattle.cdef_direction.specs.CostsLaws.{straight-is, diagonal-is, between-is}
@@ -107,6 +104,12 @@ module _ (x : ℕ → ℕ → ℤ) (small : (i j : ℕ) → i < 8 → j < 8 → 
 
   pub costs-fit : CostsFit (partialsOf x)
   costs-fit = record { all = λ d h. rw (partials-near, costs-are near d h) (cost-high near near-small d h) }
+
+  pub direction-below : direction x < 8
+  direction-below = rw (direction-same x near near-same) (direction-low near near-small)
+
+  pub variance-below : variance x ≤ 860160
+  variance-below = rw (variance-same x near near-same) (variance-high near near-small)
 
 -- ---- the best
 

@@ -6,3 +6,4 @@ pub mod CostsLaws
 pub mod Looked
 pub mod LookedLaws
 pub mod FoundLaws
+pub mod HandedOut

@@ -11,11 +11,9 @@ use lib.ListN.{getD, List·getD-eq-default}
 use lib.IntN.{ℤ, pos, natAbs, _+ℤ_, +ℤ-assoc, +ℤ-comm, +ℤ-idl, +ℤ-idr}
 use Rattle.cdef_spec.specs.SignedLaws.{size-add}
 use Rattle.cdef_spec.specs.Words.{sumℤ}
-use Rattle.cdef_spec.specs.DirectionLocal.{sumℤ-same}
 use Rattle.cdef_spec.specs.Standard.{lineOf, partial}
 use Rattle.cdef_sample.specs.Bounds.{Within}
 use Rattle.cdef_sample.specs.Upto.{upto, length-upto, getD-upto, upto-ext, upto-all-of}
-use Rattle.cdef_direction.specs.declared.Partials.{Partials}
 use Rattle.cdef_direction.specs.Lines.{blockOf, turnedOf, padAt, paddedOf, pairAt, lineAt, linesOf, partialsOf}
 
 -- ---- shapes and sizes

@@ -1,6 +1,6 @@
 -- The samples that are looked at are below 2 ^ depth where their bits are, and so is each sample that the direction process takes.
-use mathlib.Core.Path.{_≡_, refl, sym, ap, _∙_}
-use mathlib.Core.Bool.{Bool, true, false, _&&_}
+use mathlib.Core.Path.{_≡_, refl, ap, _∙_}
+use mathlib.Core.Bool.{Bool, true, false, cond, _&&_}
 use mathlib.Core.List.{List}
 use Prim.Native.Nat.{ℕ, zero, suc, _+_, _-_, _*_, _/_, _^_, _≤_, _<_, min}
 use native.Mathlib.Decide.{decLt}
@@ -8,12 +8,12 @@ use native.Mathlib.Nat.{div-lt-iff-lt-mul}
 use native.Mathlib.Numerals.{add-one}
 use native.Mathlib.Omega.{arith}
 use borrow.Author.Tests.{lt-ltb, le-ltb, ltb-true, eq-eqb, ne-eqb}
-use lib.Bits.{bitOr, bitAnd, or-lt, or-comm, or-add-and, and-le-l, and-le-r}
+use lib.Bits.{bitOr, or-lt, or-add-and, and-le-l, and-le-r}
 use lib.Dec.{ltb, eqb}
 use lib.ListN.{getD}
-use lib.IntN.{ℤ, pos, _-ℤ_}
+use lib.IntN.{pos, negsuc, natAbs, _-ℤ_}
 use lib.Pow.{pow-pos, pow-add}
-use Rattle.cdef_spec.specs.Words.{every, _>>_}
+use Rattle.cdef_spec.specs.Words.{every}
 use Rattle.cdef_spec.specs.WordsLaws.{every-at}
 use Rattle.cdef_spec.specs.Document01.{Plane, edgeSample, directionInput}
 use Rattle.cdef_spec.specs.Questions.{sampleTaken, lookedAt, cutTaken}
@@ -87,6 +87,15 @@ unfolding every
 every-same zero f g h = refl
 every-same (suc n) f g h = rw (every-same n f g h, h n)
 
+-- ---- a sample less 128
+
+pub less-128 : (a : ℕ) → a < 256 → natAbs (pos a -ℤ pos 128) ≤ 128
+less-128 a h = go (ltb a 128) refl
+  where
+    go : (t : Bool) → ltb a 128 ≡ t → natAbs (cond t (negsuc (128 - suc a)) (pos (a - 128))) ≤ 128
+    go true e = omega arith
+    go false e = omega arith
+
 -- ---- the block cut to the plane
 
 abbrev sized : List ℕ → ℕ → ℕ → Plane
@@ -118,3 +127,7 @@ module _ (s : List ℕ) (w h d y x : ℕ) (hy : y < h) (hx : x < w) where
         let e : d ≡ 8 + (d - 8) = omega arith in
         let f : 2 ^ d ≡ 256 * 2 ^ (d - 8) = ap (λ (n : ℕ). 2 ^ n) e ∙ pow-add 2 8 (d - 8) in
         div-lt-iff-lt-mul {y = 256} (pow-pos (d - 8)) .1 (rw (← f) (edge-low i j hi hj))
+
+    pub input-small : 8 ≤ d → (i j : ℕ) → i < 8 → j < 8 → natAbs (directionInput (sized s w h) d y x i j) ≤ 128
+    unfolding directionInput
+    input-small hd i j hi hj = less-128 _ (shifted-low hd i j hi hj)

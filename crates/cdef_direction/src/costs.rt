@@ -7,6 +7,7 @@ use crate::Found;
 use crate::Partials;
 use cdef_leaf::tables;
 
+// The square of a line sum.
 fn square_of(v: i16) -> u32
     ensures { λ r. ⌜ r ≡ square v ⌝ }
 {
@@ -66,6 +67,7 @@ fn cost_between(l: &[i16; 16]) -> u32
         + one(l, 5, 8)
 }
 
+// The costs of the eight directions.
 pub fn costs(p: Partials) -> [u32; 8]
     requires { ⌜ CostsFit p ⌝ }
     ensures { λ r. ⌜ r ≡ costList p ⌝ }

@@ -4,10 +4,11 @@ ghost use mathlib.Core.Bool.{true};
 ghost use Prim.Native.Nat.{_+_, _*_, _/_, _^_, _≤_, _<_, min};
 ghost use lib.IntN.{pos, _-ℤ_};
 ghost use lib.ListN.{length};
-ghost use Rattle.cdef_spec.specs.Document01.{Plane, directionInput};
+ghost use Rattle.cdef_spec.specs.Document01.{directionInput};
 ghost use Rattle.cdef_spec.specs.Questions.{cutTaken};
 ghost use Rattle.cdef_direction.specs.Lines.{blockOf};
 
+// The lesser of two.
 pub fn least(a: usize, b: usize) -> usize
     ensures { λ r. ⌜ r ≡ min a b ⌝ }
 {
@@ -75,6 +76,7 @@ fn levels_edge(
     b
 }
 
+// The block at (x, y).
 pub fn levels(
     plane: &[u16],
     width: usize,

@@ -3,7 +3,7 @@ ghost use mathlib.Core.Path.{_≡_};
 ghost use mathlib.Core.Bool.{true};
 ghost use Prim.Native.Nat.{_*_, _≤_, _<_};
 ghost use lib.ListN.{length};
-ghost use Rattle.cdef_spec.specs.Document01.{Plane, directionInput, blockDirection, blockVariance};
+ghost use Rattle.cdef_spec.specs.Document01.{directionInput, blockDirection, blockVariance};
 ghost use Rattle.cdef_spec.specs.Questions.{cutTaken};
 ghost use Rattle.cdef_direction.specs.Costs.{CostsFit, foundOf};
 ghost use Rattle.cdef_direction.specs.Lines.{partialsOf};

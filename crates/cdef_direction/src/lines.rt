@@ -1,8 +1,6 @@
 // Line sums: the rows of a block are padded with zeros, and each line is the sum of eight shifted rows.
 ghost use mathlib.Core.Path.{_≡_};
-ghost use Prim.Native.Nat.{ℕ, _+_, _*_, _≤_, _<_};
-ghost use lib.ListN.{length, getD};
-ghost use Rattle.cdef_sample.specs.Upto.{upto};
+ghost use Prim.Native.Nat.{_+_, _*_, _≤_, _<_};
 ghost use Rattle.cdef_sample.specs.Bounds.{Within};
 ghost use Rattle.cdef_direction.specs.Lines.{turnedOf, padAt, paddedOf, pairAt, lineAt, linesOf};
 
@@ -37,6 +35,7 @@ fn pad(b: &[i16; 64], i: usize, j: usize) -> i16
     b[at]
 }
 
+// All eight rows.
 pub fn padded(b: &[i16; 64]) -> [i16; 192]
     requires { ⌜ Within (now b) 128 ⌝ }
     ensures { λ r. ⌜ r ≡ paddedOf (now (b .entry)) ⌝ }

@@ -2,7 +2,6 @@
 ghost use mathlib.Core.Path.{_≡_};
 ghost use Prim.Native.Nat.{_+_, _*_, _≤_, _<_};
 ghost use lib.ListN.{length};
-ghost use Rattle.cdef_spec.specs.Document01.{Plane};
 ghost use Rattle.cdef_spec.specs.Questions.{cutTaken};
 ghost use Rattle.cdef_direction.specs.Looked.{orRow};
 use crate::levels;

@@ -1,13 +1,19 @@
 -- `cdef_direction::cdef_direction` meets its contract.
-use mathlib.Core.Path.{_≡_, ap, _∙_}
+use mathlib.Core.Path.{ap, _∙_}
+use Prim.Native.Nat.{ℕ}
+use lib.IntN.{ℤ}
 use Rattle.cdef_spec.specs.Document01.{directionInput, blockDirection, blockVariance}
 use Rattle.cdef_direction.specs.declared.Found.{Found}
 use Rattle.cdef_direction.specs.Costs.{foundOf}
 use Rattle.cdef_direction.specs.FoundLaws.{costs-fit, found-are}
-use Rattle.cdef_direction.proofs.Places.{input-small}
+use Rattle.cdef_direction.specs.LookedLaws.{input-small}
 use borrow.Author.Needs.{needs}
 use Rattle.cdef_direction.proofs.cdef_direction.Statement.{statement}
 use Rattle.cdef_direction.proofs.cdef_direction.Tie as tie
+
+-- the samples taken
+abbrev input : tie.Start → ℕ → ℕ → ℤ
+input s = directionInput (record { samples = s .args .plane .now; width = s .args .width; height = s .args .height }) (s .args .depth) (s .args .y) (s .args .x)
 
 cdef-direction-partials-requires : tie.Need-cdef-direction-partials-requires
 cdef-direction-partials-requires c κs = search needs
@@ -16,7 +22,7 @@ cdef-direction-cost-requires : tie.Need-cdef-direction-cost-requires
 cdef-direction-cost-requires c κs = let s = c .before .before in
     let a = s .args in
     let h = s .pre .1 .0 in
-    rw (c .cdef-direction-partials .ensures) (costs-fit _ (input-small (a .plane .now) (a .width) (a .height) (a .depth) (a .y) (a .x) (h .3) (h .2) (s .pre .1 .1) (h .4)))
+    rw (c .cdef-direction-partials .ensures) (costs-fit (input s) (input-small (a .plane .now) (a .width) (a .height) (a .depth) (a .y) (a .x) (h .3) (h .2) (s .pre .1 .1) (h .4)))
 
 returns : tie.Need-returns
 returns c = unfold blockDirection blockVariance in let e = c .cdef-direction-cost .ensures ∙ ap foundOf (c .before .cdef-direction-partials .ensures) ∙ found-are _ in

@@ -1,5 +1,5 @@
 -- `cdef_direction::cdef_direction_cost` meets its contract.
-use mathlib.Core.Path.{_≡_, ap, _∙_}
+use mathlib.Core.Path.{ap, _∙_}
 use Rattle.cdef_direction.specs.Costs.{bestOf, foundOf}
 use borrow.Author.Needs.{needs}
 use Rattle.cdef_direction.proofs.cdef_direction_cost.Statement.{statement}

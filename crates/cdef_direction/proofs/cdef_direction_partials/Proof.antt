@@ -1,20 +1,26 @@
 -- `cdef_direction::cdef_direction_partials` meets its contract.
-use mathlib.Core.Path.{_≡_}
+use Prim.Native.Nat.{ℕ}
 use native.Mathlib.Omega.{arith}
+use lib.IntN.{ℤ}
+use Rattle.cdef_spec.specs.Document01.{directionInput}
 use Rattle.cdef_sample.specs.Bounds.{Within}
 use Rattle.cdef_direction.specs.LinesLaws.{block-within, turned-within, padded-within, partials-from}
-use Rattle.cdef_direction.proofs.Places.{input-small}
+use Rattle.cdef_direction.specs.LookedLaws.{input-small}
 use borrow.Author.Needs.{needs}
 use Rattle.cdef_direction.proofs.cdef_direction_partials.Statement.{statement}
 use Rattle.cdef_direction.proofs.cdef_direction_partials.Tie as tie
 
--- the samples are small, and so are their lists
+-- the samples taken
+abbrev input : tie.Start → ℕ → ℕ → ℤ
+input s = directionInput (record { samples = s .args .plane .now; width = s .args .width; height = s .args .height }) (s .args .depth) (s .args .y) (s .args .x)
+
+-- they are small, and so are their lists
 levels-small : (c : tie.After-levels) → Within (c .levels .result) 128
 levels-small c =
     let s = c .before .before in
     let a = s .args in
     let h = s .pre .1 .0 in
-    rw (c .levels .ensures) (block-within _ (input-small (a .plane .now) (a .width) (a .height) (a .depth) (a .y) (a .x) (h .3) (h .2) (s .pre .1 .1) (h .4)))
+    rw (c .levels .ensures) (block-within (input s) (input-small (a .plane .now) (a .width) (a .height) (a .depth) (a .y) (a .x) (h .3) (h .2) (s .pre .1 .1) (h .4)))
 
 turned-small : (c : tie.After-turned) → Within (c .turned .result) 128
 turned-small c = rw (c .turned .ensures) (turned-within _ (levels-small (c .before .before)))

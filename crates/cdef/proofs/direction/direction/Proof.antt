@@ -1,8 +1,7 @@
 -- `cdef::direction::direction` meets its contract.
-use mathlib.Core.Path.{_≡_, ap, _∙_}
+use mathlib.Core.Path.{_≡_}
 use mathlib.Core.Bool.{true, false}
-use Prim.Native.Nat.{ℕ, _*_, _≤_, _<_}
-use lib.ListN.{length}
+use Prim.Native.Nat.{ℕ}
 use Rattle.cdef_spec.specs.declared.DirectionAnswer.the-variants.{Direction, NoDirection}
 use Rattle.cdef_spec.specs.Document01.{Plane, blockDirection, blockVariance}
 use Rattle.cdef_spec.specs.Answers.{resultOf, readDirection}

@@ -1,5 +1,4 @@
 -- `cdef::questions::corner_taken` meets its contract.
-use mathlib.Core.Path.{_≡_}
 use borrow.Author.Tests.{lt-ltb, le-ltb}
 use Rattle.cdef_spec.specs.Questions.{cornerTaken}
 use Rattle.cdef.proofs.questions.corner_taken.Statement.{statement}

@@ -1,5 +1,4 @@
 -- `cdef::questions::depth_taken` meets its contract.
-use mathlib.Core.Path.{_≡_}
 use borrow.Author.Tests.{lt-leb, le-leb}
 use Rattle.cdef_spec.specs.Questions.{depthTaken}
 use Rattle.cdef.proofs.questions.depth_taken.Statement.{statement}

@@ -1,7 +1,7 @@
 -- `cdef::questions::full` meets its contract.
 use mathlib.Core.Path.{_≡_}
-use mathlib.Core.Bool.{true, false}
-use Prim.Native.Nat.{_*_, _≤_}
+use mathlib.Core.Bool.{true}
+use Prim.Native.Nat.{_≤_}
 use native.Mathlib.Nat.{mul-le-mul}
 use native.Mathlib.Omega.{arith}
 use Rattle.cdef_spec.specs.Questions.{sideTaken, full}

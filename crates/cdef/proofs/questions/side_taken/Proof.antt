@@ -1,5 +1,4 @@
 -- `cdef::questions::side_taken` meets its contract.
-use mathlib.Core.Path.{_≡_}
 use Prim.Native.Nat.{_≤_}
 use native.Mathlib.Omega.{arith}
 use borrow.Author.Tests.{le-leb}

@@ -1,5 +1,5 @@
 -- `cdef_c::direction::quern_direction` meets its contract.
-use mathlib.Core.Path.{_≡_, ap, sym, _∙_}
+use mathlib.Core.Path.{ap, sym, _∙_}
 use Rattle.cdef_spec.specs.Answers.{DirectionFound, readDirection}
 use Rattle.cdef_c.proofs.Left.{done, not-done}
 use borrow.Author.Needs.{needs}

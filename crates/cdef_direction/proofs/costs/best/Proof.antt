@@ -1,11 +1,10 @@
 -- `cdef_direction::costs::best` meets its contract.
-use mathlib.Core.Path.{_≡_, refl, sym, ap, _∙_}
+use mathlib.Core.Path.{_≡_, refl}
 use mathlib.Core.Logic.{⊎-elim}
-use Prim.Native.Nat.{ℕ, _+_, _-_, _*_, _%_, _≤_, _<_}
+use Prim.Native.Nat.{ℕ, _+_, _-_, _≤_, _<_}
 use native.Mathlib.Decide.{ℕ-discrete}
 use native.Mathlib.Omega.{arith}
 use lib.ListN.{getD}
-use Rattle.cdef_spec.specs.Standard.{Best}
 use Rattle.cdef_direction.specs.CostsLaws.{bestTo, best-none, best-new, best-old, found-is}
 use Rattle.cdef_direction.proofs.costs.best.Statement.{statement}
 use Rattle.cdef_direction.proofs.costs.best.Tie as tie

@@ -1,5 +1,4 @@
 -- `cdef_direction::costs::costs` meets its contract.
-use mathlib.Core.Path.{_≡_}
 use native.Mathlib.Omega.{arith}
 use Rattle.cdef_direction.specs.Costs.{costList}
 use Rattle.cdef_direction.proofs.costs.costs.Statement.{statement}

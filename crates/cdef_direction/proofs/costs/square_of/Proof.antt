@@ -1,6 +1,6 @@
 -- `cdef_direction::costs::square_of` meets its contract.
 use native.Mathlib.Omega.{arith}
-use mathlib.Core.Path.{_≡_, ap}
+use mathlib.Core.Path.{ap}
 use lib.IntN.{natAbs}
 use Rattle.cdef_direction.proofs.Squares.{square-low, wide-fits, product-fits, product-back}
 use Rattle.cdef_direction.proofs.costs.square_of.Statement.{statement}

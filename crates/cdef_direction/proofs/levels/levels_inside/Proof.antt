@@ -1,11 +1,11 @@
 -- `cdef_direction::levels::levels_inside` meets its contract.
-use mathlib.Core.Path.{_≡_, refl, sym, ap, _∙_}
-use Prim.Native.Nat.{ℕ, _+_, _-_, _*_, _/_, _%_, _^_, _≤_, _<_, min}
+use mathlib.Core.Path.{_≡_, refl, sym}
+use Prim.Native.Nat.{ℕ, _+_, _-_, _*_, _/_, _%_, _≤_, _<_}
 use native.Mathlib.Omega.{arith}
 use lib.ListN.{length, take, getD, length-set}
 use mir.Syntax.{w16}
 use mir.Val.{toZ, ofZ}
-use Rattle.cdef_spec.specs.Document01.{Plane, edgeSample, directionInput}
+use Rattle.cdef_spec.specs.Document01.{edgeSample, directionInput}
 use Rattle.cdef_sample.specs.Upto.{upto, upto-none, upto-more, upto-at, upto-all}
 use Rattle.cdef_direction.specs.Lines.{blockOf}
 use Rattle.cdef_direction.proofs.Places.{place-low, plane-low, inside-is, read-low, stored-is}

@@ -4,7 +4,7 @@ use Prim.Native.Nat.{ℕ, _+_, _-_, _≤_}
 use native.Mathlib.Omega.{arith}
 use lib.ListN.{length, take, length-set}
 use Rattle.cdef_sample.specs.Upto.{upto, upto-none, upto-more, upto-all}
-use Rattle.cdef_sample.proofs.Joins.{Is, back-is}
+use Rattle.cdef_sample.proofs.Joins.{back-is}
 use Rattle.cdef_direction.specs.Lines.{lineAt, linesOf}
 use Rattle.cdef_direction.specs.LinesLaws.{line-size}
 use Rattle.cdef_direction.proofs.lines.lines.Statement.{statement}

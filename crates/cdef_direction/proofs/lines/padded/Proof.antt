@@ -1,12 +1,12 @@
 -- `cdef_direction::lines::padded` meets its contract.
-use mathlib.Core.Path.{_≡_, refl, sym, _∙_}
+use mathlib.Core.Path.{_≡_, refl, sym}
 use Prim.Native.Nat.{ℕ, _+_, _-_, _*_, _/_, _%_, _≤_}
 use native.Mathlib.Omega.{arith}
 use lib.ListN.{length, take, length-set}
 use mir.Syntax.{w16}
 use mir.Val.{toZ, ofZ}
 use Rattle.cdef_sample.specs.Upto.{upto, upto-none, upto-more, upto-at, upto-all}
-use Rattle.cdef_sample.proofs.Joins.{Is, back-is}
+use Rattle.cdef_sample.proofs.Joins.{back-is}
 use Rattle.cdef_direction.specs.Lines.{padAt, paddedOf}
 use Rattle.cdef_direction.specs.LinesLaws.{pad-size}
 use Rattle.cdef_direction.proofs.lines.padded.Statement.{statement}

@@ -1,5 +1,5 @@
 -- `cdef_direction::lines::turned` meets its contract.
-use mathlib.Core.Path.{_≡_, refl, sym, _∙_}
+use mathlib.Core.Path.{_≡_, refl, sym}
 use Prim.Native.Nat.{ℕ, _+_, _-_, _*_, _/_, _%_, _≤_}
 use native.Mathlib.Omega.{arith}
 use lib.ListN.{length, take, getD, length-set}

@@ -1,14 +1,9 @@
 -- `cdef_direction::looked::cut_taken` meets its contract.
-use mathlib.Core.Path.{_≡_, sym, ap, _∙_}
-use mathlib.Core.Bool.{Bool}
-use Prim.Native.Nat.{ℕ, _+_, _-_, _*_, _/_, _^_, _≤_, _<_, min}
-use native.Mathlib.Decide.{decLt}
+use mathlib.Core.Path.{_≡_, _∙_}
+use Prim.Native.Nat.{_+_, _-_, _*_, _≤_, _<_, min}
 use native.Mathlib.Omega.{arith}
-use lib.Bits.{bitOr}
-use lib.Dec.{eqb, ltb}
-use lib.ListN.{length, getD}
-use Rattle.cdef_spec.specs.Questions.{cutTaken}
-use Rattle.cdef_direction.specs.Looked.{orRow, orRows}
+use lib.ListN.{length}
+use Rattle.cdef_direction.specs.Looked.{orRows}
 use Rattle.cdef_direction.specs.LookedLaws.{rows-none, rows-more, cut-bits, shifted-none}
 use Rattle.cdef_direction.proofs.Places.{place-low, plane-low}
 use Rattle.cdef_direction.proofs.looked.cut_taken.Statement.{statement}

@@ -1,9 +1,7 @@
 -- `cdef_direction::looked::row_bits` meets its contract.
-use mathlib.Core.Path.{_≡_, ap, _∙_}
-use Prim.Native.Nat.{_+_, _-_, _≤_}
+use mathlib.Core.Path.{_≡_, _∙_}
+use Prim.Native.Nat.{_-_, _≤_}
 use native.Mathlib.Omega.{arith}
-use lib.Bits.{bitOr}
-use lib.ListN.{getD}
 use Rattle.cdef_direction.specs.Looked.{orRow}
 use Rattle.cdef_direction.specs.LookedLaws.{row-none, row-more}
 use Rattle.cdef_direction.proofs.looked.row_bits.Statement.{statement}

@@ -1,5 +1,6 @@
 // Runs document 01's worked lines through the public calls and prints one line each.
 // The file stdout was written from document 01, not from a run.
+mod blocks; // blocks.rt: lines on one block
 mod numbers; // numbers.rt: lines on single numbers
 mod print; // print.rt: what a line is printed with
 
@@ -7,4 +8,6 @@ fn main() {
     numbers::constrain_lines();
     numbers::adjust_lines();
     numbers::damping_lines();
+    blocks::direction_lines();
+    blocks::filter_lines();
 }

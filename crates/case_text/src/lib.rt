@@ -1,5 +1,7 @@
 // Decimal numbers out of a text of stored cases: one case a line, numbers parted by single spaces.
-ghost use Prim.Native.Nat.{_≤_, _<_, _^_};
+pub mod samples; // samples.rt: many numbers at once, as samples
+
+ghost use Prim.Native.Nat.{_≤_};
 ghost use lib.ListN.{length};
 
 // The digits from a place on as a number, and the place after them.
@@ -31,7 +33,7 @@ fn digit(b: u8) -> u64
 // At most 15 digits are read, so that the number fits.
 pub fn read_digits(text: &[u8], from: usize) -> Digits
     requires { ⌜ from ≤ length (now text) ⌝ }
-    ensures { λ r. ⌜ (r .value < 10 ^ 15) × (r .next ≤ length (now (text .entry))) × (from ≤ r .next) ⌝ }
+    ensures { λ r. ⌜ r .next ≤ length (now (text .entry)) ⌝ }
 {
     let mut value: u64 = 0;
     let mut next = from;
@@ -51,7 +53,7 @@ pub fn read_digits(text: &[u8], from: usize) -> Digits
 
 // One place further, or the end of the text.
 pub fn past(text: &[u8], at: usize) -> usize
-    ensures { λ r. ⌜ (r ≤ length (now (text .entry))) × (at < length (now (text .entry)) → at < r) × (at ≤ length (now (text .entry)) → at ≤ r) ⌝ }
+    ensures { λ r. ⌜ r ≤ length (now (text .entry)) ⌝ }
 {
     if at < text.len() {
         return at + 1;
@@ -61,7 +63,7 @@ pub fn past(text: &[u8], at: usize) -> usize
 
 // The number at a place of the text, and the place after it and the blank behind it; 0 past the end.
 pub fn read_number(text: &[u8], from: usize) -> Number
-    ensures { λ r. ⌜ (r .size < 10 ^ 15) × (r .next ≤ length (now (text .entry))) × (from < length (now (text .entry)) → from < r .next) × (from ≤ length (now (text .entry)) → from ≤ r .next) ⌝ }
+    ensures { λ r. ⌜ r .next ≤ length (now (text .entry)) ⌝ }
 {
     if text.len() <= from {
         return Number {
@@ -86,24 +88,40 @@ pub fn read_number(text: &[u8], from: usize) -> Number
     }
 }
 
-// Up to eight numbers of a line, by sign and size, and the place after them.
+// How many numbers a line has: one more than it has blanks, and none in an empty line.
+pub fn numbers_in(line: &[u8]) -> usize {
+    if line.len() == 0 {
+        return 0;
+    }
+    let mut count = 1;
+    let mut at = 0;
+    while at < line.len() {
+        if line[at] == 32 {
+            count += 1;
+        }
+        at += 1;
+    }
+    count
+}
+
+// Up to sixteen numbers at the start of a line, by sign and size, and the place after them.
 pub struct Line {
-    pub minus: [bool; 8],
-    pub size: [u64; 8],
+    pub minus: [bool; 16],
+    pub size: [u64; 16],
     pub next: usize,
 }
 
-// The next `count` numbers of the text.
-pub fn read_line(text: &[u8], from: usize, count: usize) -> Line
-    requires { ⌜ (0 < count) × (count ≤ 8) × (from < length (now text)) ⌝ }
-    ensures { λ r. ⌜ (r .next ≤ length (now (text .entry))) × (from < r .next) ⌝ }
+// The first `count` numbers of a line.
+pub fn read_line(line: &[u8], count: usize) -> Line
+    requires { ⌜ count ≤ 16 ⌝ }
+    ensures { λ r. ⌜ r .next ≤ length (now (line .entry)) ⌝ }
 {
-    let mut minus = [false; 8];
-    let mut size = [0u64; 8];
-    let mut next = from;
+    let mut minus = [false; 16];
+    let mut size = [0u64; 16];
+    let mut next = 0;
     let mut k = 0;
     while k < count {
-        let n = read_number(text, next);
+        let n = read_number(line, next);
         minus[k] = n.minus;
         size[k] = n.size;
         next = n.next;
@@ -112,9 +130,13 @@ pub fn read_line(text: &[u8], from: usize, count: usize) -> Line
     Line { minus, size, next }
 }
 
-// A stored size as an unsigned number of 8 or 32 bits.
+// A stored size as an unsigned number of 8, 16 or 32 bits.
 pub fn as_u8(size: u64) -> u8 {
     (size % 256) as u8
+}
+
+pub fn as_u16(size: u64) -> u16 {
+    (size % 65536) as u16
 }
 
 pub fn as_u32(size: u64) -> u32 {

@@ -1,52 +1,34 @@
-// One stored case of each call: its inputs, document 01's number (0 where the work is done), and the answer.
-ghost use Prim.Native.Nat.{_≤_, _<_};
-ghost use lib.ListN.{length};
+// One stored case of each call on numbers: its inputs, document 01's number (0 where the work is done), and the answer.
+ghost use Prim.Native.Nat.{_≤_};
 use case_text::Line;
 use cdef_spec::DampingAnswer;
 use cdef_spec::DifferenceAnswer;
 use cdef_spec::StrengthAnswer;
 use cdef_spec::WorkingDamping;
 
-// Whether the call gave what is stored, and the place of the next case.
-pub struct Step {
-    pub same: bool,
-    pub next: usize,
+// Whether one case of a call, by the call's number, gives what is stored.
+pub fn same_numbers(call: u32, line: &[u8]) -> bool {
+    let count = numbers_of(call);
+    let l = case_text::read_line(line, count);
+    if l.next != line.len() || case_text::numbers_in(line) != count {
+        return false;
+    }
+    match call {
+        0 => same_constrain(l),
+        1 => same_adjust(l),
+        2 => same_damping(l),
+        _ => same_log2(l),
+    }
 }
 
-// One case of a call by its number, at a place of the text.
-pub fn one_case(call: u32, text: &[u8], at: usize) -> Step
-    requires { ⌜ at < length (now text) ⌝ }
-    ensures { λ r. ⌜ (r .next ≤ length (now (text .entry))) × (at < r .next) ⌝ }
+// How many numbers a call's line has.
+fn numbers_of(call: u32) -> usize
+    ensures { λ r. ⌜ r ≤ 16 ⌝ }
 {
     match call {
-        0 => {
-            let l = case_text::read_line(text, at, 5);
-            Step {
-                same: same_constrain(l),
-                next: l.next,
-            }
-        }
-        1 => {
-            let l = case_text::read_line(text, at, 4);
-            Step {
-                same: same_adjust(l),
-                next: l.next,
-            }
-        }
-        2 => {
-            let l = case_text::read_line(text, at, 3);
-            Step {
-                same: same_damping(l),
-                next: l.next,
-            }
-        }
-        _ => {
-            let l = case_text::read_line(text, at, 3);
-            Step {
-                same: same_log2(l),
-                next: l.next,
-            }
-        }
+        0 => 5,
+        1 => 4,
+        _ => 3,
     }
 }
 

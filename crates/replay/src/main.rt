@@ -1,6 +1,8 @@
 // Replays the stored answers of the Rust through the public calls: one file a call, one case a line.
 // Prints for each call how many cases there were, how many differ, and the line of the first that does.
-mod cases; // cases.rt: one case of each call
+mod block_cases; // block_cases.rt: one case of each call on a block
+mod cases; // cases.rt: one case of each call on numbers
+mod pieces; // pieces.rt: a file in pieces
 
 ghost use Prim.Native.Nat.{_≤_};
 ghost use lib.ListN.{length};
@@ -12,20 +14,35 @@ pub struct Tally {
     pub first: u64,
 }
 
-// All cases of a call's text.
-fn replayed(call: u32, text: &[u8]) -> Tally {
-    let mut t = Tally {
-        cases: 0,
-        different: 0,
-        first: 0,
-    };
-    let mut at = 0;
-    while at < text.len() {
-        let s = cases::one_case(call, text, at);
-        t = counted(t, s.same);
-        at = s.next;
+// The tally after the whole lines of a text, and the place after them.
+pub struct Piece {
+    pub tally: Tally,
+    pub used: usize,
+}
+
+fn replayed(call: u32, text: &[u8], before: Tally) -> Piece
+    ensures { λ r. ⌜ r .used ≤ length (now (text .entry)) ⌝ }
+{
+    let mut tally = before;
+    let mut used = 0;
+    while used < text.len() {
+        let end = pieces::line_end(text, used);
+        if end == text.len() {
+            return Piece { tally, used };
+        }
+        tally = counted(tally, same(call, &text[used..end]));
+        used = end + 1;
     }
-    t
+    Piece { tally, used }
+}
+
+// Whether a call gives what its line has stored.
+fn same(call: u32, line: &[u8]) -> bool {
+    match call {
+        4 => block_cases::same_direction(line),
+        5 => block_cases::same_filter(line),
+        _ => cases::same_numbers(call, line),
+    }
 }
 
 // The tally with one case more; past 1,000,000,000 it stands still.
@@ -72,7 +89,38 @@ fn report(name: &[u8], t: Tally) {
     io::write_all(1, b"\n");
 }
 
-// Reads a call's file and replays it.
+// Replays a file to its end, by pieces as large as the buffer.
+fn replay_all(call: u32, fd: i32, buffer: &mut [u8]) -> Tally {
+    let mut t = Tally {
+        cases: 0,
+        different: 0,
+        first: 0,
+    };
+    let mut have = 0;
+    let mut turns: u32 = 0;
+    while turns < 1000 {
+        have = pieces::fill(fd, buffer, have);
+        let p = replayed(call, &buffer[..have], t);
+        let used = p.used;
+        t = p.tally;
+        if used == 0 {
+            return ended(t, have);
+        }
+        have = pieces::keep_rest(buffer, used, have);
+        turns += 1;
+    }
+    ended(t, 1)
+}
+
+// The tally at the end: what is left without a whole line is one case that differs.
+fn ended(t: Tally, left: usize) -> Tally {
+    if left == 0 {
+        return t;
+    }
+    counted(t, false)
+}
+
+// Opens a call's file, replays it and reports.
 fn replay_file(call: u32, name: &[u8], path: &[u8]) {
     let fd = os::open_read(path);
     if fd < 0 {
@@ -80,9 +128,9 @@ fn replay_file(call: u32, name: &[u8], path: &[u8]) {
         return;
     }
     let mut buffer = io::large_buffer();
-    let n = io::read_full(fd, &mut buffer);
+    let t = replay_all(call, fd, &mut buffer);
     libc::close(fd);
-    report(name, replayed(call, &buffer[..n]));
+    report(name, t);
 }
 
 fn main() {
@@ -90,4 +138,6 @@ fn main() {
     replay_file(1, b"adjust_pri", b"adjust_pri.txt");
     replay_file(2, b"damping", b"damping.txt");
     replay_file(3, b"log2_floor", b"log2_floor.txt");
+    replay_file(4, b"direction", b"direction.txt");
+    replay_file(5, b"filter", b"filter.txt");
 }

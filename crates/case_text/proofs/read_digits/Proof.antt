@@ -1,5 +1,5 @@
 -- `case_text::read_digits` meets its contract.
-use Prim.Native.Nat.{ℕ, _+_, _-_, _*_, _/_, _%_, _^_, _≤_, _<_}
+use Prim.Native.Nat.{_-_, _^_, _≤_, _<_}
 use native.Mathlib.Omega.{arith}
 use borrow.Author.Needs.{needs}
 use lib.ListN.{length}
@@ -10,7 +10,7 @@ use Rattle.case_text.proofs.read_digits.Lts as lts
 use Rattle.case_text.proofs.digit.Reads as digit-reads
 
 abbrev Inv-loop : tie.InvT-loop
-Inv-loop text from value₀ next₀ value next = (next ≤ length text) × (value < 10 ^ 15) × (from ≤ next)
+Inv-loop text from value₀ next₀ value next = (next ≤ length text) × (value < 10 ^ 15)
 
 abbrev μ-loop : tie.MeasureT-loop
 μ-loop text from value₀ next₀ value next = length text - next

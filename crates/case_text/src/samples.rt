@@ -1,0 +1,40 @@
+// Samples of a plane out of a line of a stored case.
+ghost use Prim.Native.Nat.{_≤_};
+ghost use lib.ListN.{length};
+
+// The next `count` numbers of a line put into a list of samples. Handed back is the place after them.
+pub fn read_samples(line: &[u8], from: usize, count: usize, samples: &mut [u16]) -> usize
+    requires { ⌜ (from ≤ length (now line)) × (count ≤ length (now samples)) ⌝ }
+    ensures { λ r. ⌜ r ≤ length (now (line .entry)) ⌝ }
+{
+    let mut next = from;
+    let mut k = 0;
+    while k < count {
+        let n = crate::read_number(line, next);
+        samples[k] = crate::as_u16(n.size);
+        next = n.next;
+        k += 1;
+    }
+    next
+}
+
+// Whether the rest of a line is the first `count` of these samples and no more.
+pub fn same_samples(line: &[u8], from: usize, count: usize, samples: &[u16]) -> bool
+    requires { ⌜ count ≤ length (now samples) ⌝ }
+{
+    let mut next = from;
+    let mut k = 0;
+    while k < count {
+        let n = crate::read_number(line, next);
+        if n.minus || n.size != wide(samples[k]) {
+            return false;
+        }
+        next = n.next;
+        k += 1;
+    }
+    next == line.len()
+}
+
+fn wide(sample: u16) -> u64 {
+    sample as u64
+}

@@ -1,0 +1,135 @@
+// One stored case of each call on a block: numbers as in cases.rt, then the samples.
+ghost use Prim.Native.Nat.{_≤_};
+ghost use lib.ListN.{length};
+use case_text::Line;
+use case_text::samples;
+use cdef_spec::Answer;
+use cdef_spec::Block;
+use cdef_spec::DirectionAnswer;
+use cdef_spec::FilterParams;
+use cdef_spec::WorkingDamping;
+
+// The most samples of a plane or of a destination that a case can have here.
+const MOST: usize = 8192;
+
+// depth width height x y number direction variance, and the plane
+pub fn same_direction(line: &[u8]) -> bool {
+    let l = case_text::read_line(line, 8);
+    let numbers = case_text::numbers_in(line);
+    if numbers < 8 {
+        return false;
+    }
+    let count = numbers - 8;
+    if MOST < count {
+        return false;
+    }
+    let mut plane = [0u16; MOST];
+    let end = samples::read_samples(line, l.next, count, &mut plane);
+    end == line.len() && same_found(found(l, &plane, count), l)
+}
+
+// The direction of a case whose plane is the first `count` samples.
+fn found(l: Line, plane: &[u16], count: usize) -> DirectionAnswer
+    requires { ⌜ count ≤ length (now plane) ⌝ }
+{
+    let size = l.size;
+    cdef::direction::direction(
+        &plane[..count],
+        size[1] as usize,
+        size[2] as usize,
+        size[3] as usize,
+        size[4] as usize,
+        case_text::as_u8(size[0]),
+    )
+}
+
+fn same_found(answer: DirectionAnswer, l: Line) -> bool {
+    let size = l.size;
+    match answer {
+        DirectionAnswer::Direction(d, v) => size[5] == 0
+            && (d as u64) == size[6]
+            && (v as u64) == size[7],
+        DirectionAnswer::NoDirection(n) => (n as u64) == size[5] && size[6] == 0 && size[7] == 0,
+    }
+}
+
+// depth width height x y bw bh y0 dst_rows pri sec dir damping number,
+// and the plane, the destination before and the destination after, as large as the sizes say
+pub fn same_filter(line: &[u8]) -> bool {
+    let l = case_text::read_line(line, 14);
+    let size = l.size;
+    let count = samples_of(size[1], size[2]);
+    let places = samples_of(size[1], size[8]);
+    if case_text::numbers_in(line) != 14 + count + 2 * places {
+        return false;
+    }
+    if MOST < count {
+        return false;
+    }
+    if MOST < places {
+        return false;
+    }
+    let mut plane = [0u16; MOST];
+    let mut dst = [0u16; MOST];
+    let before = samples::read_samples(line, l.next, count, &mut plane);
+    let after = samples::read_samples(line, before, places, &mut dst);
+    let answer = filter(l, &mut dst, places, &plane, count);
+    same_number(answer, size[13]) && samples::same_samples(line, after, places, &dst)
+}
+
+// Filters the block of a case whose plane and destination are the first samples of the two.
+fn filter(l: Line, dst: &mut [u16], places: usize, plane: &[u16], count: usize) -> Answer
+    requires { ⌜ (places ≤ length (now dst)) × (count ≤ length (now plane)) ⌝ }
+{
+    let size = l.size;
+    cdef::filter::filter_block(
+        &mut dst[..places],
+        size[7] as usize,
+        &plane[..count],
+        size[1] as usize,
+        size[2] as usize,
+        block_of(l),
+        params_of(l),
+    )
+}
+
+// The samples of a plane of this size; too many ones need not be counted.
+fn samples_of(width: u64, height: u64) -> usize
+    ensures { λ r. ⌜ r ≤ 67108864 ⌝ }
+{
+    if width == 0 || height == 0 {
+        return 0;
+    }
+    if 8192 < width || 8192 < height {
+        return MOST + 1;
+    }
+    (width * height) as usize
+}
+
+fn block_of(l: Line) -> Block {
+    let size = l.size;
+    Block {
+        x: size[3] as usize,
+        y: size[4] as usize,
+        width: size[5] as usize,
+        height: size[6] as usize,
+    }
+}
+
+fn params_of(l: Line) -> FilterParams {
+    let size = l.size;
+    FilterParams {
+        pri: case_text::as_u32(size[9]),
+        sec: case_text::as_u32(size[10]),
+        dir: case_text::as_u8(size[11]),
+        damping: WorkingDamping(case_text::as_u8(size[12])),
+        depth: case_text::as_u8(size[0]),
+    }
+}
+
+fn same_number(answer: Answer, number: u64) -> bool {
+    match answer {
+        Answer::Done => number == 0,
+        Answer::Refused(n) => (n as u64) == number,
+    }
+}

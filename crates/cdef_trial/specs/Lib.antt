@@ -1,0 +1,4 @@
+-- The trial of a block: definitions, then their laws.
+pub mod Trial
+pub mod TrialLaws
+pub mod PutLaws

@@ -1,0 +1,81 @@
+-- The trial as the code makes it: twelve trial blocks from shared sums. Definitions only.
+use mathlib.Core.Bool.{cond}
+use mathlib.Core.List.{List}
+use Prim.Native.Nat.{ℕ, _+_, _*_, _/_, _%_, _≤_, _<_}
+use lib.Dec.{eqb}
+use lib.IntN.{ℤ, pos, natAbs, _+ℤ_}
+use lib.ListN.{getD}
+use Rattle.cdef_spec.specs.Standard.{Tap, sample}
+use Rattle.cdef_sample.specs.Sample.{finishOf, freeOf}
+use Rattle.cdef_rows.specs.declared.Taps.{Taps}
+use Rattle.cdef_rows.specs.declared.Strength.{Strength}
+use Rattle.cdef_rows.specs.Sums.{Near6, InRange, priAt, secAt, filteredAt}
+use Rattle.cdef_trial.specs.declared.Twelve.{Twelve}
+
+-- place k of a block in rows of eight, in the window
+unfoldable pub placeOf : ℕ → ℕ
+placeOf k = (k / 8 + 2) * 12 + 2 + k % 8
+
+-- the first n entries are bounded
+pub record HeldTo (l : List ℕ) (n : ℕ) : Type 0 where
+  pub all : (k : ℕ) → k < n → getD l k 0 ≤ 16384
+
+pub record WithinTo (l : List ℤ) (m n : ℕ) : Type 0 where
+  pub all : (k : ℕ) → k < n → natAbs (getD l k (pos 0)) ≤ m
+
+-- ---- place c of a trial block w wide
+
+-- in rows of eight, and in the window
+abbrev pub laid : ℕ → ℕ → ℕ
+laid w c = c / w * 8 + c % w
+
+abbrev pub seen : ℕ → ℕ → ℕ
+seen w c = (c / w + 2) * 12 + 2 + c % w
+
+-- as it is handed over
+unfoldable pub laidTap : List ℕ → ℕ → ℕ → ℕ → Tap
+laidTap v w t c = sample (getD v (laid w c) 0)
+
+-- by one sum, and by both
+unfoldable pub freeTap : List ℕ → List ℤ → ℕ → ℕ → ℕ → Tap
+freeTap c s w t k = sample (freeOf (getD c (laid w k) 0) (getD s (laid w k) (pos 0)))
+
+unfoldable pub bothTap : List ℕ → List ℤ → List ℤ → List ℕ → List ℕ → ℕ → ℕ → ℕ → Tap
+bothTap c p s lo hi w t k = sample (finishOf (getD c (laid w k) 0) (getD p (laid w k) (pos 0) +ℤ getD s (laid w k) (pos 0)) (getD lo (laid w k) 0) (getD hi (laid w k) 0))
+
+-- from the window: the centre; one strength; both
+unfoldable pub centreTap : List ℕ → ℕ → ℕ → ℕ → Tap
+centreTap win w t c = sample (getD win (seen w c) 0)
+
+unfoldable pub priTap : List ℕ → Taps → Strength → ℕ → ℕ → ℕ → Tap
+priTap win a f w t c = sample (freeOf (getD win (seen w c) 0) (priAt win (seen w c) a f))
+
+unfoldable pub secTap : List ℕ → Taps → Strength → ℕ → ℕ → ℕ → Tap
+secTap win a g w t c = sample (freeOf (getD win (seen w c) 0) (secAt win (seen w c) a g))
+
+unfoldable pub fullTap : List ℕ → Taps → Strength → Strength → ℕ → ℕ → ℕ → Tap
+fullTap win a f g w t c = sample (filteredAt win (seen w c) a f g)
+
+-- ---- all twelve: trial t has the secondary strength t / 4 and the primary t % 4
+unfoldable pub priBy : Twelve → ℕ → Strength
+priBy u i = cond (eqb i 1) (u .p1) (cond (eqb i 2) (u .p2) (u .p3))
+
+unfoldable pub secBy : Twelve → ℕ → Strength
+secBy u j = cond (eqb j 1) (u .s1) (u .s2)
+
+unfoldable pub trialTap : List ℕ → Twelve → ℕ → ℕ → ℕ → Tap
+unfolding centreTap priTap secTap fullTap priBy secBy
+trialTap win u w t c =
+    cond (eqb (t % 4) 0)
+    (cond (eqb (t / 4) 0) (centreTap win w t c) (secTap win (u .zero) (secBy u (t / 4)) w t c))
+    (cond (eqb (t / 4) 0) (priTap win (u .own) (priBy u (t % 4)) w t c) (fullTap win (u .own) (priBy u (t % 4)) (secBy u (t / 4)) w t c))
+
+-- what the twelve are filtered with lies in range
+pub record Ready (u : Twelve) : Type 0 where
+  pub zero : Near6 (u .zero)
+  pub own : Near6 (u .own)
+  pub p1 : InRange (u .p1)
+  pub p2 : InRange (u .p2)
+  pub p3 : InRange (u .p3)
+  pub s1 : InRange (u .s1)
+  pub s2 : InRange (u .s2)

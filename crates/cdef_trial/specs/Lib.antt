@@ -2,3 +2,5 @@
 pub mod Trial
 pub mod TrialLaws
 pub mod PutLaws
+pub mod FourLaws
+pub mod TwelveLaws

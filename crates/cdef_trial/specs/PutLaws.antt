@@ -104,5 +104,10 @@ module _ (d : List ℕ) (t w h : ℕ) (hw : w ≤ 8) where
         → putRow d 64 (bothTap c p s lo hi w) t 0 (h * w) ≡ putRow d 64 (fullTap win a f g w) t 0 (h * w)
     unfolding bothTap fullTap filteredAt
     both-from a f g p s lo hi pe se le he = row-same d 64 _ _ t 0 (h * w) (λ k l r.
-        rw (known-at c centre w h k 0 hw (omega arith) ce, known-at p (λ (k : ℕ). priAt win k a f) w h k (pos 0) hw (omega arith) pe, known-at s (λ (k : ℕ). secAt win k a g) w h k (pos 0) hw (omega arith) se,
-        known-at lo (λ (k : ℕ). lowAt win k a) w h k 0 hw (omega arith) le, known-at hi (λ (k : ℕ). highAt win k a) w h k 0 hw (omega arith) he))
+        rw (
+          known-at c centre w h k 0 hw (omega arith) ce,
+          known-at p (λ (k : ℕ). priAt win k a f) w h k (pos 0) hw (omega arith) pe,
+          known-at s (λ (k : ℕ). secAt win k a g) w h k (pos 0) hw (omega arith) se,
+          known-at lo (λ (k : ℕ). lowAt win k a) w h k 0 hw (omega arith) le,
+          known-at hi (λ (k : ℕ). highAt win k a) w h k 0 hw (omega arith) he,
+        ))

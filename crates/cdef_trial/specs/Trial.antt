@@ -4,12 +4,15 @@ use mathlib.Core.List.{List}
 use Prim.Native.Nat.{ℕ, _+_, _*_, _/_, _%_, _≤_, _<_}
 use lib.Dec.{eqb}
 use lib.IntN.{ℤ, pos, natAbs, _+ℤ_}
-use lib.ListN.{getD}
+use lib.ListN.{getD, take}
+use mathlib.Core.Path.{_≡_}
 use Rattle.cdef_spec.specs.Standard.{Tap, sample}
+use Rattle.cdef_spec.specs.LoopForm.{putRow}
 use Rattle.cdef_sample.specs.Sample.{finishOf, freeOf}
+use Rattle.cdef_sample.specs.Upto.{upto}
 use Rattle.cdef_rows.specs.declared.Taps.{Taps}
 use Rattle.cdef_rows.specs.declared.Strength.{Strength}
-use Rattle.cdef_rows.specs.Sums.{Near6, InRange, priAt, secAt, filteredAt}
+use Rattle.cdef_rows.specs.Sums.{Near6, InRange, priAt, secAt, lowAt, highAt, filteredAt}
 use Rattle.cdef_trial.specs.declared.Twelve.{Twelve}
 
 -- place k of a block in rows of eight, in the window
@@ -79,3 +82,19 @@ pub record Ready (u : Twelve) : Type 0 where
   pub p3 : InRange (u .p3)
   pub s1 : InRange (u .s1)
   pub s2 : InRange (u .s2)
+
+-- the sums that several of the twelve share, of h rows
+pub record Known (win : List ℕ) (u : Twelve) (h : ℕ) (c lo hi : List ℕ) (p1 p2 p3 : List ℤ) : Type 0 where
+  pub c-is : take (h * 8) c ≡ upto (λ (k : ℕ). getD win (placeOf k) 0) (h * 8)
+  pub lo-is : take (h * 8) lo ≡ upto (λ (k : ℕ). lowAt win (placeOf k) (u .own)) (h * 8)
+  pub hi-is : take (h * 8) hi ≡ upto (λ (k : ℕ). highAt win (placeOf k) (u .own)) (h * 8)
+  pub p1-is : take (h * 8) p1 ≡ upto (λ (k : ℕ). priAt win (placeOf k) (u .own) (u .p1)) (h * 8)
+  pub p2-is : take (h * 8) p2 ≡ upto (λ (k : ℕ). priAt win (placeOf k) (u .own) (u .p2)) (h * 8)
+  pub p3-is : take (h * 8) p3 ≡ upto (λ (k : ℕ). priAt win (placeOf k) (u .own) (u .p3)) (h * 8)
+
+-- the four trials of a secondary strength g, from trial t on, n places each
+abbrev pub fourPut : List ℕ → List ℕ → Twelve → Strength → ℕ → ℕ → ℕ → List ℕ
+fourPut d win u g t w n =
+    putRow (putRow (putRow (putRow d 64 (secTap win (u .zero) g w) t 0 n) 64 (fullTap win (u .own) (u .p1) g w) (t + 1) 0 n)
+    64 (fullTap win (u .own) (u .p2) g w) (t + 2) 0 n)
+    64 (fullTap win (u .own) (u .p3) g w) (t + 3) 0 n

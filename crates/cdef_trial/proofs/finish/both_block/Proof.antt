@@ -23,6 +23,7 @@ abbrev μ-loop : tie.MeasureT-loop
 -- the two sums of a turn
 sums : (c : tie.After-add-arg2 Inv-loop μ-loop) → let a = c .before .before .before .before .before .args in let k = c .before .before .before .before .loop .k in Is (getD (a .p .now) k (pos 0)) (getD (a .p .now) k (pos 0)) 3840 × Is (getD (a .s .now) k (pos 0)) (getD (a .s .now) k (pos 0)) 7680
 sums c = let s = c .before .before .before .before .before in let k = c .before .before .before .before .loop .k in (record { is = refl; small = s .pre .2 .all k (omega arith) }, record { is = refl; small = s .pre .3 .all k (omega arith) })
+
 sum-is : (c : tie.After-add Inv-loop μ-loop) → let a = c .before .before .before .before .before .before .args in let k = c .before .before .before .before .before .loop .k in Is (c .add .result) (getD (a .p .now) k (pos 0) +ℤ getD (a .s .now) k (pos 0)) 11520
 sum-is c = let p = sums (c .before) in add-is (p .0) (p .1) (omega arith) (c .add .ensures)
 

@@ -14,9 +14,8 @@ use Rattle.cdef_sample.specs.Bounds.{Held}
 use Rattle.cdef_sample.specs.Upto.{upto, getD-upto}
 use Rattle.cdef_rows.specs.declared.Taps.{Taps}
 use Rattle.cdef_rows.specs.declared.Strength.{Strength}
-use Rattle.cdef_rows.specs.Sums.{InRange}
 use Rattle.cdef_window.specs.Window.{windowAt}
-use Rattle.cdef_kernel.specs.Kernel.{tapsOf, shiftOf, priOf, secOf, kernelAt}
+use Rattle.cdef_kernel.specs.Kernel.{kernelAt}
 use Rattle.cdef_kernel.specs.KernelLaws.{kernel-tap}
 use Rattle.cdef_filter.specs.Store.{rowTap, windowTap, blockTap}
 
@@ -38,11 +37,3 @@ stored-block d m p b q y0 cols rows hy hh hw hc hr hd held = block-same d m _ _ 
     let e : y0 + r ≡ b .y + i = omega arith in
     let f : c ≡ b .x + j = omega arith in
     kernel-tap p b q i j hh hw (omega arith) (omega arith) hd held ∙ rw (e, ← f))
-
-pub pri-in : (s d depth : ℕ) → s ≤ 240 → InRange (priOf s d depth)
-unfolding priOf shiftOf
-pri-in s d depth h = record { s = h; sh = omega arith; w0 = omega arith; w1 = omega arith }
-
-pub sec-in : (s d : ℕ) → s ≤ 240 → InRange (secOf s d)
-unfolding secOf shiftOf
-sec-in s d h = record { s = h; sh = omega arith; w0 = omega arith; w1 = omega arith }

@@ -2,7 +2,7 @@
 pub mod asked; // asked.rt: the questions of the block filter alone
 
 ghost use mathlib.Core.Path.{_≡_};
-ghost use Prim.Native.Nat.{ℕ, _+_, _-_, _*_, _≤_, _<_, min, max};
+ghost use Prim.Native.Nat.{ℕ, _+_, _-_, _*_, _≤_, _<_, min};
 ghost use lib.ListN.{length, getD};
 ghost use Rattle.cdef_spec.specs.Standard.{Tap};
 ghost use Rattle.cdef_spec.specs.Document01.{unmarked, orElse, filtered};
@@ -17,7 +17,6 @@ use cdef_rows::Strength;
 use cdef_rows::Taps;
 use cdef_spec::Block;
 use cdef_spec::FilterParams;
-use cdef_spec::WorkingDamping;
 
 // What a place holds after v is stored: the mark is never written.
 fn keep(old: u16, v: u16) -> u16
@@ -60,16 +59,6 @@ fn filter_rows(
     }
 }
 
-// A working damping, where 0 counts as 1.
-fn from_one(damping: WorkingDamping) -> u32
-    ensures { λ r. ⌜ r ≡ max 1 (damping .0) ⌝ }
-{
-    if damping.0 == 0 {
-        return 1;
-    }
-    damping.0 as u32
-}
-
 fn lesser(a: usize, b: usize) -> usize
     ensures { λ r. ⌜ r ≡ min a b ⌝ }
 {
@@ -91,7 +80,7 @@ pub fn filter_window(
     requires { ⌜ Held (now win) × Usable q ⌝ }
     ensures { λ _. ⌜ now (dst .exit) ≡ putBlock (now (dst .entry)) w (blockTap (now (win .entry)) q (b .y - y0) (b .x)) (b .y - y0) (b .x) (min (b .width) (w - b .x)) (min (b .height) (h - b .y)) ⌝ }
 {
-    let d = from_one(q.damping);
+    let d = cdef_kernel::from_one(q.damping);
     let t = cdef_kernel::taps(q.dir as usize);
     let f = cdef_kernel::primary(q.pri as u16, d, q.depth);
     let g = cdef_kernel::secondary(q.sec as u16, d);

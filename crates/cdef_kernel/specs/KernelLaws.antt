@@ -29,37 +29,11 @@ use Rattle.cdef_rows.specs.declared.Strength.{Strength}
 use Rattle.cdef_rows.specs.Sums.{InRange, pairAt, lowPair, highPair, priAt, secAt, lowAt, highAt, filteredAt}
 use Rattle.cdef_window.specs.Window.{windowAt}
 use Rattle.cdef_kernel.specs.Kernel.{tapsOf, offAt, shiftOf, priOf, secOf, kernelAt}
-use Rattle.cdef_kernel.specs.ScaleLaws.{scale-add, four, eight}
+use Rattle.cdef_kernel.specs.ShapeLaws.{pri-shape, sec-shape, weights, low-lt, max-below}
 use Rattle.cdef_kernel.specs.PlaceLaws.{entry-is, centre-is, on-tap, back-tap}
 use Rattle.cdef_kernel.specs.OrderLaws.{max-twelve, min-twelve}
 use Rattle.cdef_kernel.specs.SumLaws.{Matches, joined, summed, greatest, smallest, total-is, highest-is, lowest-is, onSample, backSample, along, pri-matches, sec-matches}
 use Rattle.cdef_kernel.specs.FinishLaws.{finish-is, free-is, Idle, none, more, total-idle}
-
--- the sums' two shapes
-pri-shape : (v w : ℕ) (a b c d : ℤ) → pos v *ℤ (a +ℤ b) +ℤ pos w *ℤ (c +ℤ d) ≡ pos v *ℤ a +ℤ (pos v *ℤ b +ℤ (pos w *ℤ c +ℤ (pos w *ℤ d +ℤ pos 0)))
-pri-shape v w a b c d = rw (scale-add v a b, scale-add w c d) (sym (four (pos v *ℤ a) (pos v *ℤ b) (pos w *ℤ c) (pos w *ℤ d)))
-
-sec-shape : (v w : ℕ) (a b c d e f g h : ℤ) → pos v *ℤ ((a +ℤ b) +ℤ (e +ℤ f)) +ℤ pos w *ℤ ((c +ℤ d) +ℤ (g +ℤ h))
-    ≡ pos v *ℤ a +ℤ (pos v *ℤ b +ℤ (pos w *ℤ c +ℤ (pos w *ℤ d +ℤ (pos v *ℤ e +ℤ (pos v *ℤ f +ℤ (pos w *ℤ g +ℤ (pos w *ℤ h +ℤ pos 0)))))))
-sec-shape v w a b c d e f g h =
-    rw (scale-add v (a +ℤ b) (e +ℤ f), scale-add v a b, scale-add v e f, scale-add w (c +ℤ d) (g +ℤ h), scale-add w c d, scale-add w g h)
-    (sym (eight (pos v *ℤ a) (pos v *ℤ b) (pos w *ℤ c) (pos w *ℤ d) (pos v *ℤ e) (pos v *ℤ f) (pos w *ℤ g) (pos w *ℤ h)))
-
-weights : (o : ℕ) → o < 2 → (getD (getD Cdef-Pri-Taps o []) 0 0 ≡ 4 - o) × (getD (getD Cdef-Pri-Taps o []) 1 0 ≡ 2 + o)
-unfolding Cdef-Pri-Taps
-weights zero h = (refl, refl)
-weights (suc zero) h = (refl, refl)
-weights (suc (suc o)) h = absurd (omega arith)
-
-low-lt : (t : ℕ) → t ≤ 16384 → (t ≡ 16384 → ⊥) → t < 16384
-low-lt t h k = go (ℕ-discrete t 16384)
-  where
-    go : Dec (t ≡ 16384) → t < 16384
-    go (yes e) = absurd (k e)
-    go (no g) = omega arith
-
-max-below : {a b : ℕ} → a < 16384 → b < 16384 → max a b < 16384
-max-below h k = omega arith
 
 -- row i and column j of the block b of the plane p, filtered with q
 module _ (p : Plane) (b : Block) (q : FilterParams) (i j : ℕ) (hh : b .height ≤ 8) (hw : b .width ≤ 8) (hi : i < b .height) (hj : j < b .width) (hd : q .dir < 8) (held : Held (upto (windowAt p b) 144)) where
@@ -289,14 +263,36 @@ module _ (p : Plane) (b : Block) (q : FilterParams) (i j : ℕ) (hh : b .height 
   unfolding c
   centre-there = available-here2 p y x
 
+  -- a value that is the mark where the centre is marked, and the filtered sample where not
+  settled : (v : ℕ) → (c ≡ 16384 → v ≡ 16384) → ((n : c ≡ 16384 → ⊥) → v ≡ result n) → v ≡ orElse mark (filtered p q (b .y + i) (b .x + j))
+  unfolding filtered filterCentre orElse unmarked result
+  settled v off on = rw centre-there (go (ℕ-discrete c 16384))
+    where
+      go : Dec (c ≡ 16384) → v ≡ orElse mark (filterCentre p q y x (unmarked c))
+      go (yes e) = rw (eq-eqb c 16384 e) (off e)
+      go (no n) = rw (ne-eqb c 16384 n) (on n)
+
   -- the kernel's sample, or the mark where there is none
   pub kernel-is : kernelAt (upto (windowAt p b) 144) ((i + 2) * 12 + 2 + j) (tapsOf (q .dir)) (priOf (q .pri) (max 1 (q .damping .0)) (q .depth)) (secOf (q .sec) (max 1 (q .damping .0))) ≡ orElse mark (filtered p q (b .y + i) (b .x + j))
-  unfolding filtered filterCentre orElse unmarked win result
-  kernel-is = rw centre-there (go (ℕ-discrete c 16384))
-    where
-      go : Dec (c ≡ 16384) → kernelAt win at (tapsOf (q .dir)) (priOf (q .pri) d (q .depth)) (secOf (q .sec) d) ≡ orElse mark (filterCentre p q y x (unmarked c))
-      go (yes e) = rw (eq-eqb c 16384 e) (kernel-off e)
-      go (no n) = rw (ne-eqb c 16384 n) (kernel-on n)
+  unfolding win
+  kernel-is = settled _ kernel-off kernel-on
+
+  -- the parts of it, each alone
+  pub centre-sample : q .pri ≡ 0 → q .sec ≡ 0 → getD (upto (windowAt p b) 144) ((i + 2) * 12 + 2 + j) 0 ≡ orElse mark (filtered p q (b .y + i) (b .x + j))
+  unfolding win
+  centre-sample e f = settled _ (λ m. here ∙ m) (λ n. neither n e f)
+
+  pub pri-sample : q .sec ≡ 0 → freeOf (getD (upto (windowAt p b) 144) ((i + 2) * 12 + 2 + j) 0) (priAt (upto (windowAt p b) 144) ((i + 2) * 12 + 2 + j) (tapsOf (q .dir)) (priOf (q .pri) (max 1 (q .damping .0)) (q .depth))) ≡ orElse mark (filtered p q (b .y + i) (b .x + j))
+  unfolding win
+  pri-sample e = settled _ (λ m. free-mark _ _ (here ∙ m) ∙ here ∙ m) (λ n. pri-free n e)
+
+  pub sec-sample : q .pri ≡ 0 → freeOf (getD (upto (windowAt p b) 144) ((i + 2) * 12 + 2 + j) 0) (secAt (upto (windowAt p b) 144) ((i + 2) * 12 + 2 + j) (tapsOf (q .dir)) (secOf (q .sec) (max 1 (q .damping .0)))) ≡ orElse mark (filtered p q (b .y + i) (b .x + j))
+  unfolding win
+  sec-sample e = settled _ (λ m. free-mark _ _ (here ∙ m) ∙ here ∙ m) (λ n. sec-free n e)
+
+  pub both-sample : filteredAt (upto (windowAt p b) 144) ((i + 2) * 12 + 2 + j) (tapsOf (q .dir)) (priOf (q .pri) (max 1 (q .damping .0)) (q .depth)) (secOf (q .sec) (max 1 (q .damping .0))) ≡ orElse mark (filtered p q (b .y + i) (b .x + j))
+  unfolding win filteredAt
+  both-sample = settled _ (λ m. finish-mark _ _ _ _ (here ∙ m) ∙ here ∙ m) (λ n. both-is n)
 
   -- the same as a tap: the filtered sample is never the mark
   pub kernel-tap : unmarked (kernelAt (upto (windowAt p b) 144) ((i + 2) * 12 + 2 + j) (tapsOf (q .dir)) (priOf (q .pri) (max 1 (q .damping .0)) (q .depth)) (secOf (q .sec) (max 1 (q .damping .0)))) ≡ filtered p q (b .y + i) (b .x + j)

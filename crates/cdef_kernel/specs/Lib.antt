@@ -2,6 +2,7 @@
 pub mod Kernel
 -- Laws: the kernel's sample is the filtered sample of the plane.
 pub mod ScaleLaws
+pub mod ShapeLaws
 pub mod TapLaws
 pub mod PlaceLaws
 pub mod OrderLaws

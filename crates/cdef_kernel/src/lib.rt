@@ -1,6 +1,6 @@
 // What a row of the window is filtered with, and the filtered row.
 ghost use mathlib.Core.Path.{_≡_};
-ghost use Prim.Native.Nat.{ℕ, _+_, _≤_, _<_};
+ghost use Prim.Native.Nat.{ℕ, _+_, _≤_, _<_, max};
 ghost use lib.ListN.{getD};
 ghost use Rattle.cdef_sample.specs.Bounds.{Held};
 ghost use Rattle.cdef_sample.specs.Upto.{upto};
@@ -8,6 +8,7 @@ ghost use Rattle.cdef_rows.specs.Sums.{Near6, InRange};
 ghost use Rattle.cdef_kernel.specs.Kernel.{offAt, tapsOf, shiftOf, priOf, secOf, kernelAt};
 use cdef_rows::Strength;
 use cdef_rows::Taps;
+use cdef_spec::WorkingDamping;
 
 // A step of a direction as an offset in the window, negative ones wrapped.
 fn offset(dir: usize, k: usize) -> usize
@@ -34,6 +35,16 @@ pub fn taps(dir: usize) -> Taps
         r0: offset(r, 0),
         r1: offset(r, 1),
     }
+}
+
+// A working damping, where 0 counts as 1.
+pub fn from_one(damping: WorkingDamping) -> u32
+    ensures { λ r. ⌜ r ≡ max 1 (damping .0) ⌝ }
+{
+    if damping.0 == 0 {
+        return 1;
+    }
+    damping.0 as u32
 }
 
 // The shift of a strength, held to 15.

@@ -9,16 +9,16 @@ use Rattle.cdef_rows.specs.declared.Taps.{Taps}
 use Rattle.cdef_rows.specs.declared.Strength.{Strength}
 use Rattle.cdef_kernel.specs.Kernel.{tapsOf, priOf, secOf}
 use Rattle.cdef_kernel.specs.PlaceLaws.{taps-near}
+use Rattle.cdef_kernel.specs.ShapeLaws.{pri-in, sec-in}
 use Rattle.cdef_filter.specs.Store.{windowTap, blockTap}
-use Rattle.cdef_filter.specs.StoreLaws.{pri-in, sec-in}
 use borrow.Author.Needs.{needs}
 use Rattle.cdef_filter.proofs.filter_window.Statement.{statement}
 use Rattle.cdef_filter.proofs.filter_window.Tie as tie
 use Rattle.cdef_filter.proofs.filter_window.Reads as reads
 use Rattle.cdef_filter.proofs.filter_window.Lts as lts
 use Rattle.cdef_filter.proofs.filter_rows.Reads as filter-rows-reads
-use Rattle.cdef_filter.proofs.from_one.Reads as from-one-reads
 use Rattle.cdef_filter.proofs.lesser.Reads as lesser-reads
+use Rattle.cdef_kernel.proofs.from_one.Reads as from-one-reads
 use Rattle.cdef_kernel.proofs.primary.Reads as primary-reads
 use Rattle.cdef_kernel.proofs.secondary.Reads as secondary-reads
 use Rattle.cdef_kernel.proofs.taps.Reads as taps-reads

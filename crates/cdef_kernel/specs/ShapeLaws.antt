@@ -3,8 +3,10 @@ use mathlib.Core.Path.{_≡_, refl, sym, ap, _∙_}
 use mathlib.Core.List.{List, []}
 use Prim.Native.Nat.{ℕ, zero, suc, _+_, _-_, _*_, _/_, _%_, _^_, _≤_, _<_, min, max}
 use native.Mathlib.Decide.{ℕ-discrete}
+use native.Mathlib.Nat.{mul-le-mul}
 use native.Mathlib.Omega.{arith}
 use lib.ListN.{getD}
+use lib.Pow.{pow-mono}
 use lib.IntN.{ℤ, pos, _+ℤ_, _*ℤ_}
 use Rattle.cdef_spec.specs.Standard.{Cdef-Pri-Taps}
 use Rattle.cdef_rows.specs.Sums.{InRange}
@@ -45,3 +47,14 @@ pri-in s d depth h = record { s = h; sh = omega arith; w0 = omega arith; w1 = om
 pub sec-in : (s d : ℕ) → s ≤ 240 → InRange (secOf s d)
 unfolding secOf shiftOf
 sec-in s d h = record { s = h; sh = omega arith; w0 = omega arith; w1 = omega arith }
+
+-- a strength up to 15, shifted by depth - 8, is at most 240 and fits
+pub limit-low : (n d : ℕ) → n ≤ 15 → d ≤ 12 → n * 2 ^ (d - 8) ≤ 240
+limit-low n d hn hd =
+    let k : d - 8 ≤ 4 = omega arith in
+    let l : 2 ^ (d - 8) ≤ 2 ^ 4 = pow-mono {i = d - 8} {j = 4} k in
+    let m : n * 2 ^ (d - 8) ≤ 15 * 2 ^ 4 = mul-le-mul hn l in
+    omega arith
+
+pub limit : (n d : ℕ) → n ≤ 15 → d ≤ 12 → (n * 2 ^ (d - 8)) % 2 ^ 32 ≡ n * 2 ^ (d - 8)
+limit n d hn hd = omega (arith, limit-low n d hn hd)

@@ -1,6 +1,7 @@
 // The trial of a block: twelve pairs of strengths, from shared sums.
 pub mod finish; // finish.rt: filtered samples from sums
 pub mod put; // put.rt: a trial block stored
+pub mod strengths; // strengths.rt: what the twelve are filtered with
 pub mod sums; // sums.rt: sums, least and largest taps of a block
 
 ghost use mathlib.Core.Path.{_≡_};

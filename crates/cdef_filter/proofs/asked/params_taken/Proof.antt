@@ -2,26 +2,17 @@
 use mathlib.Core.Path.{_≡_, refl, sym}
 use mathlib.Core.Bool.{Bool, true, false}
 use Prim.Native.Nat.{ℕ, _+_, _-_, _*_, _%_, _^_, _≤_, _<_}
-use native.Mathlib.Nat.{mul-le-mul}
 use native.Mathlib.Omega.{arith}
 use borrow.Author.Tests.{lt-leb, le-leb, le-ltb, lt-ltb}
 use lib.Dec.{leb}
-use lib.Pow.{pow-mono}
 use Rattle.cdef_spec.specs.declared.FilterParams.{FilterParams}
 use Rattle.cdef_spec.specs.Questions.{workingTaken, paramsTaken}
+use Rattle.cdef_kernel.specs.ShapeLaws.{limit}
 use borrow.Author.Needs.{needs}
 use Rattle.cdef_filter.proofs.asked.params_taken.Statement.{statement}
 use Rattle.cdef_filter.proofs.asked.params_taken.Tie as tie
 use Rattle.cdef_filter.proofs.asked.params_taken.Reads as reads
 use Rattle.cdef_filter.proofs.asked.params_taken.Lts as lts
-
--- the shifted limit fits
-limit : (n d : ℕ) → n ≤ 15 → d ≤ 12 → (n * 2 ^ (d - 8)) % 2 ^ 32 ≡ n * 2 ^ (d - 8)
-limit n d hn hd =
-    let k : d - 8 ≤ 4 = omega arith in
-    let l : 2 ^ (d - 8) ≤ 2 ^ 4 = pow-mono {i = d - 8} {j = 4} k in
-    let m : n * 2 ^ (d - 8) ≤ 15 * 2 ^ 4 = mul-le-mul hn l in
-    omega arith
 
 module _ (q : FilterParams) where
   no-pri : 15 * 2 ^ (q .depth - 8) < q .pri → false ≡ paramsTaken q

@@ -7,3 +7,4 @@ pub mod FourLaws
 pub mod TwelveLaws
 pub mod SampleLaws
 pub mod StrengthLaws
+pub mod TableLaws

@@ -1,4 +1,5 @@
 // The trial of a block: twelve pairs of strengths, from shared sums.
+pub mod block; // block.rt: the trial of a block of a plane
 pub mod finish; // finish.rt: filtered samples from sums
 pub mod put; // put.rt: a trial block stored
 pub mod strengths; // strengths.rt: what the twelve are filtered with

@@ -10,3 +10,6 @@ pub mod Weighing
 pub mod SequenceLaws
 pub mod WeighingLaws
 pub mod NearestLaws
+pub mod SumLaws
+pub mod Blocks
+pub mod BlockLaws

@@ -14,10 +14,10 @@ here-or-on i b = go (decLt i b)
     go (no h) = inr (omega arith)
 
 -- x² + (x + d)² is 2 x (x + d) + d²
-apart : (x d : ℕ) → x * x + (x + d) * (x + d) ≡ 2 * (x * (x + d)) + d * d
+pub apart : (x d : ℕ) → x * x + (x + d) * (x + d) ≡ 2 * (x * (x + d)) + d * d
 apart x d = let e : d * x ≡ x * d = mul-comm d x in simp (mul-add, add-mul) (omega arith)
 
--- 2 x y ≤ x² + y², and x² + y² ≤ 2 x y + c² where neither is above c
+-- 2 x y ≤ x² + y²
 pub product-low : (x y : ℕ) → 2 * (x * y) ≤ x * x + y * y
 product-low x y = elim (here-or-on x y) [ inl l ↦ go x (y - x) (omega arith) | inr h ↦ turn (go y (x - y) (omega arith)) ]
   where
@@ -25,15 +25,6 @@ product-low x y = elim (here-or-on x y) [ inl l ↦ go x (y - x) (omega arith) |
     go x d e = subst (λ (z : ℕ). 2 * (x * z) ≤ x * x + z * z) (sym e) (omega (arith, apart x d))
 
     turn : 2 * (y * x) ≤ y * y + x * x → 2 * (x * y) ≤ x * x + y * y
-    turn h = let e : x * y ≡ y * x = mul-comm x y in omega arith
-
-pub product-high : (x y c : ℕ) → x ≤ c → y ≤ c → x * x + y * y ≤ 2 * (x * y) + c * c
-product-high x y c h k = elim (here-or-on x y) [ inl l ↦ go x (y - x) (omega arith) (omega arith) | inr g ↦ turn (go y (x - y) (omega arith) (omega arith)) ]
-  where
-    go : {y : ℕ} (x d : ℕ) → y ≡ x + d → d ≤ c → x * x + y * y ≤ 2 * (x * y) + c * c
-    go x d e b = subst (λ (z : ℕ). x * x + z * z ≤ 2 * (x * z) + c * c) (sym e) (omega (arith, apart x d, mul-le-mul b b))
-
-    turn : y * y + x * x ≤ 2 * (y * x) + c * c → x * x + y * y ≤ 2 * (x * y) + c * c
     turn h = let e : x * y ≡ y * x = mul-comm x y in omega arith
 
 -- a product is at most the square of a number that is half the factors' sum at least

@@ -2,15 +2,18 @@
 use mathlib.Core.Path.{_≡_, refl, sym, ap, _∙_}
 use mathlib.Core.List.{List}
 use Prim.Native.Nat.{ℕ, zero, suc, _+_, _-_, _*_, _/_, _%_, _^_, _≤_, _<_}
+use native.Mathlib.Nat.{lt-of-lt-of-le}
 use native.Mathlib.Omega.{arith}
 use lib.ListN.{getD}
+use lib.Pow.{pow-mono}
 use Rattle.cdef_spec.specs.declared.DistanceConstants.{DistanceConstants}
 use Rattle.cdef_spec.specs.Words.{sum, sum2}
 use Rattle.cdef_spec.specs.WordsLaws.{sum2-same}
 use Rattle.cdef_spec.specs.Distance.{squaredDifference, squares, spread, weighted}
 use Rattle.cdef_sample.specs.Upto.{upto, getD-upto}
-use Rattle.cdef_distance.specs.Weighing.{spreadOf, SumsOf}
-use Rattle.cdef_distance.specs.SumLaws.{sum-none, sum-more, sum-64, differences, sums-of}
+use Rattle.cdef_distance.specs.Weighing.{OfDepth, spreadOf, SumsOf}
+use Rattle.cdef_distance.specs.WeighingLaws.{weighted-low}
+use Rattle.cdef_distance.specs.SumLaws.{sum-none, sum-more, sum-high, sum-64, difference-high, differences, sums-of}
 use Rattle.cdef_distance.specs.Blocks.{at, cell, blockOf, Below, Within, weightedBy}
 
 -- ---- the 64 samples of a block
@@ -95,3 +98,25 @@ module _ (o d : List ℕ) (os op ds dp cols : ℕ) where
   pub rows-more : (i t r : ℕ) → t ≡ squares i cols (at o os op) (at d ds dp) → r ≡ sum cols (λ j. squaredDifference (getD o (os + i * op + j) 0) (getD d (ds + i * dp + j) 0)) → t + r ≡ squares (i + 1) cols (at o os op) (at d ds dp)
   unfolding squares sum2 at
   rows-more i t r e f = rw (e, f) (sum-more (λ i. sum cols (λ j. squaredDifference (getD o (os + i * op + j) 0) (getD d (ds + i * dp + j) 0))) i)
+
+-- ---- bounds
+
+pub below-4096 : (a : List ℕ) (depth : ℕ) → depth ≤ 12 → Below a (2 ^ depth) → Below a 4096
+below-4096 a depth d b = record { each = λ k h. lt-of-lt-of-le (b .each k h) (pow-mono {i = depth} {j = 12} d) }
+
+pub row-high : (cols : ℕ) (f g : ℕ → ℕ) → cols ≤ 8 → ((j : ℕ) → j < cols → (f j < 4096) × (g j < 4096)) → sum cols (λ j. squaredDifference (f j) (g j)) ≤ 134152200
+row-high cols f g h l =
+    let s : sum cols (λ j. squaredDifference (f j) (g j)) ≤ cols * 16769025 = sum-high cols 16769025 _ (λ j k. difference-high (f j) (g j) 4095 (omega (arith, l j k .0)) (omega (arith, l j k .1))) in
+    omega arith
+
+pub squares-high : (rows cols : ℕ) (o d : ℕ → ℕ → ℕ) → rows ≤ 8 → cols ≤ 8 → ((i j : ℕ) → i < rows → j < cols → (o i j < 4096) × (d i j < 4096)) → squares rows cols o d ≤ 1073217600
+unfolding squares sum2
+squares-high rows cols o d h k l =
+    let s : sum rows (λ i. sum cols (λ j. squaredDifference (o i j) (d i j))) ≤ rows * 134152200 = sum-high rows 134152200 _ (λ i hi. row-high cols (o i) (d i) k (λ j hj. l i j hi hj)) in
+    omega arith
+
+pub weighted-64-low : (c : DistanceConstants) (depth : ℕ) (a b : List ℕ) → OfDepth c depth → Below a (2 ^ depth) → Below b (2 ^ depth) → weightedBy c (cell a) (cell b) < 2 ^ 53
+unfolding weightedBy spreadOf
+weighted-64-low c depth a b o x y =
+    let s = sums-of depth (λ k. getD a k 0) (λ k. getD b k 0) (x .each) (y .each) in
+    rw (← spread-64 a, ← spread-64 b, ← error-is a b) (weighted-low c depth _ _ _ o (omega (arith, s .first-high)) (omega (arith, s .second-high)) (omega (arith, s .error-high)))

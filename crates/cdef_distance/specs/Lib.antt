@@ -13,3 +13,4 @@ pub mod NearestLaws
 pub mod SumLaws
 pub mod Blocks
 pub mod BlockLaws
+pub mod PlaneLaws

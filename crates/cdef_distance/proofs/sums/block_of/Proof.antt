@@ -1,4 +1,4 @@
--- `cdef_distance::block_of` meets its contract.
+-- `cdef_distance::sums::block_of` meets its contract.
 use mathlib.Core.Path.{_≡_, refl, sym}
 use Prim.Native.Nat.{ℕ, _+_, _-_, _*_, _/_, _%_, _≤_, _<_}
 use native.Mathlib.Omega.{arith}
@@ -8,8 +8,6 @@ use Rattle.cdef_distance.specs.Blocks.{at, blockOf}
 use Rattle.cdef_distance.specs.BlockLaws.{stored}
 use Rattle.cdef_distance.proofs.sums.block_of.Statement.{statement}
 use Rattle.cdef_distance.proofs.sums.block_of.Tie as tie
-use Rattle.cdef_distance.proofs.sums.block_of.Reads as reads
-use Rattle.cdef_distance.proofs.sums.block_of.Lts as lts
 
 abbrev Inv-loop2 : tie.InvT-loop2
 Inv-loop2 s start pitch b₀ i from to j₀ b j = (take (to + j) b ≡ upto (λ (k : ℕ). at s start pitch (k / 8) (k % 8)) (to + j)) × (length b ≡ 64) × (j ≤ 8)

@@ -1,4 +1,4 @@
--- `cdef_distance::products` meets its contract.
+-- `cdef_distance::sums::products` meets its contract.
 use mathlib.Core.Path.{_≡_, _∙_}
 use Prim.Native.Nat.{ℕ, _-_, _*_, _≤_}
 use native.Mathlib.Nat.{mul-le-mul}
@@ -8,8 +8,6 @@ use Rattle.cdef_spec.specs.Words.{sum}
 use Rattle.cdef_distance.specs.SumLaws.{sum-none, sum-more}
 use Rattle.cdef_distance.proofs.sums.products.Statement.{statement}
 use Rattle.cdef_distance.proofs.sums.products.Tie as tie
-use Rattle.cdef_distance.proofs.sums.products.Reads as reads
-use Rattle.cdef_distance.proofs.sums.products.Lts as lts
 
 abbrev Inv-loop : tie.InvT-loop
 Inv-loop a b t₀ k₀ t k = (t ≡ sum k (λ j. getD a j 0 * getD b j 0)) × (k ≤ 64) × (t ≤ k * 16769025)

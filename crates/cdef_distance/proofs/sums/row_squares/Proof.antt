@@ -1,4 +1,4 @@
--- `cdef_distance::row_squares` meets its contract.
+-- `cdef_distance::sums::row_squares` meets its contract.
 use mathlib.Core.Path.{_≡_, _∙_}
 use Prim.Native.Nat.{ℕ, _+_, _-_, _*_, _≤_}
 use native.Mathlib.Omega.{arith}
@@ -8,9 +8,6 @@ use Rattle.cdef_spec.specs.Distance.{squaredDifference}
 use Rattle.cdef_distance.specs.SumLaws.{sum-none, sum-more, difference-high}
 use Rattle.cdef_distance.proofs.sums.row_squares.Statement.{statement}
 use Rattle.cdef_distance.proofs.sums.row_squares.Tie as tie
-use Rattle.cdef_distance.proofs.sums.row_squares.Reads as reads
-use Rattle.cdef_distance.proofs.sums.row_squares.Lts as lts
-use Rattle.cdef_distance.proofs.sums.squared_difference.Reads as squared-difference-reads
 
 abbrev Inv-loop : tie.InvT-loop
 Inv-loop o from d to n t₀ j₀ t j = (t ≡ sum j (λ k. squaredDifference (getD o (from + k) 0) (getD d (to + k) 0))) × (j ≤ n) × (t ≤ j * 16769025)

@@ -1,4 +1,4 @@
--- `cdef_distance::squared_difference` meets its contract.
+-- `cdef_distance::sums::squared_difference` meets its contract.
 use mathlib.Core.Path.{_≡_}
 use mathlib.Core.Logic.{⊎-elim}
 use Prim.Native.Nat.{ℕ, _-_, _*_, _≤_, max, min}
@@ -8,8 +8,6 @@ use Rattle.cdef_spec.specs.Distance.{squaredDifference}
 use borrow.Author.Needs.{needs}
 use Rattle.cdef_distance.proofs.sums.squared_difference.Statement.{statement}
 use Rattle.cdef_distance.proofs.sums.squared_difference.Tie as tie
-use Rattle.cdef_distance.proofs.sums.squared_difference.Reads as reads
-use Rattle.cdef_distance.proofs.sums.squared_difference.Lts as lts
 
 -- where the two ways meet
 is : (c : tie.After-row-known) → let a = c .before .before .args in c .before .if1 .d ≡ max (a .a) (a .b) - min (a .a) (a .b)

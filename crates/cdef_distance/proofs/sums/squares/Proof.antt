@@ -1,4 +1,4 @@
--- `cdef_distance::squares` meets its contract.
+-- `cdef_distance::sums::squares` meets its contract.
 use mathlib.Core.Path.{_≡_, _∙_}
 use Prim.Native.Nat.{ℕ, _+_, _-_, _*_, _≤_, _<_}
 use native.Mathlib.Nat.{mul-le-mul-right}
@@ -6,14 +6,10 @@ use native.Mathlib.Omega.{arith}
 use lib.ListN.{getD, length}
 use Rattle.cdef_spec.specs.Words.{sum}
 use Rattle.cdef_spec.specs.Distance.{squaredDifference, squares}
-use Rattle.cdef_distance.specs.SumLaws.{sum-high, difference-high}
 use Rattle.cdef_distance.specs.Blocks.{at}
-use Rattle.cdef_distance.specs.BlockLaws.{rows-none, rows-more}
+use Rattle.cdef_distance.specs.BlockLaws.{rows-none, rows-more, row-high}
 use Rattle.cdef_distance.proofs.sums.squares.Statement.{statement}
 use Rattle.cdef_distance.proofs.sums.squares.Tie as tie
-use Rattle.cdef_distance.proofs.sums.squares.Reads as reads
-use Rattle.cdef_distance.proofs.sums.squares.Lts as lts
-use Rattle.cdef_distance.proofs.sums.row_squares.Reads as row-squares-reads
 
 abbrev Inv-loop : tie.InvT-loop
 Inv-loop o from pitch d to step rows cols t₀ i₀ t i = (t ≡ squares i cols (at o from pitch) (at d to step)) × (i ≤ rows) × (t ≤ i * 134152200)
@@ -31,11 +27,6 @@ row-d c = c .before .before .before .before .pre .3 .held (c .before .loop .i) (
 low : (c : tie.In-loop Inv-loop μ-loop) → let a = c .before .before .before .before .args in (j : ℕ) → j < a .cols → (getD (a .o .now) (a .from + c .before .loop .i * a .pitch + j) 0 < 4096) × (getD (a .d .now) (a .to + c .before .loop .i * a .step + j) 0 < 4096)
 unfolding at
 low c j h = (c .before .before .before .before .pre .2 .low _ j (c .loop-test .taken) h, c .before .before .before .before .pre .3 .low _ j (c .loop-test .taken) h)
-
-row-high : (cols : ℕ) (f g : ℕ → ℕ) → cols ≤ 8 → ((j : ℕ) → j < cols → (f j < 4096) × (g j < 4096)) → sum cols (λ j. squaredDifference (f j) (g j)) ≤ 134152200
-row-high cols f g h l =
-    let s : sum cols (λ j. squaredDifference (f j) (g j)) ≤ cols * 16769025 = sum-high cols 16769025 _ (λ j k. difference-high (f j) (g j) 4095 (omega (arith, l j k .0)) (omega (arith, l j k .1))) in
-    omega arith
 
 small : (c : tie.After-row-squares Inv-loop μ-loop) → c .row-squares .result ≤ 134152200
 small c = let s = c .before .before .before .before .before in omega (arith, c .row-squares .ensures, row-high (s .args .cols) (λ j. getD (s .args .o .now) (s .args .from + c .before .before .loop .i * s .args .pitch + j) 0) (λ j. getD (s .args .d .now) (s .args .to + c .before .before .loop .i * s .args .step + j) 0) (s .pre .1) (low (c .before)))

@@ -1,4 +1,4 @@
--- `cdef_distance::total` meets its contract.
+-- `cdef_distance::sums::total` meets its contract.
 use mathlib.Core.Path.{_≡_, _∙_}
 use Prim.Native.Nat.{ℕ, _-_, _*_, _≤_, _<_}
 use native.Mathlib.Omega.{arith}
@@ -7,8 +7,6 @@ use Rattle.cdef_spec.specs.Words.{sum}
 use Rattle.cdef_distance.specs.SumLaws.{sum-none, sum-more}
 use Rattle.cdef_distance.proofs.sums.total.Statement.{statement}
 use Rattle.cdef_distance.proofs.sums.total.Tie as tie
-use Rattle.cdef_distance.proofs.sums.total.Reads as reads
-use Rattle.cdef_distance.proofs.sums.total.Lts as lts
 
 abbrev Inv-loop : tie.InvT-loop
 Inv-loop a t₀ k₀ t k = (t ≡ sum k (λ j. getD a j 0)) × (k ≤ 64) × (t ≤ k * 4095)

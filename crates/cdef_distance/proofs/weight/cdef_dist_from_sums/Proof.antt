@@ -4,7 +4,6 @@ use native.Mathlib.Omega.{arith}
 use Rattle.cdef_spec.specs.Distance.{squaresLimit}
 use Rattle.cdef_distance.specs.Weighing.{most, spreadOf}
 use Rattle.cdef_distance.specs.WeighingLaws.{limit-most}
-use borrow.Author.Needs.{needs}
 use Rattle.cdef_distance.proofs.weight.cdef_dist_from_sums.Statement.{statement}
 use Rattle.cdef_distance.proofs.weight.cdef_dist_from_sums.Tie as tie
 

@@ -10,7 +10,6 @@ use Rattle.cdef_distance.specs.RootWords.{normal, two53}
 use Rattle.cdef_distance.specs.Weighing.{most}
 use Rattle.cdef_distance.specs.SequenceLaws.{cut-ready}
 use Rattle.cdef_distance.specs.WeighingLaws.{in-float, Bounds, bounds, limit-most, half-is}
-use borrow.Author.Needs.{needs}
 use Rattle.cdef_distance.proofs.weight.weighted.Statement.{statement}
 use Rattle.cdef_distance.proofs.weight.weighted.Tie as tie
 

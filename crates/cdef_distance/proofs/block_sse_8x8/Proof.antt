@@ -1,0 +1,60 @@
+-- `cdef_distance::block_sse_8x8` meets its contract.
+use mathlib.Core.Path.{_≡_, _∙_}
+use Prim.Native.Nat.{ℕ, _+_, _-_, _*_, _<_, min}
+use native.Mathlib.Omega.{arith}
+use lib.ListN.{length}
+use Rattle.cdef_distance.specs.Blocks.{Within}
+use Rattle.cdef_distance.specs.PlaneLaws.{place-low, cut-within, lower, squares-is}
+use borrow.Author.Needs.{needs}
+use Rattle.cdef_distance.proofs.block_sse_8x8.Statement.{statement}
+use Rattle.cdef_distance.proofs.block_sse_8x8.Tie as tie
+
+corner : (s : tie.Start) → s .args .y * s .args .width + s .args .x < length (s .args .orig .now)
+corner s = let a = s .args in omega (arith, place-low (a .width) (a .height) (a .y) (a .x) (s .pre .1 .0 .3) (s .pre .1 .0 .2), s .pre .0 .0)
+
+orig-in : (s : tie.Start) → let a = s .args in Within (a .orig .now) (a .y * a .width + a .x) (a .width) (min 8 (a .height - a .y)) (min 8 (a .width - a .x)) 4096
+orig-in s = let a = s .args in let p = s .pre .1 in lower _ _ _ _ _ (p .1 .0) (p .1 .1) (cut-within (a .orig .now) (a .width) (a .height) (p .1 .0) (a .y) (a .x) (s .pre .0 .0) (p .0 .2) (p .0 .3) (p .1 .2))
+
+other-in : (s : tie.Start) → let a = s .args in Within (a .other .now) (a .y * a .width + a .x) (a .width) (min 8 (a .height - a .y)) (min 8 (a .width - a .x)) 4096
+other-in s = let a = s .args in let p = s .pre .1 in lower _ _ _ _ _ (p .1 .0) (p .1 .1) (cut-within (a .other .now) (a .width) (a .height) (p .1 .0) (a .y) (a .x) (s .pre .0 .1) (p .0 .2) (p .0 .3) (p .1 .3))
+
+sub-least : tie.Need-sub-least
+sub-least c = search needs
+
+least-requires : tie.Need-least-requires
+least-requires c κs = search needs
+
+sub-least-2 : tie.Need-sub-least-2
+sub-least-2 c = search needs
+
+least-requires-2 : tie.Need-least-requires-2
+least-requires-2 c κs = search needs
+
+mul-at : tie.Need-mul-at
+mul-at c = omega (arith, corner (c .before .before .before .before))
+
+add-at : tie.Need-add-at
+add-at c = omega (arith, corner (c .before .before .before .before))
+
+squares-requires : tie.Need-squares-requires
+squares-requires c κs = rw (c .before .least .ensures, c .least2 .ensures) (omega arith, omega arith, orig-in (c .before .before .before .before), other-in (c .before .before .before .before))
+
+cast-result : tie.Need-cast-result
+cast-result c = search needs
+
+returns : tie.Need-returns
+returns c = squares-is _ _ _ _ _ _ _ (c .squares .ensures ∙ rw (c .before .before .least .ensures, c .before .least2 .ensures))
+
+pub block-sse-8x8-spec : {M : Type 1} → statement M
+block-sse-8x8-spec =
+    tie.close
+    (tie.spec
+    sub-least
+    least-requires
+    sub-least-2
+    least-requires-2
+    mul-at
+    add-at
+    squares-requires
+    cast-result
+    returns)

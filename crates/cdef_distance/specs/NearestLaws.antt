@@ -1,0 +1,296 @@
+-- `rootOf` is the f64 nearest to the root: every other f64 is further away.
+use mathlib.Core.Path.{_≡_, refl, sym, ap, _∙_, subst}
+use mathlib.Core.Logic.{_⊎_, inl, inr}
+use Prim.Native.Nat.{ℕ, zero, suc, _+_, _-_, _*_, _/_, _%_, _^_, _≤_, _<_}
+use native.Mathlib.Nat.{le-trans, le-of-eq, lt-of-le-of-lt, lt-of-lt-of-le, not-le-of-lt, lt-of-not-le, lt-irrefl, mul-one, one-mul, mul-comm, mul-assoc, mul-left-comm, mul-right-comm, mul-mul-mul-comm, mul-add, add-mul, add-comm, add-assoc, add-left-comm, mul-le-mul, mul-le-mul-left, mul-le-mul-right, mul-lt-mul-of-pos-right, mul-pos, lt-of-mul-lt-mul-right, le-of-mul-le-mul-right, eq-of-mul-eq-mul-right, zero-mul, sub-add-cancel, two-mul, mul-div-cancel}
+use native.Mathlib.Omega.{arith}
+use mathlib.Core.Bool.{Bool, true, false, not, _&&_, true≢false}
+use lib.IntN.{ℤ, pos, negsuc}
+use lib.Dec.{T, eqb, ltb, leb, ltb→lt, leb→le, lit<, lit≤}
+use lib.Pow.{pow-add, pow-pos, pow-mono, pow-lt}
+use lib.Ieee.{Float, nan, inf, fin, binary64, up, down, fits, size, ofBits, toBits}
+use lib.Ieee.Fits.{and-l, and-r, down-pos}
+use lib.Ieee.Bits.{ofBits-toBits, ofBits-fits}
+use lib.Ieee.Exact.{HasValue}
+use lib.Ieee.Positive.{num, den, den-pos, value→cross}
+use Rattle.cdef_spec.specs.Root.{nearestWhole, rootBits, rootOf, plain, sumNum, sumDen, IsNearestRoot, RootIsNearest}
+use Rattle.cdef_distance.specs.RootWords.{normal, NearestWhole}
+use Rattle.cdef_distance.specs.PatternLaws.{val, bits-is, pattern-in-range}
+use Rattle.cdef_distance.specs.NewtonLaws.{here-or-on}
+use Rattle.cdef_distance.specs.RootLaws.{Wide, Moved, found-range, found, found-normal, nearest-whole, wide-low, wide-high, under128}
+use Rattle.cdef_distance.specs.FloatLaws.{U, U-pos}
+use Rattle.cdef_distance.specs.SequenceLaws.{moved-any}
+
+-- ---- a value that fits, in units of 2 ^ -1074
+pow-back : (a l : ℕ) → 2 ^ a ≤ 2 ^ l → a ≤ l
+pow-back a l h = elim (here-or-on l a) [ inl g ↦ absurd (not-le-of-lt (pow-lt g) h) | inr g ↦ g ]
+
+units : (d : ℤ) → down d ≤ 2 ^ 1074 → (j : ℕ) × ((n : ℕ) → n * up d * U ≡ n * 2 ^ j * down d)
+units (pos a) h = (a + 1074, λ n. mul-assoc n (2 ^ a) U ∙ ap (λ (z : ℕ). n * z) (sym (pow-add 2 a 1074)) ∙ sym (mul-one (n * 2 ^ (a + 1074))))
+units (negsuc a) h =
+    let l : suc a ≤ 1074 = pow-back (suc a) 1074 h in
+    (1074 - suc a, λ n. ap (λ (z : ℕ). z * U) (mul-one n) ∙ ap (λ (z : ℕ). n * z) (ap (λ (z : ℕ). 2 ^ z) (sym (sub-add-cancel l)) ∙ pow-add 2 (1074 - suc a) (suc a)) ∙ sym (mul-assoc n (2 ^ (1074 - suc a)) (2 ^ suc a)))
+
+-- Y units, which is n * 2 ^ j for an n of 53 digits at most
+record Counted (y : Float) : Type 0 where
+  n : ℕ
+  j : ℕ
+  small : n < 2 ^ 53
+  value : HasValue y false (n * 2 ^ j) U
+
+counted : (y : Float) → T (fits binary64 y) → T (plain y) → Counted y
+unfolding fits
+counted nan F p = absurd p
+counted (inf s) F p = absurd p
+counted (fin true m e) F p = absurd p
+counted (fin false zero e) F p = record { n = 0; j = 0; small = lit< tt; value = (refl, ap (λ (z : ℕ). z * U) (zero-mul (up e)) ∙ sym (zero-mul (down e))) }
+counted (fin false (suc m) e) F p =
+    let t = and-l (eqb (suc m % 2) 1 && ltb (suc m) (2 ^ 53) && leb (down e) (2 ^ 1074)) (ltb (suc m * up e) (2 ^ 1024 * down e)) F in
+    let d : down e ≤ 2 ^ 1074 = leb→le (down e) (2 ^ 1074) (and-r (eqb (suc m % 2) 1 && ltb (suc m) (2 ^ 53)) (leb (down e) (2 ^ 1074)) t) in
+    let s : suc m < 2 ^ 53 = ltb→lt (suc m) (2 ^ 53) (and-r (eqb (suc m % 2) 1) (ltb (suc m) (2 ^ 53)) (and-l (eqb (suc m % 2) 1 && ltb (suc m) (2 ^ 53)) (leb (down e) (2 ^ 1074)) t)) in
+    let u = units e d in
+    record { n = suc m; j = u .0; small = s; value = (refl, u .1 (suc m)) }
+
+-- ---- the order of two values, in units
+cross-lt : (x y : Float) (a b : ℕ) → HasValue x false a U → HasValue y false b U → num x * den y < num y * den x → a < b
+cross-lt x y a b h k l =
+    let p : num x * U ≡ a * den x = value→cross x a U h in
+    let q : num y * U ≡ b * den y = value→cross y b U k in
+    let e : num x * den y * U ≡ a * (den x * den y) = mul-right-comm (num x) (den y) U ∙ ap (λ (z : ℕ). z * den y) p ∙ mul-assoc a (den x) (den y) in
+    let f : num y * den x * U ≡ b * (den x * den y) = mul-right-comm (num y) (den x) U ∙ ap (λ (z : ℕ). z * den x) q ∙ mul-right-comm b (den y) (den x) ∙ mul-assoc b (den x) (den y) in
+    lt-of-mul-lt-mul-right (den x * den y) (lt-of-le-of-lt (le-of-eq (sym e)) (lt-of-lt-of-le (mul-lt-mul-of-pos-right l U-pos) (le-of-eq f)))
+
+-- ---- the squares, from units to fractions
+module _ (v r y : Float) (A P Y : ℕ) (hv : HasValue v false A U) (hr : HasValue r false P U) (hy : HasValue y false Y U) where
+  sum-is : sumNum r y * U ≡ (P + Y) * sumDen r y
+  sum-is =
+      let p : num r * U ≡ P * den r = value→cross r P U hr in
+      let q : num y * U ≡ Y * den y = value→cross y Y U hy in
+      let e : num r * den y * U ≡ P * (den r * den y) = mul-right-comm (num r) (den y) U ∙ ap (λ (z : ℕ). z * den y) p ∙ mul-assoc P (den r) (den y) in
+      let f : num y * den r * U ≡ Y * (den r * den y) = mul-right-comm (num y) (den r) U ∙ ap (λ (z : ℕ). z * den r) q ∙ mul-right-comm Y (den y) (den r) ∙ mul-assoc Y (den r) (den y) in
+      add-mul (num r * den y) (num y * den r) U ∙ ap (λ (z : ℕ). z + num y * den r * U) e ∙ ap (λ (z : ℕ). P * (den r * den y) + z) f ∙ sym (add-mul P Y (den r * den y))
+
+  -- what both sides are multiplied by
+  weight : ℕ
+  weight = sumDen r y * sumDen r y * den v
+
+  weight-pos : 0 < weight
+  unfolding weight
+  weight-pos = mul-pos (mul-pos (mul-pos (den-pos r) (den-pos y)) (mul-pos (den-pos r) (den-pos y))) (den-pos v)
+
+  left : sumNum r y * sumNum r y * den v * (U * U) ≡ (P + Y) * (P + Y) * weight
+  unfolding weight
+  left =
+      mul-right-comm (sumNum r y * sumNum r y) (den v) (U * U)
+      ∙ ap (λ (z : ℕ). z * den v) (mul-mul-mul-comm (sumNum r y) (sumNum r y) U U ∙ ap (λ (z : ℕ). z * (sumNum r y * U)) sum-is ∙ ap (λ (z : ℕ). (P + Y) * sumDen r y * z) sum-is ∙ mul-mul-mul-comm (P + Y) (sumDen r y) (P + Y) (sumDen r y))
+      ∙ mul-assoc ((P + Y) * (P + Y)) (sumDen r y * sumDen r y) (den v)
+
+  right : 4 * num v * (sumDen r y * sumDen r y) * (U * U) ≡ 4 * (A * U) * weight
+  unfolding weight
+  right = regroup (num v) (sumDen r y * sumDen r y) U A (den v) (value→cross v A U hv)
+    where
+      regroup : (n o u a d : ℕ) → n * u ≡ a * d → 4 * n * o * (u * u) ≡ 4 * (a * u) * (o * d)
+      regroup n o u a d e =
+          let x : 4 * n * o * (u * u) ≡ 4 * (n * u) * (u * o) = simp (mul-assoc, mul-comm, mul-left-comm) in
+          let z : 4 * (a * d) * (u * o) ≡ 4 * (a * u) * (o * d) = simp (mul-assoc, mul-comm, mul-left-comm) in
+          x ∙ ap (λ (w : ℕ). 4 * w * (u * o)) e ∙ z
+
+  below-of : (P + Y) * (P + Y) < 4 * (A * U) → sumNum r y * sumNum r y * den v < 4 * num v * (sumDen r y * sumDen r y)
+  below-of l = lt-of-mul-lt-mul-right (U * U) (lt-of-le-of-lt (le-of-eq left) (lt-of-lt-of-le (mul-lt-mul-of-pos-right l weight-pos) (le-of-eq (sym right))))
+
+  above-of : 4 * (A * U) < (P + Y) * (P + Y) → 4 * num v * (sumDen r y * sumDen r y) < sumNum r y * sumNum r y * den v
+  above-of l = lt-of-mul-lt-mul-right (U * U) (lt-of-le-of-lt (le-of-eq right) (lt-of-lt-of-le (mul-lt-mul-of-pos-right l weight-pos) (le-of-eq (sym left))))
+
+-- ---- a number of 53 digits from 2 ^ 52 * 2 ^ k up is a multiple of 2 ^ k
+multiple : (n j k : ℕ) → n < 2 ^ 53 → 2 ^ 52 * 2 ^ k ≤ n * 2 ^ j → (q : ℕ) × (n * 2 ^ j ≡ q * 2 ^ k)
+multiple n j k s h = elim (here-or-on j k) [
+  | inl l ↦ absurd (not-le-of-lt (low l) h)
+  | inr g ↦ (n * 2 ^ (j - k), ap (λ (z : ℕ). n * z) (ap (λ (z : ℕ). 2 ^ z) (sym (sub-add-cancel g)) ∙ pow-add 2 (j - k) k) ∙ sym (mul-assoc n (2 ^ (j - k)) (2 ^ k)))
+]
+  where
+    low : j < k → n * 2 ^ j < 2 ^ 52 * 2 ^ k
+    low l =
+        lt-of-lt-of-le (mul-lt-mul-of-pos-right s (pow-pos j))
+        (le-trans (le-of-eq (sym (pow-add 2 53 j))) (le-trans (pow-mono {i = 53 + j} {j = 52 + k} (omega arith)) (le-of-eq (pow-add 2 52 k))))
+
+lt-of-times : (a b u : ℕ) → a * u < b * u → a < b
+lt-of-times a b u h = lt-of-mul-lt-mul-right u h
+
+-- ---- the squares of whole numbers
+-- with n² < M + n: (2 n - 1)² < 4 M, where q is n - 1 at most
+square-below : (M n q K : ℕ) → 0 < K → NearestWhole M n → q + 1 ≤ n → (n * K + q * K) * (n * K + q * K) < 4 * (M * (K * K))
+square-below M n q K p w l =
+    let s : (n + q) * (n + q) + 4 * n ≤ 4 * (n * n) + 1 = grow n q l in
+    let a : n * n < M + n = w .above in
+    let t : (n + q) * (n + q) < 4 * M = omega arith in
+    lt-of-le-of-lt (le-of-eq (shape n q K)) (lt-of-lt-of-le (mul-lt-mul-of-pos-right t (mul-pos p p)) (le-of-eq (mul-assoc 4 M (K * K))))
+  where
+    shape : (a b k : ℕ) → (a * k + b * k) * (a * k + b * k) ≡ (a + b) * (a + b) * (k * k)
+    shape a b k = ap (λ (z : ℕ). z * z) (sym (add-mul a b k)) ∙ mul-mul-mul-comm (a + b) k (a + b) k
+
+    -- n is q + 1 + d
+    grow : (n q : ℕ) → q + 1 ≤ n → (n + q) * (n + q) + 4 * n ≤ 4 * (n * n) + 1
+    grow n q l =
+        let m : n + q ≤ n + (n - 1) = omega arith in
+        le-trans (add-le (mul-le-mul m m)) (le-of-eq (at n (omega arith)))
+      where
+        add-le : (n + q) * (n + q) ≤ (n + (n - 1)) * (n + (n - 1)) → (n + q) * (n + q) + 4 * n ≤ (n + (n - 1)) * (n + (n - 1)) + 4 * n
+        add-le h = omega arith
+
+        at : (n : ℕ) → 1 ≤ n → (n + (n - 1)) * (n + (n - 1)) + 4 * n ≡ 4 * (n * n) + 1
+        at n h =
+            let k = n - 1 in
+            let e : n ≡ k + 1 = omega arith in
+            subst (λ (z : ℕ). (z + k) * (z + k) + 4 * z ≡ 4 * (z * z) + 1) (sym e) (plain-at k)
+          where
+            plain-at : (k : ℕ) → (k + 1 + k) * (k + 1 + k) + 4 * (k + 1) ≡ 4 * ((k + 1) * (k + 1)) + 1
+            plain-at k = simp (mul-add, add-mul) (omega arith)
+
+square-above : (M n q K : ℕ) → 0 < K → NearestWhole M n → n + 1 ≤ q → 4 * (M * (K * K)) < (n * K + q * K) * (n * K + q * K)
+square-above M n q K p w l =
+    let s : (n + (n + 1)) * (n + (n + 1)) ≤ (n + q) * (n + q) = mul-le-mul (omega arith) (omega arith) in
+    let e : (n + (n + 1)) * (n + (n + 1)) ≡ 4 * (n * n) + 4 * n + 1 = simp (mul-add, add-mul) (omega arith) in
+    let b : M ≤ n * n + n = w .below in
+    let t : 4 * M < (n + q) * (n + q) = omega arith in
+    lt-of-le-of-lt (le-of-eq (sym (mul-assoc 4 M (K * K)))) (lt-of-lt-of-le (mul-lt-mul-of-pos-right t (mul-pos p p)) (le-of-eq (sym (shape n q K))))
+  where
+    shape : (a b k : ℕ) → (a * k + b * k) * (a * k + b * k) ≡ (a + b) * (a + b) * (k * k)
+    shape a b k = ap (λ (z : ℕ). z * z) (sym (add-mul a b k)) ∙ mul-mul-mul-comm (a + b) k (a + b) k
+
+-- where n is 2 ^ 52, the root is n at least, since M is 2 ^ 104 at least: a value below n is further away whatever its distance
+square-edge : (M n K Y : ℕ) → 0 < K → n * n ≤ M → Y < n * K → (n * K + Y) * (n * K + Y) < 4 * (M * (K * K))
+square-edge M n K Y p h l =
+    let a = n * K + Y in
+    let b = n * K + n * K in
+    let ab : a < b = omega arith in
+    let s : a * b < b * b = mul-lt-mul-of-pos-right ab (omega arith) in
+    let t : a * a ≤ a * b = mul-le-mul-left a (omega arith) in
+    let e : b * b ≡ 4 * (n * n * (K * K)) = ap (λ (z : ℕ). z * z) (sym (two-mul (n * K))) ∙ mul-mul-mul-comm 2 (n * K) 2 (n * K) ∙ ap (λ (z : ℕ). 4 * z) (mul-mul-mul-comm n K n K) in
+    let f : n * n * (K * K) ≤ M * (K * K) = mul-le-mul-right (K * K) h in
+    lt-of-le-of-lt t (lt-of-lt-of-le s (le-trans (le-of-eq e) (mul-le-mul-left 4 f)))
+
+-- ---- the numbers of a pattern and of its root's
+root-value : (F n : ℕ) → 2 ^ 52 ≤ n → n < 2 ^ 53 → val (F * 2 ^ 52 + (n - 2 ^ 52)) ≡ n * 2 ^ (F - 1)
+root-value F n l u =
+    let b = F * 2 ^ 52 + (n - 2 ^ 52) in
+    let e : b / 2 ^ 52 ≡ F = omega arith in
+    let f : 2 ^ 52 + b % 2 ^ 52 ≡ n = omega arith in
+    ap (λ (z : ℕ). z * 2 ^ (b / 2 ^ 52 - 1)) f ∙ ap (λ (z : ℕ). n * 2 ^ (z - 1)) e
+
+-- the value of v is M times the square of the root's unit
+squared-unit : (b : ℕ) → 2 ^ 52 ≤ b → val b * U ≡ Wide b * (2 ^ ((b / 2 ^ 52 + 1023) / 2 - 1) * 2 ^ ((b / 2 ^ 52 + 1023) / 2 - 1))
+squared-unit b l =
+    let E = b / 2 ^ 52 in
+    let m = 2 ^ 52 + b % 2 ^ 52 in
+    let p = 52 + (E + 1) % 2 in
+    let k = (E + 1023) / 2 - 1 in
+    let e : E - 1 + 1074 ≡ p + (k + k) = omega arith in
+    mul-assoc m (2 ^ (E - 1)) U
+    ∙ ap (λ (z : ℕ). m * z) (sym (pow-add 2 (E - 1) 1074) ∙ ap (λ (z : ℕ). 2 ^ z) e ∙ pow-add 2 p (k + k) ∙ ap (λ (z : ℕ). 2 ^ p * z) (pow-add 2 k k))
+    ∙ sym (mul-assoc m (2 ^ p) (2 ^ k * 2 ^ k))
+
+-- ---- the theorem
+value-plain : (x : Float) (a c : ℕ) → HasValue x false a c → T (plain x)
+value-plain nan a c h = absurd h
+value-plain (inf s) a c h = absurd h
+value-plain (fin true m e) a c h = absurd (true≢false (h .0))
+value-plain (fin false m e) a c h = tt
+
+module _ (v : Float) (F : T (fits binary64 v)) (N : T (normal v)) where
+  pub record Facts : Type 0 where
+    pub M : ℕ
+    pub n : ℕ
+    pub k : ℕ
+    pub nearest : NearestWhole M n
+    pub M-low : 2 ^ 104 ≤ M
+    pub n-low : 2 ^ 52 ≤ n
+    pub n-high : n < 2 ^ 53
+    pub A : ℕ
+    pub v-value : HasValue v false A U
+    pub r-value : HasValue (rootOf v) false (n * 2 ^ k) U
+    pub unit : A * U ≡ M * (2 ^ k * 2 ^ k)
+
+  pub facts : Facts
+  unfolding rootOf
+  facts =
+      let b = toBits binary64 v in
+      let rg = pattern-in-range v F N in
+      let mv = moved-any b in
+      let h = mv .0 in
+      let m = mv .1 in
+      let M = h * 2 ^ 52 in
+      let n = nearestWhole M in
+      let p : NearestWhole M n = nearest-whole M (lt-of-lt-of-le (lit< tt) (wide-low h (m .low))) (under128 M (wide-high h (m .high))) in
+      let r = found-range b h n m p in
+      let nr = found-normal b n (rg .0) (rg .1) (r .0) (r .1) in
+      let x = (b / 2 ^ 52 + 1023) / 2 * 2 ^ 52 + (n - 2 ^ 52) in
+      let e : x ≡ rootBits b = found b h n m p in
+      record {
+        M = M;
+        n = n;
+        k = (b / 2 ^ 52 + 1023) / 2 - 1;
+        nearest = p;
+        M-low = wide-low h (m .low);
+        n-low = r .0;
+        n-high = r .1;
+        A = val b;
+        v-value = subst (λ (z : Float). HasValue z false (val b) U) (ofBits-toBits binary64 v F) (bits-is b (rg .0) (rg .1));
+        r-value = subst (λ (z : ℕ). HasValue (ofBits binary64 z) false (n * 2 ^ ((b / 2 ^ 52 + 1023) / 2 - 1)) U) e
+            (subst (λ (z : ℕ). HasValue (ofBits binary64 x) false z U) (root-value ((b / 2 ^ 52 + 1023) / 2) n (r .0) (r .1)) (bits-is x (nr .0) (nr .1)));
+        unit = squared-unit b (rg .0) ∙ ap (λ (z : ℕ). z * (2 ^ ((b / 2 ^ 52 + 1023) / 2 - 1) * 2 ^ ((b / 2 ^ 52 + 1023) / 2 - 1))) (sym (m .wide));
+      }
+
+  root-held : T (fits binary64 (rootOf v))
+  unfolding rootOf
+  root-held = ofBits-fits binary64 (rootBits (toBits binary64 v))
+
+  smaller : (M n k Y j c : ℕ) → NearestWhole M n → 2 ^ 104 ≤ M → 2 ^ 52 ≤ n → c < 2 ^ 53 → Y ≡ c * 2 ^ j → Y < n * 2 ^ k → (n * 2 ^ k + Y) * (n * 2 ^ k + Y) < 4 * (M * (2 ^ k * 2 ^ k))
+  smaller M n k Y j c w ml nl s e l =
+      let K = 2 ^ k in
+      elim (here-or-on Y (2 ^ 52 * K)) [
+        | inl u ↦
+            elim (here-or-on (2 ^ 52) n) [
+              | inl g ↦
+                  let q : n * K + Y ≤ n * K + 2 ^ 52 * K = omega arith in
+                  lt-of-le-of-lt (mul-le-mul q q) (square-below M n (2 ^ 52) K (pow-pos k) w (omega arith))
+              | inr g ↦ square-edge M n K Y (pow-pos k) (le-trans (mul-le-mul g g) ml) l
+            ]
+        | inr g ↦
+            let mq = multiple c j k s (le-trans g (le-of-eq e)) in
+            let q = mq .0 in
+            let f : Y ≡ q * K = e ∙ mq .1 in
+            let l' : q < n = lt-of-times q n K (lt-of-le-of-lt (le-of-eq (sym f)) l) in
+            subst (λ (z : ℕ). (n * K + z) * (n * K + z) < 4 * (M * (K * K))) (sym f) (square-below M n q K (pow-pos k) w (omega arith))
+      ]
+
+  larger : (M n k Y j c : ℕ) → NearestWhole M n → 2 ^ 52 ≤ n → c < 2 ^ 53 → Y ≡ c * 2 ^ j → n * 2 ^ k < Y → 4 * (M * (2 ^ k * 2 ^ k)) < (n * 2 ^ k + Y) * (n * 2 ^ k + Y)
+  larger M n k Y j c w nl s e l =
+      let K = 2 ^ k in
+      let g : 2 ^ 52 * K ≤ n * K = mul-le-mul-right K nl in
+      let mq = multiple c j k s (le-trans g (le-trans (omega arith) (le-of-eq e))) in
+      let q = mq .0 in
+      let f : Y ≡ q * K = e ∙ mq .1 in
+      let l' : n < q = lt-of-times n q K (lt-of-lt-of-le l (le-of-eq f)) in
+      subst (λ (z : ℕ). 4 * (M * (K * K)) < (n * K + z) * (n * K + z)) (sym f) (square-above M n q K (pow-pos k) w (omega arith))
+
+  pub root-nearest : IsNearestRoot v (rootOf v)
+  root-nearest =
+      let t = facts in
+      let P = t .n * 2 ^ t .k in
+      record {
+        is-an-f64 = root-held;
+        finite-plain = value-plain (rootOf v) P U (t .r-value);
+        not-below = λ y fy py l.
+            let c = counted y fy py in
+            let Y = c .n * 2 ^ c .j in
+            below-of v (rootOf v) y (t .A) P Y (t .v-value) (t .r-value) (c .value)
+            (subst (λ (z : ℕ). (P + Y) * (P + Y) < 4 * z) (sym (t .unit)) (smaller (t .M) (t .n) (t .k) Y (c .j) (c .n) (t .nearest) (t .M-low) (t .n-low) (c .small) refl (cross-lt y (rootOf v) Y P (c .value) (t .r-value) l)));
+        not-above = λ y fy py l.
+            let c = counted y fy py in
+            let Y = c .n * 2 ^ c .j in
+            above-of v (rootOf v) y (t .A) P Y (t .v-value) (t .r-value) (c .value)
+            (subst (λ (z : ℕ). 4 * z < (P + Y) * (P + Y)) (sym (t .unit)) (larger (t .M) (t .n) (t .k) Y (c .j) (c .n) (t .nearest) (t .n-low) (c .small) refl (cross-lt (rootOf v) y P Y (t .r-value) (c .value) l)));
+      }
+
+pub root-is-nearest : RootIsNearest
+root-is-nearest v F N = root-nearest v F N

@@ -2,3 +2,5 @@
 pub mod Parts
 pub mod PartLaws
 pub mod DistanceLaws
+pub mod TrialParts
+pub mod TrialPartLaws

@@ -5,3 +5,4 @@ pub mod distance; // distance.rt: the distance of two blocks
 pub mod filter; // filter.rt: the block filter
 pub mod numbers; // numbers.rt: the calls on single numbers
 mod questions; // questions.rt: the questions' tests
+pub mod trial; // trial.rt: the trial of a block

@@ -4,19 +4,13 @@ use mathlib.Core.Bool.{true, false}
 use mathlib.Core.List.{List}
 use Prim.Native.Nat.{ℕ, _+_, _-_, _*_, _≤_, _<_, min}
 use native.Mathlib.Omega.{arith}
-use lib.ListN.{getD, length}
 use Rattle.cdef_spec.specs.declared.Block.{Block}
 use Rattle.cdef_spec.specs.declared.FilterParams.{FilterParams}
-use Rattle.cdef_spec.specs.Words.{every}
 use Rattle.cdef_spec.specs.Answers.{readAnswer}
 use Rattle.cdef_spec.specs.Document01.{Plane}
-use Rattle.cdef_spec.specs.Questions.{firstNo, sampleOrMark, widenedTaken}
-use Rattle.cdef_sample.specs.Bounds.{Held}
-use Rattle.cdef_sample.specs.Upto.{upto}
-use Rattle.cdef_window.specs.Window.{windowAt}
-use Rattle.cdef_window.specs.Spans.{InPlane}
+use Rattle.cdef_spec.specs.Questions.{firstNo, widenedTaken}
 use Rattle.cdef_filter.specs.StoreLaws.{stored-block}
-use Rattle.cdef_filter.specs.TakenLaws.{window-taken-is, window-held}
+use Rattle.cdef.specs.WindowLaws.{in-plane, window-asked, held-so}
 use Rattle.cdef.specs.Parts.{filterFirst}
 use Rattle.cdef.specs.PartLaws.{FilterFacts, filter-facts, filter-refused, filter-samples, filter-done}
 use Rattle.cdef.proofs.Asked.{no-so, yes-so}
@@ -39,15 +33,8 @@ zero-so c = sym (c .before .filter-no .ensures) ∙ c .if1 .left
 facts : (c : tie.Else1) → let s = c .before .before .before .before .before in FilterFacts (planeOf s) (s .args .block) (s .args .params) (s .args .y0) (s .args .dst .now)
 facts c = let s = c .before .before .before .before .before in filter-facts (planeOf s) (s .args .block) (s .args .params) (s .args .y0) (s .args .dst .now) (zero-so c)
 
--- the window's answer is question 9's
-window-asked : (p : Plane) (b : Block) (q : FilterParams) (y0 : ℕ) (d : List ℕ) (w : List ℕ) → FilterFacts p b q y0 d → w ≡ upto (windowAt p b) 144 → every 144 (λ k. sampleOrMark (q .depth) (getD w k 0)) ≡ widenedTaken p (q .depth) b
-window-asked p b q y0 d w f e = let g = f .block in rw e (window-taken-is p b (q .depth) (g .x-in) (g .y-in) (g .bw) (g .bh))
-
-held-so : (p : Plane) (b : Block) (q : FilterParams) (y0 : ℕ) (d : List ℕ) → FilterFacts p b q y0 d → widenedTaken p (q .depth) b ≡ true → Held (upto (windowAt p b) 144)
-held-so p b q y0 d f t = let g = f .block in window-held p b (q .depth) (g .x-in) (g .y-in) (g .bw) (g .bh) (f .plane .flat) (window-taken-is p b (q .depth) (g .x-in) (g .y-in) (g .bw) (g .bh) ∙ t)
-
 taken-so : (c : tie.Else2) → let s = c .before .before .before .before .before .before .before .before .before in widenedTaken (planeOf s) (s .args .params .depth) (s .args .block) ≡ true
-taken-so c = let s = c .before .before .before .before .before .before .before .before .before in yes-so (c .before .window-taken .ensures ∙ window-asked (planeOf s) (s .args .block) (s .args .params) (s .args .y0) (s .args .dst .now) _ (facts (c .before .before .before .before)) (c .before .before .before .window .ensures)) (c .if2 .left)
+taken-so c = let s = c .before .before .before .before .before .before .before .before .before in yes-so (c .before .window-taken .ensures ∙ window-asked (planeOf s) (s .args .block) (s .args .params .depth) (facts (c .before .before .before .before) .plane) (facts (c .before .before .before .before) .block) _ (c .before .before .before .window .ensures)) (c .if2 .left)
 
 filter-no-requires : tie.Need-filter-no-requires
 filter-no-requires c κs = search needs
@@ -60,7 +47,7 @@ unfolding readAnswer
 returns c = let s = c .before .before .before .before .before in filter-refused (planeOf s) (s .args .block) (s .args .params) (s .args .y0) (s .args .dst .now) _ (c .before .filter-no .ensures) (c .if1 .taken)
 
 window-requires : tie.Need-window-requires
-window-requires c κs = let f = facts c in record { full = f .plane .full-is; wide = f .plane .wide; high = f .plane .high; x-in = f .block .x-in; y-in = f .block .y-in; bw = f .block .bw; bh = f .block .bh }
+window-requires c κs = let s = c .before .before .before .before .before in let f = facts c in in-plane (planeOf s) (s .args .block) (s .args .params .depth) (f .plane) (f .block)
 
 window-taken-requires : tie.Need-window-taken-requires
 window-taken-requires c κs = facts (c .before .before) .plane .flat
@@ -70,10 +57,10 @@ same-length-2 c = search needs
 
 returns-2 : tie.Need-returns-2
 unfolding readAnswer
-returns-2 c = let s = c .before .before .before .before .before .before .before .before .before in filter-samples (planeOf s) (s .args .block) (s .args .params) (s .args .y0) (s .args .dst .now) (zero-so (c .before .before .before .before)) (no-so (c .before .window-taken .ensures ∙ window-asked (planeOf s) (s .args .block) (s .args .params) (s .args .y0) (s .args .dst .now) _ (facts (c .before .before .before .before)) (c .before .before .before .window .ensures)) (c .if2 .taken))
+returns-2 c = let s = c .before .before .before .before .before .before .before .before .before in filter-samples (planeOf s) (s .args .block) (s .args .params) (s .args .y0) (s .args .dst .now) (zero-so (c .before .before .before .before)) (no-so (c .before .window-taken .ensures ∙ window-asked (planeOf s) (s .args .block) (s .args .params .depth) (facts (c .before .before .before .before) .plane) (facts (c .before .before .before .before) .block) _ (c .before .before .before .window .ensures)) (c .if2 .taken))
 
 filter-window-requires : tie.Need-filter-window-requires
-filter-window-requires c κs = let s = c .before .before .before .before .before .before .before .before .before .before .before in let f = facts (c .before .before .before .before .before .before) in let b = f .block in ((b .x-in, b .y-in, f .plane .wide, f .plane .high, b .bw, b .bh), ((f .start, f .room), (rw (c .before .before .before .before .before .window .ensures) (held-so (planeOf s) (s .args .block) (s .args .params) (s .args .y0) (s .args .dst .now) f (taken-so (c .before .before))), f .usable)))
+filter-window-requires c κs = let s = c .before .before .before .before .before .before .before .before .before .before .before in let f = facts (c .before .before .before .before .before .before) in let b = f .block in ((b .x-in, b .y-in, f .plane .wide, f .plane .high, b .bw, b .bh), ((f .start, f .room), (rw (c .before .before .before .before .before .window .ensures) (held-so (planeOf s) (s .args .block) (s .args .params .depth) (f .plane) (f .block) (taken-so (c .before .before))), f .usable)))
 
 same-length-3 : tie.Need-same-length-3
 same-length-3 c = search needs
@@ -84,7 +71,7 @@ returns-3 c = let s = c .before .before .before .before .before .before .before 
     filter-done (planeOf s) (s .args .block) (s .args .params) (s .args .y0) (s .args .dst .now) (zero-so (c .before .before .before .before .before .before .before .before .before)) t _
     (c .before .before .filter-window .ensures ∙ rw (c .before .before .before .before .before .before .before .before .window .ensures)
     (stored-block (s .args .dst .now) (s .args .width) (planeOf s) (s .args .block) (s .args .params) (s .args .y0) _ _ (f .start) (f .block .bh) (f .block .bw) (omega arith) (omega arith) (f .usable .dir)
-    (held-so (planeOf s) (s .args .block) (s .args .params) (s .args .y0) (s .args .dst .now) f t)))
+    (held-so (planeOf s) (s .args .block) (s .args .params .depth) (f .plane) (f .block) t)))
 
 pub filter-block-spec : {M : Type 1} → statement M
 filter-block-spec =

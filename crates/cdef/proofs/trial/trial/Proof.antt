@@ -1,4 +1,15 @@
 -- `cdef::trial` meets its contract.
+use mathlib.Core.Path.{_≡_, sym, _∙_}
+use mathlib.Core.Bool.{true, false}
+use Prim.Native.Nat.{ℕ, _≤_, _<_}
+use Rattle.cdef_spec.specs.Answers.{readAnswer}
+use Rattle.cdef_spec.specs.Document01.{Plane}
+use Rattle.cdef_spec.specs.Questions.{firstNo, widenedTaken}
+use Rattle.cdef_trial.specs.TableLaws.{trial-table}
+use Rattle.cdef.specs.TrialParts.{trialFirst}
+use Rattle.cdef.specs.TrialPartLaws.{TrialFacts, trial-facts, trial-refused, trial-samples, trial-done}
+use Rattle.cdef.specs.WindowLaws.{in-plane, window-asked, held-so}
+use Rattle.cdef.proofs.Asked.{no-so, yes-so}
 use borrow.Author.Needs.{needs}
 use Rattle.cdef.proofs.trial.trial.Statement.{statement}
 use Rattle.cdef.proofs.trial.trial.Tie as tie
@@ -9,45 +20,51 @@ use Rattle.cdef_trial.proofs.block.trial_window.Reads as trial-window-reads
 use Rattle.cdef_window.proofs.window.Reads as window-reads
 use Rattle.cdef_window.proofs.window_taken.Reads as window-taken-reads
 
--- src/trial.rt:86:9
+abbrev planeOf : tie.Start → Plane
+planeOf s = record { samples = s .args .plane .now; width = s .args .width; height = s .args .height }
+
+zero-so : (c : tie.Else1) → let s = c .before .before .before .before .before in firstNo (trialFirst (planeOf s) (s .args .block) (s .args .way) (s .args .dir) (s .args .damping) (s .args .depth) (s .args .out .now)) ≡ 0
+zero-so c = sym (c .before .trial-no .ensures) ∙ c .if1 .left
+
+facts : (c : tie.Else1) → let s = c .before .before .before .before .before in TrialFacts (planeOf s) (s .args .block) (s .args .dir) (s .args .damping) (s .args .depth) (s .args .out .now)
+facts c = let s = c .before .before .before .before .before in trial-facts (planeOf s) (s .args .block) (s .args .way) (s .args .dir) (s .args .damping) (s .args .depth) (s .args .out .now) (zero-so c)
+
+taken-so : (c : tie.Else2) → let s = c .before .before .before .before .before .before .before .before .before in widenedTaken (planeOf s) (s .args .depth) (s .args .block) ≡ true
+taken-so c = let s = c .before .before .before .before .before .before .before .before .before in let f = facts (c .before .before .before .before) in yes-so (c .before .window-taken .ensures ∙ window-asked (planeOf s) (s .args .block) (s .args .depth) (f .plane) (f .block) _ (c .before .before .before .window .ensures)) (c .if2 .left)
+
 trial-no-requires : tie.Need-trial-no-requires
 trial-no-requires c κs = search needs
 
--- src/trial.rt:88:9
 same-length : tie.Need-same-length
 same-length c = search needs
 
--- src/trial.rt:88:9
 returns : tie.Need-returns
-returns c = ?
+unfolding readAnswer
+returns c = let s = c .before .before .before .before .before in trial-refused (planeOf s) (s .args .block) (s .args .way) (s .args .dir) (s .args .damping) (s .args .depth) (s .args .out .now) _ (c .before .trial-no .ensures) (c .if1 .taken)
 
--- src/trial.rt:90:15
 window-requires : tie.Need-window-requires
-window-requires c κs = ?
+window-requires c κs = let s = c .before .before .before .before .before in let f = facts c in in-plane (planeOf s) (s .args .block) (s .args .depth) (f .plane) (f .block)
 
--- src/trial.rt:91:9
 window-taken-requires : tie.Need-window-taken-requires
-window-taken-requires c κs = ?
+window-taken-requires c κs = facts (c .before .before) .plane .flat
 
--- src/trial.rt:92:9
 same-length-2 : tie.Need-same-length-2
 same-length-2 c = search needs
 
--- src/trial.rt:92:9
 returns-2 : tie.Need-returns-2
-returns-2 c = ?
+unfolding readAnswer
+returns-2 c = let s = c .before .before .before .before .before .before .before .before .before in let f = facts (c .before .before .before .before) in trial-samples (planeOf s) (s .args .block) (s .args .way) (s .args .dir) (s .args .damping) (s .args .depth) (s .args .out .now) (zero-so (c .before .before .before .before)) (no-so (c .before .window-taken .ensures ∙ window-asked (planeOf s) (s .args .block) (s .args .depth) (f .plane) (f .block) _ (c .before .before .before .window .ensures)) (c .if2 .taken))
 
--- src/trial.rt:94:5
 trial-window-requires : tie.Need-trial-window-requires
-trial-window-requires c κs = ?
+trial-window-requires c κs = let s = c .before .before .before .before .before .before .before .before .before .before .before in let f = facts (c .before .before .before .before .before .before) in ((f .long, f .block .bw, f .block .bh, rw (c .before .before .before .before .before .window .ensures) (held-so (planeOf s) (s .args .block) (s .args .depth) (f .plane) (f .block) (taken-so (c .before .before)))), (f .dir-low, f .damping-low, f .plane .deep, f .plane .flat))
 
--- src/trial.rt:72:1
 same-length-3 : tie.Need-same-length-3
 same-length-3 c = search needs
 
--- src/trial.rt:72:1
 returns-3 : tie.Need-returns-3
-returns-3 c = ?
+unfolding readAnswer
+returns-3 c = let s = c .before .before .before .before .before .before .before .before .before .before .before .before .before .before in let f = facts (c .before .before .before .before .before .before .before .before .before) in let t = taken-so (c .before .before .before .before .before) in
+    trial-done (planeOf s) (s .args .block) (s .args .way) (s .args .dir) (s .args .damping) (s .args .depth) (s .args .out .now) (zero-so (c .before .before .before .before .before .before .before .before .before)) t _ (c .before .before .trial-window .ensures ∙ rw (c .before .before .before .before .before .before .before .before .window .ensures) (trial-table (planeOf s) (s .args .block) (s .args .way) (s .args .dir) (s .args .damping) (s .args .depth) (s .args .out .now) (f .block .bw) (f .block .bh) (f .dir-low) (held-so (planeOf s) (s .args .block) (s .args .depth) (f .plane) (f .block) t) (f .long)))
 
 pub trial-spec : {M : Type 1} → statement M
 trial-spec =

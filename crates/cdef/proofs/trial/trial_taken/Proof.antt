@@ -1,4 +1,9 @@
 -- `cdef::trial_taken` meets its contract.
+use mathlib.Core.Path.{_≡_, refl, sym, _∙_}
+use Prim.Native.Nat.{_≤_, _<_}
+use native.Mathlib.Omega.{arith}
+use borrow.Author.Tests.{le-ltb, lt-ltb}
+use Rattle.cdef.proofs.Asked.{no-so, yes-so}
 use borrow.Author.Needs.{needs}
 use Rattle.cdef.proofs.trial.trial_taken.Statement.{statement}
 use Rattle.cdef.proofs.trial.trial_taken.Tie as tie
@@ -7,25 +12,20 @@ use Rattle.cdef.proofs.trial.trial_taken.Lts as lts
 use Rattle.cdef.proofs.questions.working_taken.Reads as working-taken-reads
 use Rattle.cdef.proofs.trial.way_taken.Reads as way-taken-reads
 
--- src/trial.rt:32:9
 returns : tie.Need-returns
-returns c = ?
+returns c = rw (le-ltb (c .before .args .dir) 8 (omega arith))
 
--- src/trial.rt:34:9
 way-taken-requires : tie.Need-way-taken-requires
 way-taken-requires c κs = search needs
 
--- src/trial.rt:35:9
 returns-2 : tie.Need-returns-2
-returns-2 c = ?
+returns-2 c = rw (lt-ltb (c .before .before .before .args .dir) 8 (omega arith), no-so (c .before .way-taken .ensures) (c .if2 .taken))
 
--- src/trial.rt:37:5
 working-taken-requires : tie.Need-working-taken-requires
 working-taken-requires c κs = search needs
 
--- src/trial.rt:28:1
 returns-3 : tie.Need-returns-3
-returns-3 c = ?
+returns-3 c = rw (lt-ltb (c .before .before .before .before .args .dir) 8 (omega arith), yes-so (c .before .before .way-taken .ensures) (c .before .if2 .left)) (c .working-taken .ensures)
 
 pub trial-taken-spec : {M : Type 1} → statement M
 trial-taken-spec =

@@ -3,7 +3,7 @@ ghost use mathlib.Core.Path.{_≡_};
 ghost use Rattle.cdef_spec.specs.Document01.{Plane};
 ghost use Rattle.cdef_spec.specs.Answers.{numberOf};
 ghost use Rattle.cdef_spec.specs.BlockCalls.{filterOutcome};
-use cdef_spec::Answer;
+use crate::answer;
 use cdef_spec::Block;
 use cdef_spec::FilterParams;
 use cdef_spec::WorkingDamping;
@@ -42,8 +42,5 @@ pub extern "C" fn quern_filter_block(
         damping: WorkingDamping(damping),
         depth: depth,
     };
-    match cdef::filter::filter_block(dst, y0, plane, width, height, block, params) {
-        Answer::Done => 0,
-        Answer::Refused(n) => n as u32,
-    }
+    answer::number(cdef::filter::filter_block(dst, y0, plane, width, height, block, params))
 }

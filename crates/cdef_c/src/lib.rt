@@ -1,5 +1,7 @@
 // The C entries. A call hands back document 01's number, 0 where the work is done, and writes only then.
+mod answer; // answer.rt: answers as numbers
 pub mod direction; // direction.rt: the direction of a block
 pub mod distance; // distance.rt: the distance of two blocks
 pub mod filter; // filter.rt: the block filter
 pub mod numbers; // numbers.rt: the calls on single numbers
+pub mod trial; // trial.rt: the trial of a block

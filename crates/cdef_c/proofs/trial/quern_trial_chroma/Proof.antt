@@ -1,0 +1,25 @@
+-- `cdef_c::quern_trial_chroma` meets its contract.
+use mathlib.Core.Path.{_≡_, ap, _∙_}
+use Rattle.cdef_spec.specs.Answers.{numberOf}
+use borrow.Author.Needs.{needs}
+use Rattle.cdef_c.proofs.trial.quern_trial_chroma.Statement.{statement}
+use Rattle.cdef_c.proofs.trial.quern_trial_chroma.Tie as tie
+use Rattle.cdef_c.proofs.trial.quern_trial_chroma.Reads as reads
+use Rattle.cdef_c.proofs.trial.quern_trial_chroma.Lts as lts
+use Rattle.cdef.proofs.trial.trial.Reads as trial-reads
+use Rattle.cdef_c.proofs.answer.number.Reads as number-reads
+
+trial-requires : tie.Need-trial-requires
+trial-requires c κs = search needs
+
+number-requires : tie.Need-number-requires
+number-requires c κs = search needs
+
+same-length : tie.Need-same-length
+same-length c = search needs
+
+returns : tie.Need-returns
+returns c = (c .number .ensures ∙ ap numberOf (c .before .before .before .trial .ensures .0), c .before .before .before .trial .ensures .1)
+
+pub quern-trial-chroma-spec : {M : Type 1} → statement M
+quern-trial-chroma-spec = tie.close (tie.spec trial-requires number-requires same-length returns)

@@ -12,8 +12,18 @@ const SEED: u64 = 640_480;
 
 pub struct Scene {
     pub plane: Vec<u16>,
-    /// The direction of each 8 by 8 block, in rows.
-    pub directions: Vec<u8>,
+    /// The plane with more noise, to measure distances from.
+    pub other: Vec<u16>,
+    /// The direction and the variance of each 8 by 8 block, in rows.
+    directions: Vec<u8>,
+    variances: Vec<u32>,
+}
+
+/// Where an 8 by 8 block begins, and what was found of it.
+pub struct Block {
+    pub at: (usize, usize),
+    pub dir: u8,
+    pub variance: u32,
 }
 
 /// A surface of the picture: a disc with a level, a slope and a texture of its own.
@@ -70,19 +80,27 @@ impl Scene {
                 plane.push((top.at(x, y) + noise).clamp(0, 255) as u16);
             }
         }
-        let directions = reference::direction_pass(&plane, WIDTH, HEIGHT, DEPTH).0;
-        Scene { plane, directions }
+        let noisy = |&v: &u16| (i64::from(v) + r.between(-3, 3)).clamp(0, 255) as u16;
+        let other = plane.iter().map(noisy).collect();
+        let (directions, variances) = reference::direction_pass(&plane, WIDTH, HEIGHT, DEPTH);
+        Scene {
+            plane,
+            other,
+            directions,
+            variances,
+        }
     }
 
-    /// The 8 by 8 blocks, of the edge or not: where each begins, and its direction.
-    pub fn blocks(&self, wanted: impl Fn(bool) -> bool) -> Vec<(usize, usize, u8)> {
+    /// The 8 by 8 blocks, of the edge or not.
+    pub fn blocks(&self, wanted: impl Fn(bool) -> bool) -> Vec<Block> {
         let (columns, rows) = (WIDTH / 8, HEIGHT / 8);
         let mut list = Vec::new();
-        for (k, &direction) in self.directions.iter().enumerate() {
+        for (k, (&dir, &variance)) in self.directions.iter().zip(&self.variances).enumerate() {
             let (bx, by) = (k % columns, k / columns);
             let edge = bx == 0 || by == 0 || bx == columns - 1 || by == rows - 1;
             if wanted(edge) {
-                list.push((bx * 8, by * 8, direction));
+                let at = (bx * 8, by * 8);
+                list.push(Block { at, dir, variance });
             }
         }
         list

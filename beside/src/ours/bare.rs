@@ -1,5 +1,7 @@
 //! The entries over slices and numbers, with nothing held around them: for measuring.
 
+use crate::entries;
+
 /// The number, the direction and the variance.
 #[inline]
 pub fn direction(
@@ -11,7 +13,7 @@ pub fn direction(
     let (mut direction, mut variance) = (0, 0);
     // SAFETY: the plane has the length given; two numbers are lent for the call.
     let number = unsafe {
-        super::quern_direction(
+        entries::quern_direction(
             plane.as_ptr(),
             plane.len(),
             width,
@@ -42,7 +44,7 @@ pub fn filter_block(
 ) -> u32 {
     // SAFETY: destination and plane have the lengths given.
     unsafe {
-        super::quern_filter_block(
+        entries::quern_filter_block(
             dst.as_mut_ptr(),
             dst.len(),
             0,
@@ -61,4 +63,68 @@ pub fn filter_block(
             depth,
         )
     }
+}
+
+/// The number; the twelve trial blocks are written. Luma gives a variance, chroma none.
+#[inline]
+#[allow(clippy::too_many_arguments)]
+pub fn trial(
+    list: &mut [u16],
+    plane: &[u16],
+    (width, height): (usize, usize),
+    (x, y): (usize, usize),
+    (block_width, block_height): (usize, usize),
+    variance: Option<u32>,
+    dir: u8,
+    damping: u8,
+    depth: u8,
+) -> u32 {
+    // SAFETY: list and plane have the lengths given.
+    unsafe {
+        entries::quern_trial(
+            list.as_mut_ptr(),
+            list.len(),
+            plane.as_ptr(),
+            plane.len(),
+            width,
+            height,
+            x,
+            y,
+            block_width,
+            block_height,
+            variance.is_some().into(),
+            variance.unwrap_or(0),
+            dir,
+            damping,
+            depth,
+        )
+    }
+}
+
+/// The number, and the weighted distance or the squares of two planes of one size.
+#[inline]
+pub fn distance(
+    (original, other): (&[u16], &[u16]),
+    (width, height): (usize, usize),
+    (x, y): (usize, usize),
+    depth: u8,
+    weighted: bool,
+) -> (u32, i64) {
+    let mut out = 0;
+    // SAFETY: the planes have the lengths given; one number is lent for the call.
+    let number = unsafe {
+        entries::measure(weighted)(
+            original.as_ptr(),
+            original.len(),
+            other.as_ptr(),
+            other.len(),
+            width,
+            height,
+            x,
+            y,
+            depth,
+            &mut out,
+        )
+    };
+    (number, out)
 }

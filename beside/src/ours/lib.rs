@@ -1,52 +1,19 @@
-//! Our C entries, declared once, and each as a safe function of a case.
+//! Our C entries, each as a safe function of a case.
 
 pub mod bare;
+mod entries;
 
+use entries::*;
 use support::Answer;
 use support::adjust_pri::AdjustPri;
 use support::constrain::Constrain;
 use support::damping::Damping;
 use support::direction::Direction;
+use support::distance::Distance;
 use support::filter::Filter;
 use support::log2_floor::Log2Floor;
 use support::planes::SIDE_MAX;
-
-#[link(name = "cdef_c", kind = "static")]
-unsafe extern "C" {
-    fn quern_constrain(difference: i32, strength: u32, damping: u8, out: *mut i32) -> u32;
-    fn quern_adjust_pri(strength: u32, variance: u32, out: *mut u32) -> u32;
-    fn quern_damping(index: u32, out: *mut u8) -> u32;
-    fn quern_log2_floor(v: u32) -> u32;
-    fn quern_direction(
-        plane: *const u16,
-        plane_len: usize,
-        width: usize,
-        height: usize,
-        x: usize,
-        y: usize,
-        depth: u8,
-        direction: *mut u8,
-        variance: *mut u32,
-    ) -> u32;
-    fn quern_filter_block(
-        dst: *mut u16,
-        dst_len: usize,
-        y0: usize,
-        plane: *const u16,
-        plane_len: usize,
-        width: usize,
-        height: usize,
-        x: usize,
-        y: usize,
-        block_width: usize,
-        block_height: usize,
-        pri: u32,
-        sec: u32,
-        dir: u8,
-        damping: u8,
-        depth: u8,
-    ) -> u32;
-}
+use support::trial::Trial;
 
 /// The number of an answer after which memory beside what is lent was altered.
 const BESIDE: u32 = u32::MAX;
@@ -154,41 +121,96 @@ pub fn direction(c: &Direction, held: (u8, u32)) -> Answer<[i64; 2]> {
     }
 }
 
-/// What stands on both sides of a destination; no filtered sample.
+/// What stands on both sides of a lent list; no filtered sample.
 const HELD: u16 = 50_000;
 
-/// The number and the whole destination, which has rows to spare on both sides.
-pub fn filter(c: &Filter) -> Answer<Vec<u16>> {
-    let s = &c.spot;
-    let spare = 16 + 2 * s.width.min(SIDE_MAX);
-    let end = spare + c.dst.len();
+/// The number and the whole list, which has places to spare on both sides.
+fn list(before: &[u16], spare: usize, call: impl FnOnce(*mut u16) -> u32) -> Answer<Vec<u16>> {
+    let end = spare + before.len();
     let mut lent = vec![HELD; end + spare];
-    lent[spare..end].copy_from_slice(&c.dst);
-    // SAFETY: destination and plane have the lengths given, and are apart.
-    let number = unsafe {
-        quern_filter_block(
-            lent.as_mut_ptr().add(spare),
-            c.dst.len(),
-            c.y0,
-            s.plane.as_ptr(),
-            s.plane.len(),
-            s.width,
-            s.height,
-            s.x,
-            s.y,
-            c.block_width,
-            c.block_height,
-            c.pri,
-            c.sec,
-            c.dir,
-            c.damping,
-            s.depth,
-        )
-    };
+    lent[spare..end].copy_from_slice(before);
+    // SAFETY: a place of the list, or its end.
+    let number = call(unsafe { lent.as_mut_ptr().add(spare) });
     let mut beside = lent[..spare].iter().chain(&lent[end..]);
     let alone = beside.all(|&v| v == HELD);
     Answer {
         number: if alone { number } else { BESIDE },
         value: lent[spare..end].to_vec(),
     }
+}
+
+/// The destination has rows to spare.
+pub fn filter(c: &Filter) -> Answer<Vec<u16>> {
+    let (b, s) = (&c.block, &c.block.spot);
+    list(&c.dst, 16 + 2 * s.width.min(SIDE_MAX), |dst| {
+        // SAFETY: destination and plane have the lengths given, and are apart.
+        unsafe {
+            quern_filter_block(
+                dst,
+                c.dst.len(),
+                c.y0,
+                s.plane.as_ptr(),
+                s.plane.len(),
+                s.width,
+                s.height,
+                s.x,
+                s.y,
+                b.width,
+                b.height,
+                c.pri,
+                c.sec,
+                b.dir,
+                b.damping,
+                s.depth,
+            )
+        }
+    })
+}
+
+pub fn trial(c: &Trial) -> Answer<Vec<u16>> {
+    let (b, s) = (&c.block, &c.block.spot);
+    list(&c.before(), 64, |out| {
+        // SAFETY: list and plane have the lengths given, and are apart.
+        unsafe {
+            quern_trial(
+                out,
+                c.places,
+                s.plane.as_ptr(),
+                s.plane.len(),
+                s.width,
+                s.height,
+                s.x,
+                s.y,
+                b.width,
+                b.height,
+                c.luma,
+                c.variance,
+                b.dir,
+                b.damping,
+                s.depth,
+            )
+        }
+    })
+}
+
+/// The weighted distance or the squares.
+pub fn distance(c: &Distance, held: i64) -> Answer<i64> {
+    let s = &c.spot;
+    answer(held, |out| {
+        // SAFETY: the planes have the lengths given; `out` as above.
+        unsafe {
+            measure(c.weighted)(
+                s.plane.as_ptr(),
+                s.plane.len(),
+                c.other.as_ptr(),
+                c.other.len(),
+                s.width,
+                s.height,
+                s.x,
+                s.y,
+                s.depth,
+                out,
+            )
+        }
+    })
 }

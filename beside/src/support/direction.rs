@@ -1,10 +1,10 @@
 //! Cases of the direction of a block.
 
-use crate::planes::{DEPTHS, Plane, SIDE_MAX};
+use crate::planes::{DEPTHS, Plane};
 use crate::random::Random;
-use crate::refusals::{Break, Stated, broken, corner_breaks, scan, spot_breaks};
+use crate::refusals::{Break, GOOD, Stated, broken, corner_breaks, scan, side_limits, spot_breaks};
 use crate::spot::{Area, Spot};
-use crate::{Case, joined, questions};
+use crate::{Case, questions};
 use std::fmt::{Display, Formatter, Result};
 
 #[derive(Clone)]
@@ -14,10 +14,8 @@ impl<'a> Direction<'a> {
     /// A block of a plane; in part of the cases nothing else there is a sample.
     pub fn on(plane: &'a Plane, r: &mut Random) -> Self {
         let mut c = Direction(plane.any_spot(r));
-        if r.below(4) == 0 {
-            let area = c.area();
-            c.0.spoil_elsewhere(&area, r);
-        }
+        let area = c.area();
+        c.0.often_spoil_elsewhere(&area, r);
         c
     }
 
@@ -34,12 +32,6 @@ impl<'a> Direction<'a> {
         self.0.area(8, 8, 0)
     }
 
-    /// The numbers of a stored line that stand before document 01's.
-    pub fn numbers(&self) -> String {
-        let s = &self.0;
-        format!("{} {} {} {} {}", s.depth, s.width, s.height, s.x, s.y)
-    }
-
     pub fn owned(self) -> Direction<'static> {
         Direction(self.0.owned())
     }
@@ -51,9 +43,7 @@ impl Direction<'static> {
     }
 
     pub fn random(r: &mut Random) -> Self {
-        let size = (r.between(1, 14) as usize, r.between(1, 14) as usize);
-        let depth = r.between(8, 12) as u8;
-        Direction::on(&Plane::random(r, size, depth), r).owned()
+        Direction::on(&Plane::small(r), r).owned()
     }
 
     /// Worked lines, each direction at each depth, and cut blocks.
@@ -85,25 +75,9 @@ impl Direction<'static> {
         list
     }
 
-    /// Sides at their limits, with planes that fit.
+    /// Sides at their limits.
     pub fn limits() -> Vec<Stated<Self>> {
-        let of = |width: usize, height: usize| {
-            let samples = (0..width * height).map(|k| (k / 3 % 10) as u16);
-            let (x, y) = (width.saturating_sub(1), height.saturating_sub(1));
-            Self::at(samples.collect(), (width, height), 8, x, y)
-        };
-        let mut nothing = of(0, 0);
-        nothing.0.depth = 7;
-        vec![
-            (0, of(SIDE_MAX, 1)),
-            (0, of(1, SIDE_MAX)),
-            (2, of(SIDE_MAX + 1, 1)),
-            (2, of(1, SIDE_MAX + 1)),
-            (2, of(0, 5)),
-            (2, of(5, 0)),
-            (2, of(0, 0)),
-            (1, nothing),
-        ]
+        side_limits(Direction)
     }
 
     /// The limits, and what is asked of good cases and broken ones.
@@ -114,16 +88,10 @@ impl Direction<'static> {
     /// Each question's no, and a scan of the samples looked at.
     pub fn asked() -> Vec<Stated<Self>> {
         let r = &mut Random::new(2);
-        let mut good = Vec::new();
-        for (size, depth, x, y) in [
-            ((19, 17), 10, 6, 5),
-            ((12, 13), 8, 0, 0),
-            ((11, 14), 12, 8, 11),
-            ((2, 3), 9, 1, 1),
-        ] {
+        let good = GOOD.map(|(size, depth, [x, y, ..])| {
             let plane = Plane::random(r, size, depth);
-            good.push(Direction(plane.spot(x, y)).owned());
-        }
+            Direction(plane.spot(x, y)).owned()
+        });
         let mut breaks = corner_breaks(|c: &Self| c.area(), |c| &mut c.0);
         let marks = |c: &mut Self| c.0.plane.to_mut().fill(reference::MARK);
         breaks.push(Break::new(9, marks));
@@ -134,7 +102,8 @@ impl Direction<'static> {
         );
         let mut list = broken(&good, &breaks);
         for c in &good {
-            list.extend(scan(c, |c| &mut c.0, (8, 8), 0, false));
+            let scanned = scan(&c.0, (8, 8), 0, false).into_iter();
+            list.extend(scanned.map(|(number, s)| (number, Direction(s))));
         }
         list
     }
@@ -142,15 +111,9 @@ impl Direction<'static> {
 
 impl Display for Direction<'_> {
     fn fmt(&self, f: &mut Formatter) -> Result {
-        f.write_str(&self.numbers())?;
-        if matches!(self.number(), 0 | 9) {
-            write!(
-                f,
-                ", looked at {}",
-                joined(self.0.rows(self.area()).flatten())
-            )?;
-        }
-        Ok(())
+        f.write_str(&self.0.numbers())?;
+        let number = self.number();
+        self.0.show(f, number, &[&self.0.plane], || self.area())
     }
 }
 

@@ -2,9 +2,12 @@
 //! random generator, and the report.
 
 pub mod adjust_pri;
+pub mod block;
+pub mod built;
 pub mod constrain;
 pub mod damping;
 pub mod direction;
+pub mod distance;
 pub mod filter;
 pub mod log2_floor;
 pub mod options;
@@ -14,6 +17,7 @@ pub mod random;
 pub mod refusals;
 pub mod report;
 pub mod spot;
+pub mod trial;
 
 use report::Value;
 use std::fmt::Display;

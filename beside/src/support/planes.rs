@@ -104,6 +104,13 @@ impl Plane {
         Plane::new(samples, width, height, depth)
     }
 
+    /// A plane of up to 14 by 14, of any depth.
+    pub(crate) fn small(r: &mut Random) -> Self {
+        let size = (r.between(1, 14) as usize, r.between(1, 14) as usize);
+        let depth = r.between(8, 12) as u8;
+        Plane::random(r, size, depth)
+    }
+
     pub fn new(samples: Vec<u16>, width: usize, height: usize, depth: u8) -> Self {
         Plane {
             samples,
@@ -111,6 +118,17 @@ impl Plane {
             height,
             depth,
         }
+    }
+
+    /// Samples of a plane of that size and depth: near this one's, the same, or any.
+    pub fn other(&self, r: &mut Random) -> Vec<u16> {
+        let far = r.pick(&[0, 1, 3, 20]) << (self.depth - 8);
+        if r.below(3) == 0 {
+            return Plane::random(r, (self.width, self.height), self.depth).samples;
+        }
+        let most = (1 << self.depth) - 1;
+        let mut moved = |s: &u16| (i64::from(*s) + r.between(-far, far)).clamp(0, most) as u16;
+        self.samples.iter().map(&mut moved).collect()
     }
 
     /// With marks in none, one, few, half or all of the places, or from a line on.

@@ -1,7 +1,7 @@
 //! Inputs that get a no to one question or to two, with the number stated beside
 //! each, so that the questions can be held against it.
 
-use crate::planes::SIDE_MAX;
+use crate::planes::{Plane, SIDE_MAX};
 use crate::spot::{Area, Spot, WIDE_SIZES};
 use reference::MARK;
 
@@ -10,7 +10,7 @@ pub type Stated<C> = (u32, C);
 
 /// A change after which the question of that number says no, and none before it.
 pub struct Break<C> {
-    number: u32,
+    pub(crate) number: u32,
     change: Box<dyn Fn(&mut C)>,
 }
 
@@ -23,6 +23,15 @@ impl<C: 'static> Break<C> {
     /// The same change of a case that has such a part.
     pub fn of_part<D: 'static>(self, part: fn(&mut D) -> &mut C) -> Break<D> {
         Break::new(self.number, move |c| (self.change)(part(c)))
+    }
+
+    /// The same change of a case turned round, and back.
+    pub(crate) fn turned(self, turn: fn(&mut C)) -> Self {
+        Break::new(self.number, move |c| {
+            turn(c);
+            (self.change)(c);
+            turn(c);
+        })
     }
 }
 
@@ -105,29 +114,59 @@ pub fn corner_breaks<C: 'static>(
 
 /// Each place of the plane in turn holds a sample at or past the end of its range.
 /// It counts in a block of that size at the spot, widened on each side.
-pub fn scan<C: Clone>(
-    good: &C,
-    spot: fn(&mut C) -> &mut Spot<'static>,
+pub fn scan(
+    good: &Spot<'static>,
     (block_width, block_height): (usize, usize),
     widened: usize,
     with_mark: bool,
-) -> Vec<Stated<C>> {
+) -> Vec<Stated<Spot<'static>>> {
     let mut list = Vec::new();
-    let s = spot(&mut good.clone()).clone();
     let near = |at: usize, from: usize, length: usize| {
         at + widened >= from && at < from + length + widened
     };
-    for y in 0..s.height {
-        for x in 0..s.width {
-            let counts = near(x, s.x, block_width) && near(y, s.y, block_height);
-            let limit = 1 << s.depth;
+    for y in 0..good.height {
+        for x in 0..good.width {
+            let counts = near(x, good.x, block_width) && near(y, good.y, block_height);
+            let limit = 1 << good.depth;
             for sample in [limit - 1, limit, MARK - 1, MARK, MARK + 1, u16::MAX] {
                 let taken = sample < limit || (with_mark && sample == MARK);
-                let mut c = good.clone();
-                spot(&mut c).plane.to_mut()[y * s.width + x] = sample;
-                list.push((if counts && !taken { 9 } else { 0 }, c));
+                let mut s = good.clone();
+                s.plane.to_mut()[y * s.width + x] = sample;
+                list.push((if counts && !taken { 9 } else { 0 }, s));
             }
         }
     }
     list
+}
+
+/// Planes of which good cases are made: size, depth, and a block.
+pub(crate) const GOOD: [((usize, usize), u8, [usize; 4]); 4] = [
+    ((19, 17), 10, [6, 5, 8, 8]),
+    ((12, 13), 8, [0, 0, 5, 3]),
+    ((11, 14), 12, [8, 11, 8, 8]),
+    ((2, 3), 9, [1, 1, 2, 1]),
+];
+
+/// The last place of a plane of depth 8.
+pub(crate) fn last_spot(width: usize, height: usize) -> Spot<'static> {
+    let samples = (0..width * height).map(|k| (k / 3 % 10) as u16);
+    let plane = Plane::new(samples.collect(), width, height, 8);
+    let (x, y) = (width.saturating_sub(1), height.saturating_sub(1));
+    plane.spot(x, y).owned()
+}
+
+/// Sides at their limits, with planes that fit, and an empty plane of depth 7.
+pub(crate) fn side_limits<C>(of: impl Fn(Spot<'static>) -> C) -> Vec<Stated<C>> {
+    let mut nothing = last_spot(0, 0);
+    nothing.depth = 7;
+    vec![
+        (0, of(last_spot(SIDE_MAX, 1))),
+        (0, of(last_spot(1, SIDE_MAX))),
+        (2, of(last_spot(SIDE_MAX + 1, 1))),
+        (2, of(last_spot(1, SIDE_MAX + 1))),
+        (2, of(last_spot(0, 5))),
+        (2, of(last_spot(5, 0))),
+        (2, of(last_spot(0, 0))),
+        (1, of(nothing)),
+    ]
 }

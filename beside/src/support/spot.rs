@@ -1,9 +1,11 @@
 //! A place on a lent plane, and the samples looked at around it.
 
+use crate::joined;
 use crate::planes::{SIDE_MAX, SMALL};
 use crate::random::Random;
 use reference::MARK;
 use std::borrow::Cow;
+use std::fmt::{Formatter, Result};
 use std::ops::Range;
 
 /// Added to a size, these are lost in a narrower type.
@@ -39,10 +41,48 @@ impl Spot<'_> {
         }
     }
 
-    /// The rows of the area's samples.
-    pub fn rows(&self, area: Area) -> impl Iterator<Item = &[u16]> {
-        let row = move |y| &self.plane[y * self.width..][area.columns.clone()];
-        area.rows.map(row)
+    /// The rows of the area's samples, of this plane or of another one of its size.
+    pub fn rows<'p>(&self, plane: &'p [u16], area: &Area) -> impl Iterator<Item = &'p [u16]> {
+        let (width, columns) = (self.width, area.columns.clone());
+        let row = move |y| &plane[y * width..][columns.clone()];
+        area.rows.clone().map(row)
+    }
+
+    /// The numbers with which a stored line begins.
+    pub fn numbers(&self) -> String {
+        joined([
+            usize::from(self.depth),
+            self.width,
+            self.height,
+            self.x,
+            self.y,
+        ])
+    }
+
+    /// Writes what is looked at, of each plane, where the questions went that far.
+    pub(crate) fn show(
+        &self,
+        f: &mut Formatter,
+        number: u32,
+        planes: &[&[u16]],
+        area: impl Fn() -> Area,
+    ) -> Result {
+        if !matches!(number, 0 | 9) {
+            return Ok(());
+        }
+        for plane in planes {
+            let area = area();
+            let samples = self.rows(plane, &area).flatten();
+            write!(f, ", looked at {}", joined(samples))?;
+        }
+        Ok(())
+    }
+
+    /// In a quarter of the cases.
+    pub(crate) fn often_spoil_elsewhere(&mut self, area: &Area, r: &mut Random) {
+        if r.below(4) == 0 {
+            self.spoil_elsewhere(area, r);
+        }
     }
 
     /// Numbers that no question takes wherever the area does not reach.

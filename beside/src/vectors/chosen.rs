@@ -2,11 +2,14 @@
 //! A line has as many samples as its sizes say, so others can't be stored.
 
 use crate::SEED;
+use support::block::Block;
 use support::direction::Direction;
+use support::distance::Distance;
 use support::filter::Filter;
 use support::random::Random;
 use support::refusals::Stated;
 use support::spot::Spot;
+use support::trial::Trial;
 
 /// Cases of each number.
 const EACH: usize = 12;
@@ -14,21 +17,42 @@ const EACH: usize = 12;
 /// Numbers have at most 15 digits, which is what the reader of the sample takes.
 const END: usize = 10usize.pow(15);
 
+/// The longest list of trial blocks.
+const PLACES_END: usize = 1024;
+
 pub fn directions() -> Vec<Direction<'static>> {
-    let mut list = some(Direction::limits(), usize::MAX, |c| fits(&c.0));
-    list.extend(some(Direction::asked(), EACH, |c| fits(&c.0)));
-    list
+    chosen(Direction::limits(), Direction::asked(), |c| fits(&c.0))
 }
 
 pub fn filters() -> Vec<Filter<'static>> {
-    let whole = |c: &Filter| {
-        let numbers = [c.block_width, c.block_height, c.y0];
-        let rows = c.dst_rows() * c.spot.width == c.dst.len();
-        fits(&c.spot) && rows && numbers.iter().all(|&n| n < END)
-    };
-    let mut list = some(Filter::limits(), usize::MAX, whole);
-    list.extend(some(Filter::asked(), EACH, whole));
+    chosen(Filter::limits(), Filter::asked(), |c| {
+        let rows = c.dst_rows() * c.block.spot.width == c.dst.len();
+        block_fits(&c.block) && rows && c.y0 < END
+    })
+}
+
+pub fn trials() -> Vec<Trial<'static>> {
+    chosen(Trial::limits(), Trial::asked(), |c| {
+        block_fits(&c.block) && c.places <= PLACES_END
+    })
+}
+
+pub fn distances(weighted: bool) -> Vec<Distance<'static>> {
+    let (limits, asked) = (Distance::limits(weighted), Distance::asked(weighted));
+    chosen(limits, asked, |c| {
+        fits(&c.spot) && c.other.len() == c.spot.plane.len()
+    })
+}
+
+/// All of the limits that fit, and some of what is asked.
+fn chosen<C>(limits: Vec<Stated<C>>, asked: Vec<Stated<C>>, fits: fn(&C) -> bool) -> Vec<C> {
+    let mut list = some(limits, usize::MAX, fits);
+    list.extend(some(asked, EACH, fits));
     list
+}
+
+fn block_fits(b: &Block) -> bool {
+    fits(&b.spot) && b.width < END && b.height < END
 }
 
 fn fits(s: &Spot) -> bool {

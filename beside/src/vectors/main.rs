@@ -8,9 +8,11 @@ use support::adjust_pri::AdjustPri;
 use support::constrain::Constrain;
 use support::damping::{Damping, INDEX_MAX};
 use support::direction::Direction;
+use support::distance::Distance;
 use support::filter::Filter;
 use support::log2_floor::Log2Floor;
 use support::random::Random;
+use support::trial::Trial;
 use support::{Answer, Case, joined};
 
 /// Cases of a call, with random ones up to this count.
@@ -49,7 +51,7 @@ fn direction(case: &Direction, answer: Answer<[i64; 2]>) -> String {
     let [direction, variance] = answer.value;
     let numbers = format!(
         "{} {} {direction} {variance}",
-        case.numbers(),
+        case.0.numbers(),
         answer.number
     );
     line([numbers, joined(case.0.plane.iter())])
@@ -58,8 +60,33 @@ fn direction(case: &Direction, answer: Answer<[i64; 2]>) -> String {
 /// The plane, the destination before and the destination after.
 fn filter(case: &Filter, answer: Answer<Vec<u16>>) -> String {
     let numbers = format!("{} {}", case.numbers(), answer.number);
-    let (plane, before) = (joined(case.spot.plane.iter()), joined(case.dst.iter()));
+    let (plane, before) = (
+        joined(case.block.spot.plane.iter()),
+        joined(case.dst.iter()),
+    );
     line([numbers, plane, before, joined(answer.value)])
+}
+
+/// The plane, and where it is done the twelve trial blocks; what is past a block's
+/// width × height places holds what it held.
+fn trial(case: &Trial, answer: Answer<Vec<u16>>) -> String {
+    let b = &case.block;
+    let numbers = format!("{} {}", case.numbers(), answer.number);
+    let done = answer.number == 0;
+    let count = if done { b.width * b.height } else { 0 };
+    let after = answer
+        .value
+        .chunks(64)
+        .flat_map(|block| block.iter().take(count));
+    line([numbers, joined(b.spot.plane.iter()), joined(after)])
+}
+
+/// The original and the other plane stand after the answer.
+fn distance(case: &Distance, answer: Answer<i64>) -> String {
+    let [original, other] = case.planes().map(joined);
+    let Answer { number, value } = answer;
+    let numbers = format!("{} {number} {value}", case.spot.numbers());
+    line([numbers, original, other])
 }
 
 /// Lists parted by a space; an empty one leaves none.
@@ -94,7 +121,16 @@ fn write_all(folder: String) -> std::io::Result<()> {
     sample.write("direction", &cases, direction)?;
     let fixed = [Filter::edges(), chosen::filters()].concat();
     let cases = filled(fixed, &mut r, Filter::random);
-    sample.write("filter", &cases, filter)
+    sample.write("filter", &cases, filter)?;
+    let fixed = [Trial::edges(), chosen::trials()].concat();
+    let cases = filled(fixed, &mut r, Trial::random);
+    sample.write("trial", &cases, trial)?;
+    for (weighted, call) in [(true, "distance"), (false, "squares")] {
+        let fixed = [Distance::edges(weighted), chosen::distances(weighted)].concat();
+        let cases = filled(fixed, &mut r, |r| Distance::random(weighted, r));
+        sample.write(call, &cases, distance)?;
+    }
+    Ok(())
 }
 
 fn main() -> ExitCode {

@@ -81,23 +81,39 @@ pub fn trial(
 ) -> u32 {
     // SAFETY: list and plane have the lengths given.
     unsafe {
-        entries::quern_trial(
-            list.as_mut_ptr(),
-            list.len(),
-            plane.as_ptr(),
-            plane.len(),
-            width,
-            height,
-            x,
-            y,
-            block_width,
-            block_height,
-            variance.is_some().into(),
-            variance.unwrap_or(0),
-            dir,
-            damping,
-            depth,
-        )
+        match variance {
+            Some(variance) => entries::quern_trial_luma(
+                list.as_mut_ptr(),
+                list.len(),
+                plane.as_ptr(),
+                plane.len(),
+                width,
+                height,
+                x,
+                y,
+                block_width,
+                block_height,
+                variance,
+                dir,
+                damping,
+                depth,
+            ),
+            None => entries::quern_trial_chroma(
+                list.as_mut_ptr(),
+                list.len(),
+                plane.as_ptr(),
+                plane.len(),
+                width,
+                height,
+                x,
+                y,
+                block_width,
+                block_height,
+                dir,
+                damping,
+                depth,
+            ),
+        }
     }
 }
 

@@ -35,7 +35,7 @@ unsafe extern "C" {
         damping: u8,
         depth: u8,
     ) -> u32;
-    pub fn quern_trial(
+    pub fn quern_trial_luma(
         out: *mut u16,
         out_len: usize,
         plane: *const u16,
@@ -46,8 +46,22 @@ unsafe extern "C" {
         y: usize,
         block_width: usize,
         block_height: usize,
-        luma: u8,
         variance: u32,
+        dir: u8,
+        damping: u8,
+        depth: u8,
+    ) -> u32;
+    pub fn quern_trial_chroma(
+        out: *mut u16,
+        out_len: usize,
+        plane: *const u16,
+        plane_len: usize,
+        width: usize,
+        height: usize,
+        x: usize,
+        y: usize,
+        block_width: usize,
+        block_height: usize,
         dir: u8,
         damping: u8,
         depth: u8,

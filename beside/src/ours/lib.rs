@@ -170,26 +170,19 @@ pub fn filter(c: &Filter) -> Answer<Vec<u16>> {
 pub fn trial(c: &Trial) -> Answer<Vec<u16>> {
     let (b, s) = (&c.block, &c.block.spot);
     list(&c.before(), 64, |out| {
-        // SAFETY: list and plane have the lengths given, and are apart.
-        unsafe {
-            quern_trial(
-                out,
-                c.places,
-                s.plane.as_ptr(),
-                s.plane.len(),
-                s.width,
-                s.height,
-                s.x,
-                s.y,
-                b.width,
-                b.height,
-                c.luma,
-                c.variance,
-                b.dir,
-                b.damping,
-                s.depth,
-            )
-        }
+        // SAFETY: the list has that many places.
+        let places = unsafe { std::slice::from_raw_parts_mut(out, c.places) };
+        bare::trial(
+            places,
+            &s.plane,
+            (s.width, s.height),
+            (s.x, s.y),
+            (b.width, b.height),
+            (c.luma == 1).then_some(c.variance),
+            b.dir,
+            b.damping,
+            s.depth,
+        )
     })
 }
 

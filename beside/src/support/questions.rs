@@ -46,7 +46,7 @@ pub fn trial(c: &Trial) -> u32 {
         number
     } else if c.places != 768 {
         7
-    } else if c.luma > 1 || (c.luma == 1 && c.variance > 860_160) || b.dir >= 8 || b.damping > 31 {
+    } else if (c.luma == 1 && c.variance > 860_160) || b.dir >= 8 || b.damping > 31 {
         8
     } else {
         of_samples(&b.spot, &[&b.spot.plane], b.area(), true)

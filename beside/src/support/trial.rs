@@ -69,9 +69,8 @@ impl<'a> Trial<'a> {
         c.block.wild(r);
         match r.below(12) {
             0 => c.places = r.pick(&[PLACES - 1, PLACES + 1, 0, 64, 192]),
-            1 => c.luma = r.pick(&[2, 3, 128, 255]),
-            2 => c.variance = r.pick(&[VARIANCE_MAX, VARIANCE_MAX + 1, u32::MAX]),
-            3 => c.variance = r.next() as u32,
+            1 => c.variance = r.pick(&[VARIANCE_MAX, VARIANCE_MAX + 1, u32::MAX]),
+            2 => c.variance = r.next() as u32,
             _ => {}
         }
         c
@@ -212,9 +211,6 @@ impl Trial<'static> {
         let mut list: Vec<_> = Block::place_breaks().into_iter().map(of_block).collect();
         for places in [0, 1, 64, 767, 769, 1024, 2 * PLACES, PLACES + 65_536] {
             list.push(Break::new(7, move |c: &mut T| c.places = places));
-        }
-        for luma in [2, 3, 128, 255] {
-            list.push(Break::new(8, move |c: &mut T| c.luma = luma));
         }
         for variance in OFF_VARIANCES {
             list.push(Break::new(8, move |c: &mut T| c.variance = variance));

@@ -64,7 +64,7 @@ module _ (a b : List ℕ) where
   abbrev B : ℕ → ℕ
   B k = getD b k 0
 
-  squares-64 : sum 64 (λ k. squaredDifference (A k) (B k)) ≡ squares 8 8 (cell a) (cell b)
+  pub squares-64 : sum 64 (λ k. squaredDifference (A k) (B k)) ≡ squares 8 8 (cell a) (cell b)
   unfolding squares cell
   squares-64 = sum-64 (λ k. squaredDifference (A k) (B k))
 

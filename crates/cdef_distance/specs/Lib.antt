@@ -14,3 +14,4 @@ pub mod SumLaws
 pub mod Blocks
 pub mod BlockLaws
 pub mod PlaneLaws
+pub mod LookedLaws

@@ -9,6 +9,7 @@ pub mod CutLaws
 pub mod Weighing
 pub mod SequenceLaws
 pub mod WeighingLaws
+pub mod UnitLaws
 pub mod NearestLaws
 pub mod SumLaws
 pub mod Blocks

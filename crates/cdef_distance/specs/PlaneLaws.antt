@@ -1,6 +1,6 @@
 -- From blocks to planes: the block at a corner, cut to the plane, and the distances that document 01 asks of it.
-use mathlib.Core.Path.{_≡_, refl, sym, ap, _∙_}
-use mathlib.Core.Bool.{Bool, true, false, cond, _&&_}
+use mathlib.Core.Path.{_≡_, refl, ap, _∙_}
+use mathlib.Core.Bool.{Bool, true, false, _&&_}
 use mathlib.Core.Logic.{inl, inr}
 use mathlib.Core.List.{List}
 use Prim.Native.Nat.{ℕ, _+_, _-_, _*_, _^_, _≤_, _<_, min}
@@ -11,15 +11,13 @@ use lib.Arith.{digits-lt}
 use lib.Dec.{leb}
 use lib.ListN.{getD, length}
 use lib.Pow.{pow-mono}
-use Rattle.cdef_spec.specs.declared.DistanceConstants.{DistanceConstants}
 use Rattle.cdef_spec.specs.WordsLaws.{every-at}
 use Rattle.cdef_spec.specs.Document01.{Plane}
 use Rattle.cdef_spec.specs.Questions.{sampleTaken, lookedAt, cutTaken}
 use Rattle.cdef_spec.specs.Words.{sum}
 use Rattle.cdef_spec.specs.Distance.{squaredDifference, squares, constantsOf, weightedDistance}
-use Rattle.cdef_spec.specs.BlockCalls.{inPlane, alike, planeSquares, planeDistance}
+use Rattle.cdef_spec.specs.BlockCalls.{inPlane, planeSquares, planeDistance}
 use Rattle.cdef_distance.specs.NewtonLaws.{here-or-on}
-use Rattle.cdef_distance.specs.Weighing.{OfDepth}
 use Rattle.cdef_distance.specs.Blocks.{at, cell, blockOf, Within, weightedBy}
 use Rattle.cdef_distance.specs.BlockLaws.{block-cell, block-below, squares-64, squares-same, weighted-same, squares-high, weighted-64-low}
 

@@ -1,7 +1,7 @@
 -- `cdef_distance::sums::squared_difference` meets its contract.
 use mathlib.Core.Path.{_≡_}
 use mathlib.Core.Logic.{⊎-elim}
-use Prim.Native.Nat.{ℕ, _-_, _*_, _%_, _≤_, max, min}
+use Prim.Native.Nat.{_-_, _%_, _≤_, max, min}
 use native.Mathlib.Nat.{mul-le-mul, mod-eq-of-lt}
 use native.Mathlib.Omega.{arith}
 use Rattle.cdef_spec.specs.Distance.{squaredDifference}

@@ -1,17 +1,17 @@
 -- The distance calls' questions by the parts that the code asks them in, and what a yes to all leaves as facts.
-use mathlib.Core.Path.{_≡_, refl, sym, _∙_}
-use mathlib.Core.Bool.{Bool, true, false, cond, _&&_}
+use mathlib.Core.Path.{_≡_}
+use mathlib.Core.Bool.{Bool, true, false, _&&_}
 use mathlib.Core.List.{List, [], _∷_}
-use Prim.Native.Nat.{ℕ, _*_, _≤_, _<_}
+use Prim.Native.Nat.{ℕ, _*_, _<_}
 use native.Mathlib.Omega.{arith}
 use borrow.Author.Tests.{ltb-true, eqb-true, ne-eqb}
-use lib.Dec.{ltb, eqb}
+use lib.Dec.{ltb}
 use lib.ListN.{length}
 use lib.IntN.{ℤ, pos}
 use Rattle.cdef_spec.specs.declared.DistanceAnswer.the-variants.{Distance, NoDistance}
 use Rattle.cdef_spec.specs.WordsLaws.{and-both}
 use Rattle.cdef_spec.specs.Document01.{Plane}
-use Rattle.cdef_spec.specs.Answers.{Result, taken, refused, resultOf, readDistance}
+use Rattle.cdef_spec.specs.Answers.{resultOf, readDistance}
 use Rattle.cdef_spec.specs.Questions.{ask, firstNo, depthTaken, sideTaken, full, cornerTaken, cutTaken}
 use Rattle.cdef_spec.specs.QuestionLaws.{first-yes}
 use Rattle.cdef_spec.specs.BlockCalls.{alike, distanceNo, planeSquares, planeDistance, distanceOutcome, squaresOutcome}

@@ -28,10 +28,10 @@ fn distance_no(
     if !questions::corner_taken(width, height, x, y) {
         return 5;
     }
-    if !cdef_direction::looked::cut_taken(orig, width, height, x, y, depth) {
+    if !cdef_distance::looked::cut_taken(orig, width, height, x, y, depth) {
         return 9;
     }
-    if !cdef_direction::looked::cut_taken(other, width, height, x, y, depth) {
+    if !cdef_distance::looked::cut_taken(other, width, height, x, y, depth) {
         return 9;
     }
     0

@@ -1,7 +1,7 @@
 -- Laws of blocks: the 64 samples of a block are its rows and columns, and distances look at these only.
-use mathlib.Core.Path.{_≡_, refl, sym, ap, _∙_}
+use mathlib.Core.Path.{_≡_, _∙_}
 use mathlib.Core.List.{List}
-use Prim.Native.Nat.{ℕ, zero, suc, _+_, _-_, _*_, _/_, _%_, _^_, _≤_, _<_}
+use Prim.Native.Nat.{ℕ, _+_, _-_, _*_, _/_, _%_, _^_, _≤_, _<_}
 use native.Mathlib.Nat.{lt-of-lt-of-le}
 use native.Mathlib.Omega.{arith}
 use lib.ListN.{getD}
@@ -10,7 +10,7 @@ use Rattle.cdef_spec.specs.declared.DistanceConstants.{DistanceConstants}
 use Rattle.cdef_spec.specs.Words.{sum, sum2}
 use Rattle.cdef_spec.specs.WordsLaws.{sum2-same}
 use Rattle.cdef_spec.specs.Distance.{squaredDifference, squares, spread, weighted}
-use Rattle.cdef_sample.specs.Upto.{upto, getD-upto}
+use Rattle.cdef_sample.specs.Upto.{getD-upto}
 use Rattle.cdef_distance.specs.Weighing.{OfDepth, spreadOf, SumsOf}
 use Rattle.cdef_distance.specs.WeighingLaws.{weighted-low}
 use Rattle.cdef_distance.specs.SumLaws.{sum-none, sum-more, sum-high, sum-64, difference-high, differences, sums-of}
@@ -64,7 +64,7 @@ module _ (a b : List ℕ) where
   abbrev B : ℕ → ℕ
   B k = getD b k 0
 
-  squares-64 : sum 64 (λ k. squaredDifference (A k) (B k)) ≡ squares 8 8 (cell a) (cell b)
+  pub squares-64 : sum 64 (λ k. squaredDifference (A k) (B k)) ≡ squares 8 8 (cell a) (cell b)
   unfolding squares cell
   squares-64 = sum-64 (λ k. squaredDifference (A k) (B k))
 

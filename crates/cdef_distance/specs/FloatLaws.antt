@@ -1,13 +1,13 @@
 -- The operations on f64 values that are not negative, by the fractions that they equal, and bounds on what rounding gives.
 use mathlib.Core.Path.{_≡_, refl, sym, ap, _∙_, subst}
-use mathlib.Core.Logic.{_⊎_, inl, inr}
-use Prim.Native.Nat.{ℕ, zero, suc, _+_, _-_, _*_, _/_, _%_, _^_, _≤_, _<_}
+use mathlib.Core.Logic.{inl, inr}
+use Prim.Native.Nat.{ℕ, _+_, _*_, _^_, _≤_, _<_}
 use native.Mathlib.Nat.{le-of-eq, lt-of-le-of-lt, mul-one, one-mul, mul-comm, mul-assoc, mul-left-comm, mul-right-comm, mul-mul-mul-comm, add-mul, mul-pos, eq-of-mul-eq-mul-right, lt-irrefl, zero-mul}
 use native.Mathlib.Omega.{arith}
 use mathlib.Core.Bool.{Bool, true, false, not, cond, _&&_, _||_, true≢false}
 use borrow.Author.Tests.{le-ltb, ne-eqb}
-use lib.IntN.{ℤ, pos, negsuc}
-use lib.Dec.{T, eqb, ltb, eqb→eq, not-T, lit<, lit≤}
+use lib.IntN.{ℤ}
+use lib.Dec.{T, eqb, ltb, eqb→eq, not-T, lit<}
 use lib.Pow.{pow-add, pow-pos, pow-lt}
 use lib.Ieee.{Float, nan, inf, fin, Format, binary64, up, down, units, round, sum, add, mul, div, le}
 use lib.Ieee.Fits.{down-pos, round-is}

@@ -9,8 +9,10 @@ pub mod CutLaws
 pub mod Weighing
 pub mod SequenceLaws
 pub mod WeighingLaws
+pub mod UnitLaws
 pub mod NearestLaws
 pub mod SumLaws
 pub mod Blocks
 pub mod BlockLaws
 pub mod PlaneLaws
+pub mod LookedLaws

@@ -1,7 +1,7 @@
 -- A guess at a root, and the next: from any guess above 0 the next is the root at least.
 use mathlib.Core.Path.{_≡_, sym, subst}
 use mathlib.Core.Logic.{_⊎_, inl, inr}
-use Prim.Native.Nat.{ℕ, zero, suc, _+_, _-_, _*_, _/_, _%_, _≤_, _<_}
+use Prim.Native.Nat.{ℕ, _+_, _-_, _*_, _/_, _%_, _≤_, _<_}
 use native.Mathlib.Decide.{decLt}
 use native.Mathlib.Nat.{lt-of-lt-of-le, mul-comm, mul-add, add-mul, mul-le-mul, div-add-mod', mod-lt}
 use native.Mathlib.Omega.{arith}

@@ -1,13 +1,12 @@
 -- The bit pattern of an f64 that is not subnormal: where it lies, and the value that it stands for, in units of 2 ^ -1074.
-use mathlib.Core.Path.{_≡_, refl, sym, ap, _∙_, subst}
+use mathlib.Core.Path.{_≡_, sym, ap, _∙_, subst}
 use mathlib.Core.Logic.{_⊎_, inl, inr}
 use Prim.Native.Nat.{ℕ, zero, suc, _+_, _-_, _*_, _/_, _%_, _^_, _≤_, _<_}
 use native.Mathlib.Nat.{le-trans, le-of-eq, lt-of-lt-of-le, mul-left-comm, mul-right-comm, mul-le-mul-left, mul-le-mul-right, mul-lt-mul-of-pos-right, mod-eq-of-lt, le-div-iff-mul-le, div-lt-iff-lt-mul, div-one}
 use native.Mathlib.Omega.{arith}
-use mathlib.Core.Bool.{Bool, true, false, not, cond, _&&_}
+use mathlib.Core.Bool.{true, false, not, _&&_}
 use borrow.Author.Tests.{lt-leb, ne-eqb}
-use lib.IntN.{ℤ, pos, negsuc}
-use lib.Dec.{T, eqb, ltb, leb, ltb→lt, lit<}
+use lib.Dec.{T, eqb, ltb, leb, ltb→lt}
 use lib.Pow.{pow-add, pow-pos, pow-mono}
 use lib.Ieee.{Float, nan, inf, fin, binary64, up, down, size, le, lt, fits, isNan, odd, ofFields, ofBits, toBits}
 use lib.Ieee.Digits.{size-le}

@@ -1,32 +1,37 @@
 -- From blocks to planes: the block at a corner, cut to the plane, and the distances that document 01 asks of it.
-use mathlib.Core.Path.{_≡_, refl, sym, ap, _∙_}
-use mathlib.Core.Bool.{Bool, true, false, cond, _&&_}
+use mathlib.Core.Path.{_≡_, refl, ap, _∙_}
+use mathlib.Core.Bool.{Bool, true, false, _&&_}
 use mathlib.Core.Logic.{inl, inr}
 use mathlib.Core.List.{List}
 use Prim.Native.Nat.{ℕ, _+_, _-_, _*_, _^_, _≤_, _<_, min}
-use native.Mathlib.Nat.{lt-of-lt-of-le, mul-comm}
+use native.Mathlib.Nat.{lt-of-lt-of-le, mul-comm, mul-le-mul-right}
 use native.Mathlib.Omega.{arith}
 use borrow.Author.Tests.{ltb-true, le-leb, lt-leb}
 use lib.Arith.{digits-lt}
 use lib.Dec.{leb}
 use lib.ListN.{getD, length}
 use lib.Pow.{pow-mono}
-use Rattle.cdef_spec.specs.declared.DistanceConstants.{DistanceConstants}
 use Rattle.cdef_spec.specs.WordsLaws.{every-at}
 use Rattle.cdef_spec.specs.Document01.{Plane}
 use Rattle.cdef_spec.specs.Questions.{sampleTaken, lookedAt, cutTaken}
-use Rattle.cdef_spec.specs.Distance.{squares, constantsOf, weightedDistance}
-use Rattle.cdef_spec.specs.BlockCalls.{inPlane, alike, planeSquares, planeDistance}
+use Rattle.cdef_spec.specs.Words.{sum}
+use Rattle.cdef_spec.specs.Distance.{squaredDifference, squares, constantsOf, weightedDistance}
+use Rattle.cdef_spec.specs.BlockCalls.{inPlane, planeSquares, planeDistance}
 use Rattle.cdef_distance.specs.NewtonLaws.{here-or-on}
-use Rattle.cdef_distance.specs.Weighing.{OfDepth}
 use Rattle.cdef_distance.specs.Blocks.{at, cell, blockOf, Within, weightedBy}
-use Rattle.cdef_distance.specs.BlockLaws.{block-cell, block-below, squares-same, weighted-same, squares-high, weighted-64-low}
+use Rattle.cdef_distance.specs.BlockLaws.{block-cell, block-below, squares-64, squares-same, weighted-same, squares-high, weighted-64-low}
 
-abbrev sized : List ℕ → ℕ → ℕ → Plane
+abbrev pub sized : List ℕ → ℕ → ℕ → Plane
 sized s w h = record { samples = s; width = w; height = h }
 
 pub place-low : (w h r c : ℕ) → r < h → c < w → r * w + c < w * h
 place-low w h r c hr hc = rw (mul-comm w h) (digits-lt {q = r} {m = h} {r = c} {c = w} hr hc)
+
+-- a part of a row lies in the plane
+pub row-held : (w h n y x i cols : ℕ) → n ≡ w * h → y + i < h → x + cols ≤ w → y * w + x + i * w + cols ≤ n
+row-held w h n y x i cols e hi hx =
+    let a : y + i + 1 ≤ h = omega arith in
+    omega (arith, mul-le-mul-right w a, mul-comm w h)
 
 pub at-plane : (s : List ℕ) (w h y x i j : ℕ) → at s (y * w + x) w i j ≡ inPlane (sized s w h) y x i j
 unfolding at
@@ -40,10 +45,7 @@ module _ (s : List ℕ) (w h depth y x : ℕ) (full : length s ≡ w * h) (hx : 
   -- the block cut to the plane
   pub cut-within : Within s (y * w + x) w (min 8 (h - y)) (min 8 (w - x)) (2 ^ depth)
   cut-within = record {
-    held = λ i hi.
-        let r : y + i < h = omega arith in
-        let c : x + (min 8 (w - x) - 1) < w = omega arith in
-        omega (arith, place-low w h (y + i) (x + (min 8 (w - x) - 1)) r c);
+    held = λ i hi. row-held w h (length s) y x i (min 8 (w - x)) full (omega arith) (omega arith);
     low = λ i j hi hj. rw (at-plane s w h y x i j) (looked i j hi hj);
   }
 
@@ -56,6 +58,17 @@ module _ (s t : List ℕ) (w h y x : ℕ) where
   pub squares-is : (r : ℕ) → r ≡ squares (min 8 (h - y)) (min 8 (w - x)) (at s (y * w + x) w) (at t (y * w + x) w) → r ≡ planeSquares (sized s w h) t y x
   unfolding planeSquares
   squares-is r e = e ∙ squares-same _ _ _ _ _ _ (λ i j hi hj. at-plane s w h y x i j) (λ i j hi hj. at-plane t w h y x i j)
+
+  pub cells : (u : List ℕ) (i j : ℕ) → i < 8 → j < 8 → cell (blockOf u (y * w + x) w) i j ≡ inPlane (sized u w h) y x i j
+  cells u i j hi hj = block-cell u (y * w + x) w i j hi hj ∙ at-plane u w h y x i j
+
+  -- by the 64 samples of a block wholly inside
+  pub squares-inside : x + 8 ≤ w → y + 8 ≤ h → (r : ℕ) → r ≡ sum 64 (λ k. squaredDifference (getD (blockOf s (y * w + x) w) k 0) (getD (blockOf t (y * w + x) w) k 0)) → r ≡ planeSquares (sized s w h) t y x
+  unfolding planeSquares
+  squares-inside hx hy r e =
+      let a : min 8 (h - y) ≡ 8 = omega arith in
+      let b : min 8 (w - x) ≡ 8 = omega arith in
+      rw (a, b) (e ∙ squares-64 _ _ ∙ squares-same 8 8 _ _ _ _ (cells s) (cells t))
 
   pub squares-low : Within s (y * w + x) w (min 8 (h - y)) (min 8 (w - x)) 4096 → Within t (y * w + x) w (min 8 (h - y)) (min 8 (w - x)) 4096 → planeSquares (sized s w h) t y x ≤ 1073217600
   squares-low a b = rw (← squares-is _ refl) (squares-high _ _ _ _ (omega arith) (omega arith) (λ i j hi hj. (a .low i j hi hj, b .low i j hi hj)))
@@ -73,9 +86,6 @@ module _ (s t : List ℕ) (w h y x : ℕ) where
   pub past-bottom : (depth : ℕ) → h < y + 8 → planeDistance (sized s w h) t depth y x ≡ planeSquares (sized s w h) t y x
   unfolding planeDistance
   past-bottom depth l = rw (lt-leb (y + 8) h l)
-
-  cells : (u : List ℕ) (i j : ℕ) → i < 8 → j < 8 → cell (blockOf u (y * w + x) w) i j ≡ inPlane (sized u w h) y x i j
-  cells u i j hi hj = block-cell u (y * w + x) w i j hi hj ∙ at-plane u w h y x i j
 
   pub inside-is : (depth : ℕ) → x + 8 ≤ w → y + 8 ≤ h → weightedBy (constantsOf depth) (cell (blockOf s (y * w + x) w)) (cell (blockOf t (y * w + x) w)) ≡ planeDistance (sized s w h) t depth y x
   unfolding planeDistance

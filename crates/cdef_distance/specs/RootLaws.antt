@@ -1,12 +1,11 @@
 -- `nearestWhole` is the one whole number nearest to the root, and `rootBits` the pattern of a number that is not subnormal.
 use mathlib.Core.Path.{_≡_, refl, sym, ap, _∙_, subst}
-use mathlib.Core.Logic.{_⊎_, inl, inr}
+use mathlib.Core.Logic.{inl, inr}
 use Prim.Native.Nat.{ℕ, zero, suc, _+_, _-_, _*_, _/_, _%_, _^_, _≤_, _<_}
-use native.Mathlib.Nat.{le-trans, le-of-eq, lt-of-lt-of-le, lt-of-le-of-lt, add-assoc, mul-add, add-mul, le-add-right, mul-le-mul, mul-le-mul-left, mul-le-mul-right, pow-succ', two-mul}
+use native.Mathlib.Nat.{le-trans, le-of-eq, lt-of-lt-of-le, lt-of-le-of-lt, add-assoc, mul-add, add-mul, le-add-right, mul-le-mul-left, mul-le-mul-right, pow-succ', two-mul}
 use native.Mathlib.Omega.{arith}
 use mathlib.Core.Bool.{Bool, true, false, not, cond}
-use lib.Dec.{T, leb, ltb, leb→le, nleb→lt, ltb→lt, nltb→le, lit<, lit≤}
-use lib.Pow.{pow-mono}
+use lib.Dec.{T, ltb, leb→le, nleb→lt, ltb→lt, nltb→le, lit<}
 use Rattle.cdef_spec.specs.Root.{fitsBit, bitRoot, upOrNot, nearestWhole, rootBits}
 use Rattle.cdef_distance.specs.RootWords.{NearestWhole}
 use Rattle.cdef_distance.specs.NewtonLaws.{here-or-on}

@@ -1,14 +1,14 @@
 -- The values in the weighted distance's sequence of operations: each is finite, and within bounds that make the root and the cut defined.
 use mathlib.Core.Path.{_≡_, refl, sym, ap, _∙_, subst}
-use mathlib.Core.Logic.{_⊎_, inl, inr}
-use Prim.Native.Nat.{ℕ, zero, suc, _+_, _-_, _*_, _/_, _%_, _^_, _≤_, _<_}
-use native.Mathlib.Nat.{le-trans, le-of-eq, lt-of-le-of-lt, lt-of-lt-of-le, not-le-of-lt, mul-one, one-mul, mul-comm, mul-assoc, mul-right-comm, mul-le-mul, mul-le-mul-left, mul-le-mul-right, mul-lt-mul-of-pos-right, mul-pos, eq-of-mul-eq-mul-right, lt-of-mul-lt-mul-right, add-mul}
+use mathlib.Core.Logic.{inl, inr}
+use Prim.Native.Nat.{ℕ, _+_, _-_, _*_, _/_, _%_, _^_, _≤_, _<_}
+use native.Mathlib.Nat.{le-trans, le-of-eq, lt-of-le-of-lt, lt-of-lt-of-le, not-le-of-lt, mul-one, one-mul, mul-assoc, mul-right-comm, mul-le-mul, mul-le-mul-left, mul-le-mul-right, mul-lt-mul-of-pos-right, mul-pos, eq-of-mul-eq-mul-right, lt-of-mul-lt-mul-right}
 use native.Mathlib.Omega.{arith}
-use mathlib.Core.Bool.{Bool, true, false, not, true≢false}
-use lib.IntN.{ℤ, pos, negsuc}
-use lib.Dec.{T, ltb, lt→ltb, le→leb, lit<, lit≤}
-use lib.Pow.{pow-pos, pow-mono}
-use lib.Ieee.{Float, nan, inf, fin, binary64, up, down, round, add, mul, div, le, lt, ofInt, inFloat, fits, ofBits, toBits}
+use mathlib.Core.Bool.{true, false, true≢false}
+use lib.IntN.{pos}
+use lib.Dec.{T, lt→ltb, lit<, lit≤}
+use lib.Pow.{pow-pos}
+use lib.Ieee.{Float, nan, inf, fin, binary64, up, down, add, mul, div, le, lt, ofInt, fits, toBits}
 use lib.Ieee.Fits.{and-i, down-pos, add-fits}
 use lib.Ieee.Bits.{ofBits-toBits}
 use lib.Ieee.Exact.{HasValue}

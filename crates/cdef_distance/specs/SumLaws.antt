@@ -1,14 +1,12 @@
 -- Sums: of 64 samples row by row, of squares and products (Cauchy and Schwarz among them), and what the weighted distance asks of them.
-use mathlib.Core.Path.{_≡_, refl, sym, ap, _∙_}
+use mathlib.Core.Path.{_≡_, refl, ap, _∙_}
 use mathlib.Core.Logic.{inl, inr}
 use Prim.Native.Nat.{ℕ, zero, suc, _+_, _-_, _*_, _^_, _≤_, _<_, min, max}
 use native.Mathlib.Nat.{mul-comm, mul-add, add-mul, suc-mul, mul-le-mul}
 use native.Mathlib.Numerals.{add-one}
 use native.Mathlib.Omega.{arith}
-use lib.Pow.{pow-pos}
 use Rattle.cdef_spec.specs.Words.{sum, sum2}
-use Rattle.cdef_spec.specs.WordsLaws.{sum-same}
-use Rattle.cdef_spec.specs.Distance.{squaredDifference, squares, squaresLimit}
+use Rattle.cdef_spec.specs.Distance.{squaredDifference, squaresLimit}
 use Rattle.cdef_distance.specs.NewtonLaws.{here-or-on, apart, product-low}
 use Rattle.cdef_distance.specs.Weighing.{SumsOf}
 

@@ -1,20 +1,20 @@
 -- The constants and the limit of a depth, as the laws of the sequence ask them; 0.5; and the weighted distance stays below 2 ^ 53.
-use mathlib.Core.Path.{_≡_, refl, sym, ap, _∙_, subst}
+use mathlib.Core.Path.{_≡_, refl, sym, subst}
 use mathlib.Core.Bool.{false}
-use Prim.Native.Nat.{ℕ, _+_, _-_, _*_, _/_, _^_, _≤_, _<_}
+use Prim.Native.Nat.{ℕ, _-_, _*_, _/_, _^_, _≤_, _<_}
 use native.Mathlib.Nat.{le-of-eq, lt-of-le-of-lt, lt-of-lt-of-le, mul-le-mul, mul-le-mul-left, div-lt-iff-lt-mul}
 use native.Mathlib.Omega.{arith}
 use lib.IntN.{pos}
-use lib.Dec.{T, le→leb, lit≤, lit<}
+use lib.Dec.{T, le→leb, lit≤}
 use lib.Pow.{pow-mono, pow-pos}
-use lib.Ieee.{Float, binary64, inFloat, ofBits, toUnsigned}
+use lib.Ieee.{binary64, inFloat, ofBits}
 use lib.Ieee.Exact.{HasValue}
 use Rattle.cdef_spec.specs.declared.DistanceConstants.{DistanceConstants}
-use Rattle.cdef_spec.specs.Distance.{whole, half, constantsOf, squaresLimit, weight, weighted}
+use Rattle.cdef_spec.specs.Distance.{half, constantsOf, squaresLimit, weight, weighted}
 use Rattle.cdef_distance.specs.Weighing.{OfDepth, most}
 use Rattle.cdef_distance.specs.FloatLaws.{U, U-pos}
-use Rattle.cdef_distance.specs.CutLaws.{below-value, cut-value}
-use Rattle.cdef_distance.specs.SequenceLaws.{whole-val, X, cut-ready, value-of-cut}
+use Rattle.cdef_distance.specs.CutLaws.{cut-value}
+use Rattle.cdef_distance.specs.SequenceLaws.{whole-val, X, value-of-cut}
 
 pub in-float : (n : ℕ) → n ≤ 2 ^ 53 → T (inFloat binary64 (pos n))
 unfolding inFloat

@@ -1,7 +1,7 @@
 -- From t, the whole root of h, to the whole number nearest to the root of h * B², with B = 2 ^ 26 (Zimmermann's root by halves).
-use mathlib.Core.Path.{_≡_, refl, sym, ap, _∙_}
-use Prim.Native.Nat.{ℕ, zero, suc, _+_, _-_, _*_, _/_, _%_, _^_, _≤_, _<_}
-use native.Mathlib.Nat.{le-trans, le-of-eq, lt-of-lt-of-le, lt-of-le-of-lt, lt-of-not-le, not-le-of-lt, add-comm, add-assoc, add-left-comm, mul-comm, mul-assoc, mul-left-comm, mul-add, add-mul, mul-le-mul, mul-le-mul-left, mul-le-mul-right, div-add-mod', mod-lt, div-lt-iff-lt-mul, zero-lt-suc}
+use mathlib.Core.Path.{_≡_, refl, ap, _∙_}
+use Prim.Native.Nat.{ℕ, _+_, _-_, _*_, _/_, _%_, _^_, _≤_, _<_}
+use native.Mathlib.Nat.{lt-of-not-le, not-le-of-lt, add-comm, add-assoc, add-left-comm, mul-comm, mul-assoc, mul-left-comm, mul-add, add-mul, mul-le-mul, mul-le-mul-right, div-add-mod', mod-lt, div-lt-iff-lt-mul}
 use native.Mathlib.Omega.{arith}
 use Rattle.cdef_distance.specs.RootWords.{NearestWhole}
 

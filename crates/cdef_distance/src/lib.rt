@@ -10,6 +10,7 @@ ghost use Rattle.cdef_distance.specs.Weighing.{OfDepth};
 ghost use Rattle.cdef_distance.specs.Blocks.{cell, Below, weightedBy};
 use cdef_spec::DistanceConstants;
 
+pub mod looked; // looked.rt: are the samples of a block below 2^depth?
 pub mod root; // root.rt: the root and the cut of an f64
 pub mod sums; // sums.rt: sums over blocks
 pub mod weight; // weight.rt: the weighted distance from sums
@@ -51,7 +52,12 @@ pub fn block_sse_8x8(
     let rows = least(8, height - y);
     let cols = least(8, width - x);
     let at = y * width + x;
-    sums::squares(orig, at, width, other, at, width, rows, cols) as u64
+    if rows + cols < 16 {
+        return sums::squares(orig, at, width, other, at, width, rows, cols) as u64;
+    }
+    let a = sums::block_of(orig, at, width);
+    let b = sums::block_of(other, at, width);
+    sums::block_squares(&a, &b) as u64
 }
 
 // The weighted distance of the 8 by 8 blocks at (x, y); past the plane's right or bottom edge, plain squares.

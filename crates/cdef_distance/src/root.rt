@@ -1,6 +1,6 @@
 // The root of an f64, worked out in whole numbers, and the cut of an f64 to a whole number.
 ghost use mathlib.Core.Path.{_≡_};
-ghost use Prim.Native.Nat.{ℕ, _+_, _*_, _^_, _<_, _≤_};
+ghost use Prim.Native.Nat.{_+_, _*_, _^_, _<_, _≤_};
 ghost use lib.Dec.{T};
 ghost use lib.Ieee as Ieee;
 ghost use Rattle.cdef_spec.specs.Root.{rootOf, IsNearestRoot};

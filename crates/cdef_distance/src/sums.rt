@@ -34,25 +34,38 @@ pub fn total(a: &[u16; 64]) -> u32
     t
 }
 
-// The sum of the products of 64 samples and 64 others.
+// The sum of the products of 64 samples and 64 others. The remainders change nothing; by them the compiler sees that each number is small.
 pub fn products(a: &[u16; 64], b: &[u16; 64]) -> u32
     requires { ⌜ Below (now a) 4096 × Below (now b) 4096 ⌝ }
     ensures { λ r. ⌜ r ≡ sum 64 (λ k. getD (now (a .entry)) k 0 * getD (now (b .entry)) k 0) ⌝ }
 {
     let mut t = 0u32;
     for k in 0..64usize {
-        t = t + a[k] as u32 * b[k] as u32;
+        t = t + (a[k] % 4096) as u32 * (b[k] % 4096) as u32;
     }
     t
 }
 
-// (a - b)².
+// (a - b)². The remainder changes nothing, as above.
 fn squared_difference(a: u16, b: u16) -> u32
+    requires { ⌜ (a < 4096) × (b < 4096) ⌝ }
     ensures { λ r. ⌜ r ≡ squaredDifference a b ⌝ }
 {
     let d = if a < b { b - a } else { a - b };
-    let w = d as u32;
+    let w = (d % 4096) as u32;
     w * w
+}
+
+// The squared differences of 64 samples and 64 others.
+pub fn block_squares(a: &[u16; 64], b: &[u16; 64]) -> u32
+    requires { ⌜ Below (now a) 4096 × Below (now b) 4096 ⌝ }
+    ensures { λ r. ⌜ r ≡ sum 64 (λ k. squaredDifference (getD (now (a .entry)) k 0) (getD (now (b .entry)) k 0)) ⌝ }
+{
+    let mut t = 0u32;
+    for k in 0..64usize {
+        t = t + squared_difference(a[k], b[k]);
+    }
+    t
 }
 
 // The squared differences of n samples and n others.

@@ -1,5 +1,4 @@
 -- `cdef_distance::block_distance` meets its contract.
-use Prim.Native.Nat.{ℕ}
 use Rattle.cdef_distance.specs.Blocks.{Below}
 use Rattle.cdef_distance.specs.BlockLaws.{below-4096, sums-64, weighted-64}
 use borrow.Author.Needs.{needs}

@@ -1,10 +1,11 @@
 -- `cdef_distance::block_sse_8x8` meets its contract.
-use mathlib.Core.Path.{_≡_, _∙_}
-use Prim.Native.Nat.{ℕ, _+_, _-_, _*_, _<_, min}
+use mathlib.Core.Path.{_∙_}
+use Prim.Native.Nat.{_+_, _-_, _*_, _≤_, _<_, min}
 use native.Mathlib.Omega.{arith}
 use lib.ListN.{length}
 use Rattle.cdef_distance.specs.Blocks.{Within}
-use Rattle.cdef_distance.specs.PlaneLaws.{place-low, cut-within, lower, squares-is}
+use Rattle.cdef_distance.specs.BlockLaws.{block-below}
+use Rattle.cdef_distance.specs.PlaneLaws.{place-low, cut-within, whole-within, lower, squares-is, squares-inside}
 use borrow.Author.Needs.{needs}
 use Rattle.cdef_distance.proofs.block_sse_8x8.Statement.{statement}
 use Rattle.cdef_distance.proofs.block_sse_8x8.Tie as tie
@@ -17,6 +18,16 @@ orig-in s = let a = s .args in let p = s .pre .1 in lower _ _ _ _ _ (p .1 .0) (p
 
 other-in : (s : tie.Start) → let a = s .args in Within (a .other .now) (a .y * a .width + a .x) (a .width) (min 8 (a .height - a .y)) (min 8 (a .width - a .x)) 4096
 other-in s = let a = s .args in let p = s .pre .1 in lower _ _ _ _ _ (p .1 .0) (p .1 .1) (cut-within (a .other .now) (a .width) (a .height) (p .1 .0) (a .y) (a .x) (s .pre .0 .1) (p .0 .2) (p .0 .3) (p .1 .3))
+
+-- no side is cut
+whole : (c : tie.Else1) → let a = c .before .before .before .before .before .args in (a .x + 8 ≤ a .width) × (a .y + 8 ≤ a .height)
+whole c = (omega (arith, c .before .before .least .ensures, c .before .least2 .ensures), omega (arith, c .before .before .least .ensures, c .before .least2 .ensures))
+
+orig-whole : (c : tie.Else1) → let a = c .before .before .before .before .before .args in Within (a .orig .now) (a .y * a .width + a .x) (a .width) 8 8 4096
+orig-whole c = whole-within _ _ (c .before .before .before .before .before .args .height) _ _ _ (whole c .0) (whole c .1) (orig-in (c .before .before .before .before .before))
+
+other-whole : (c : tie.Else1) → let a = c .before .before .before .before .before .args in Within (a .other .now) (a .y * a .width + a .x) (a .width) 8 8 4096
+other-whole c = whole-within _ _ (c .before .before .before .before .before .args .height) _ _ _ (whole c .0) (whole c .1) (other-in (c .before .before .before .before .before))
 
 sub-least : tie.Need-sub-least
 sub-least c = search needs
@@ -36,14 +47,32 @@ mul-at c = omega (arith, corner (c .before .before .before .before))
 add-at : tie.Need-add-at
 add-at c = omega (arith, corner (c .before .before .before .before))
 
+add-if1 : tie.Need-add-if1
+add-if1 c = search needs
+
 squares-requires : tie.Need-squares-requires
-squares-requires c κs = rw (c .before .least .ensures, c .least2 .ensures) (omega arith, omega arith, orig-in (c .before .before .before .before), other-in (c .before .before .before .before))
+squares-requires c κs = rw (c .before .before .least .ensures, c .before .least2 .ensures) (omega arith, omega arith, orig-in (c .before .before .before .before .before), other-in (c .before .before .before .before .before))
 
 cast-result : tie.Need-cast-result
 cast-result c = search needs
 
 returns : tie.Need-returns
-returns c = squares-is _ _ _ _ _ _ _ (c .squares .ensures ∙ rw (c .before .before .least .ensures, c .before .least2 .ensures))
+returns c = squares-is _ _ _ _ _ _ _ (c .squares .ensures ∙ rw (c .before .before .before .least .ensures, c .before .before .least2 .ensures))
+
+block-of-requires : tie.Need-block-of-requires
+block-of-requires c κs = orig-whole c .held
+
+block-of-requires-2 : tie.Need-block-of-requires-2
+block-of-requires-2 c κs = other-whole (c .before) .held
+
+block-squares-requires : tie.Need-block-squares-requires
+block-squares-requires c κs = (rw (c .before .before .before .block-of .ensures) (block-below _ _ _ _ (orig-whole (c .before .before .before .before))), rw (c .before .before .block-of2 .ensures) (block-below _ _ _ _ (other-whole (c .before .before .before .before))))
+
+cast-result-2 : tie.Need-cast-result-2
+cast-result-2 c = search needs
+
+returns-2 : tie.Need-returns-2
+returns-2 c = squares-inside _ _ _ _ _ _ (whole (c .before .before .before .before .before) .0) (whole (c .before .before .before .before .before) .1) _ (c .block-squares .ensures ∙ rw (c .before .before .before .before .block-of .ensures, c .before .before .before .block-of2 .ensures))
 
 pub block-sse-8x8-spec : {M : Type 1} → statement M
 block-sse-8x8-spec =
@@ -55,6 +84,12 @@ block-sse-8x8-spec =
     least-requires-2
     mul-at
     add-at
+    add-if1
     squares-requires
     cast-result
-    returns)
+    returns
+    block-of-requires
+    block-of-requires-2
+    block-squares-requires
+    cast-result-2
+    returns-2)

@@ -1,5 +1,5 @@
 -- `cdef_c::distance::quern_distance` meets its contract.
-use mathlib.Core.Path.{_≡_, ap, sym, _∙_}
+use mathlib.Core.Path.{ap, sym, _∙_}
 use mir.Syntax.{w64}
 use mir.ValLaws.{toZ-ofZ}
 use Rattle.cdef_spec.specs.Answers.{readDistance}

@@ -1,13 +1,13 @@
 -- `cdef_distance::root::cut` meets its contract.
 use borrow.Author.Needs.{needs}
-use mathlib.Core.Path.{_≡_, sym, ap, _∙_, subst}
+use mathlib.Core.Path.{sym, _∙_, subst}
 use Prim.Native.Nat.{ℕ, _+_, _-_, _*_, _/_, _%_, _^_, _≤_, _<_}
-use native.Mathlib.Nat.{le-trans, le-of-eq, lt-of-le-of-lt, div-le-self}
+use native.Mathlib.Nat.{le-of-eq, lt-of-le-of-lt, div-le-self}
 use native.Mathlib.Omega.{arith}
 use mathlib.Core.Bool.{false}
 use lib.Dec.{T, lit<}
 use lib.Pow.{pow-pos}
-use lib.Ieee.{Float, binary64, fits, ofBits, toBits}
+use lib.Ieee.{Float, binary64, fits, toBits}
 use lib.Ieee.Bits.{ofBits-toBits}
 use lib.Ieee.Exact.{HasValue}
 use Rattle.cdef_distance.specs.PatternLaws.{pattern-in-range, is-no-nan, bits-is, val}

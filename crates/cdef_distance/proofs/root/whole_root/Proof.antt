@@ -1,9 +1,7 @@
 -- `cdef_distance::root::whole_root` meets its contract.
-use mathlib.Core.Path.{_≡_}
 use Prim.Native.Nat.{ℕ, zero, suc, _+_, _*_, _/_, _^_, _≤_, _<_}
 use native.Mathlib.Nat.{le-div-iff-mul-le, div-le-self, zero-lt-suc}
 use native.Mathlib.Omega.{arith}
-use lib.Dec.{lit<, lit≤}
 use Rattle.cdef_distance.specs.NewtonLaws.{newton-above}
 use Rattle.cdef_distance.proofs.root.whole_root.Statement.{statement}
 use Rattle.cdef_distance.proofs.root.whole_root.Tie as tie

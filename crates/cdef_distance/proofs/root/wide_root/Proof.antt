@@ -1,7 +1,7 @@
 -- `cdef_distance::root::wide_root` meets its contract.
 use borrow.Author.Needs.{needs}
 use native.Mathlib.Omega.{arith}
-use Prim.Native.Nat.{ℕ, _+_, _-_, _*_, _/_, _%_, _^_, _≤_, _<_}
+use Prim.Native.Nat.{ℕ, _-_, _*_, _/_, _%_, _^_}
 use Rattle.cdef_distance.specs.WideLaws.{Parts, parts, up-by-one, stay}
 use Rattle.cdef_distance.proofs.root.wide_root.Statement.{statement}
 use Rattle.cdef_distance.proofs.root.wide_root.Tie as tie

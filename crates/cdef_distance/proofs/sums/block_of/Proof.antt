@@ -1,8 +1,8 @@
 -- `cdef_distance::sums::block_of` meets its contract.
 use mathlib.Core.Path.{_≡_, refl, sym}
-use Prim.Native.Nat.{ℕ, _+_, _-_, _*_, _/_, _%_, _≤_, _<_}
+use Prim.Native.Nat.{ℕ, _+_, _-_, _*_, _/_, _%_, _≤_}
 use native.Mathlib.Omega.{arith}
-use lib.ListN.{length, take, getD, length-set}
+use lib.ListN.{length, take, length-set}
 use Rattle.cdef_sample.specs.Upto.{upto, upto-none, upto-more, upto-at, upto-all}
 use Rattle.cdef_distance.specs.Blocks.{at, blockOf}
 use Rattle.cdef_distance.specs.BlockLaws.{stored}

@@ -1,7 +1,7 @@
 -- `cdef_distance::sums::products` meets its contract.
-use mathlib.Core.Path.{_≡_, _∙_}
-use Prim.Native.Nat.{ℕ, _-_, _*_, _≤_}
-use native.Mathlib.Nat.{mul-le-mul}
+use mathlib.Core.Path.{_≡_, ap, _∙_}
+use Prim.Native.Nat.{ℕ, _+_, _-_, _*_, _%_, _≤_}
+use native.Mathlib.Nat.{mul-le-mul, mod-eq-of-lt}
 use native.Mathlib.Omega.{arith}
 use lib.ListN.{getD}
 use Rattle.cdef_spec.specs.Words.{sum}
@@ -16,12 +16,19 @@ abbrev μ-loop : tie.MeasureT-loop
 μ-loop a b t₀ k₀ t k = 64 - k
 
 -- a product of two samples
-small : (c : tie.In-loop Inv-loop μ-loop) → let s = c .before .before in getD (s .args .a .now) (c .before .loop .k) 0 * getD (s .args .b .now) (c .before .loop .k) 0 ≤ 16769025
+abbrev one : (c : tie.In-loop Inv-loop μ-loop) → ℕ
+one c = getD (c .before .before .args .a .now) (c .before .loop .k) 0
+
+abbrev other : (c : tie.In-loop Inv-loop μ-loop) → ℕ
+other c = getD (c .before .before .args .b .now) (c .before .loop .k) 0
+
+same : (c : tie.In-loop Inv-loop μ-loop) → one c % 4096 * (other c % 4096) ≡ one c * other c
+same c = let s = c .before .before in let k = c .before .loop .k in rw (mod-eq-of-lt (s .pre .0 .each k (c .loop-test .taken)), mod-eq-of-lt (s .pre .1 .each k (c .loop-test .taken)))
+
+small : (c : tie.In-loop Inv-loop μ-loop) → one c % 4096 * (other c % 4096) ≤ 16769025
 small c =
-    let s = c .before .before in
-    let k = c .before .loop .k in
-    let x : getD (s .args .a .now) k 0 ≤ 4095 = omega (arith, s .pre .0 .each k (omega arith)) in
-    let y : getD (s .args .b .now) k 0 ≤ 4095 = omega (arith, s .pre .1 .each k (omega arith)) in
+    let x : one c % 4096 ≤ 4095 = omega arith in
+    let y : other c % 4096 ≤ 4095 = omega arith in
     mul-le-mul x y
 
 loop-holds : tie.Need-loop-holds Inv-loop μ-loop
@@ -34,7 +41,7 @@ element-copy-out-t : tie.Need-element-copy-out-t Inv-loop μ-loop
 element-copy-out-t c = omega arith
 
 cast-t : tie.Need-cast-t Inv-loop μ-loop
-cast-t c = omega (arith, c .before .before .before .pre .0 .each (c .before .before .loop .k) (c .before .loop-test .taken))
+cast-t c = omega arith
 
 mul-t-2 : tie.Need-mul-t-2 Inv-loop μ-loop
 mul-t-2 c = omega arith
@@ -43,7 +50,7 @@ element-copy-out-t-2 : tie.Need-element-copy-out-t-2 Inv-loop μ-loop
 element-copy-out-t-2 c = omega arith
 
 cast-t-2 : tie.Need-cast-t-2 Inv-loop μ-loop
-cast-t-2 c = omega (arith, c .before .before .before .before .pre .1 .each (c .before .before .before .loop .k) (c .before .before .loop-test .taken))
+cast-t-2 c = omega arith
 
 mul-t-3 : tie.Need-mul-t-3 Inv-loop μ-loop
 mul-t-3 c = omega (arith, small (c .before .before))
@@ -58,7 +65,7 @@ loop-less : tie.Need-loop-less Inv-loop μ-loop
 loop-less c = omega arith
 
 loop-again : tie.Need-loop-again Inv-loop μ-loop
-loop-again c = let p = c .before .before .before in (rw (p .loop .inv .0) (sum-more _ _), omega arith, omega (arith, small (c .before .before)))
+loop-again c = let p = c .before .before .before in (ap (λ (z : ℕ). p .loop .t + z) (same (c .before .before)) ∙ rw (p .loop .inv .0) (sum-more _ _), omega arith, omega (arith, small (c .before .before)))
 
 returns : tie.Need-returns Inv-loop μ-loop
 returns c = let p = c .before in let e : p .loop .k ≡ 64 = omega arith in p .loop .inv .0 ∙ rw e

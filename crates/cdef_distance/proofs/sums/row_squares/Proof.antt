@@ -1,6 +1,6 @@
 -- `cdef_distance::sums::row_squares` meets its contract.
 use mathlib.Core.Path.{_≡_, _∙_}
-use Prim.Native.Nat.{ℕ, _+_, _-_, _*_, _≤_}
+use Prim.Native.Nat.{_+_, _-_, _*_, _≤_}
 use native.Mathlib.Omega.{arith}
 use lib.ListN.{getD}
 use Rattle.cdef_spec.specs.Words.{sum}
@@ -47,7 +47,7 @@ shared-slice-read-squared-difference-2 :
 shared-slice-read-squared-difference-2 c = omega arith
 
 squared-difference-requires : tie.Need-squared-difference-requires Inv-loop μ-loop
-squared-difference-requires c κs = tt
+squared-difference-requires c κs = c .before .before .before .before .before .before .pre .1 (c .before .before .before .loop .j) (c .before .before .loop-test .taken)
 
 add-t : tie.Need-add-t Inv-loop μ-loop
 add-t c = omega (arith, small c)

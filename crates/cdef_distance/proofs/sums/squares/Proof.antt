@@ -1,11 +1,9 @@
 -- `cdef_distance::sums::squares` meets its contract.
 use mathlib.Core.Path.{_≡_, _∙_}
 use Prim.Native.Nat.{ℕ, _+_, _-_, _*_, _≤_, _<_}
-use native.Mathlib.Nat.{mul-le-mul-right}
 use native.Mathlib.Omega.{arith}
 use lib.ListN.{getD, length}
-use Rattle.cdef_spec.specs.Words.{sum}
-use Rattle.cdef_spec.specs.Distance.{squaredDifference, squares}
+use Rattle.cdef_spec.specs.Distance.{squares}
 use Rattle.cdef_distance.specs.Blocks.{at}
 use Rattle.cdef_distance.specs.BlockLaws.{rows-none, rows-more, row-high}
 use Rattle.cdef_distance.proofs.sums.squares.Statement.{statement}

@@ -1,10 +1,10 @@
 -- `cdef_distance::weight::weight` meets its contract: the code is the definition's sequence, with 0.5 by its bits, and the root is asked of a normal number.
-use mathlib.Core.Path.{_≡_, ap, _∙_}
+use mathlib.Core.Path.{ap, _∙_}
 use Prim.Native.Nat.{ℕ, _≤_}
 use native.Mathlib.Omega.{arith}
 use lib.Dec.{lit≤}
 use lib.Ieee.{Float, binary64, add, mul, div}
-use Rattle.cdef_spec.specs.Distance.{whole, half, weight, squaresLimit}
+use Rattle.cdef_spec.specs.Distance.{whole, half, weight}
 use Rattle.cdef_distance.specs.Weighing.{most}
 use Rattle.cdef_distance.specs.SequenceLaws.{radicand}
 use Rattle.cdef_distance.specs.WeighingLaws.{in-float, Bounds, bounds, limit-most, half-is}

@@ -1,6 +1,7 @@
 // Samples of a plane out of a line of a stored case.
 ghost use Prim.Native.Nat.{_≤_};
 ghost use lib.ListN.{length};
+use crate::Number;
 
 // The next `count` numbers of a line put into a list of samples. Handed back is the place after them.
 pub fn read_samples(line: &[u8], from: usize, count: usize, samples: &mut [u16]) -> usize
@@ -22,11 +23,33 @@ pub fn read_samples(line: &[u8], from: usize, count: usize, samples: &mut [u16])
 pub fn same_samples(line: &[u8], from: usize, count: usize, samples: &[u16]) -> bool
     requires { ⌜ count ≤ length (now samples) ⌝ }
 {
+    same_in_blocks(line, from, 64, 0, count, samples)
+}
+
+// The first `count` samples by 64: whether the rest of a line is the first `stored` of each 64 in order and no more,
+// and every other sample is `held`.
+pub fn same_in_blocks(
+    line: &[u8],
+    from: usize,
+    stored: usize,
+    held: u64,
+    count: usize,
+    samples: &[u16],
+) -> bool
+    requires { ⌜ count ≤ length (now samples) ⌝ }
+{
     let mut next = from;
     let mut k = 0;
     while k < count {
-        let n = crate::read_number(line, next);
-        if n.minus || n.size != wide(samples[k]) {
+        let mut n = Number {
+            minus: false,
+            size: held,
+            next,
+        };
+        if k % 64 < stored {
+            n = crate::read_number(line, next);
+        }
+        if !same_sample(n, samples[k]) {
             return false;
         }
         next = n.next;
@@ -35,6 +58,6 @@ pub fn same_samples(line: &[u8], from: usize, count: usize, samples: &[u16]) -> 
     next == line.len()
 }
 
-fn wide(sample: u16) -> u64 {
-    sample as u64
+fn same_sample(n: Number, sample: u16) -> bool {
+    !n.minus && n.size == (sample as u64)
 }

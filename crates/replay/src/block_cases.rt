@@ -1,16 +1,13 @@
 // One stored case of each call on a block: numbers as in cases.rt, then the samples.
 ghost use Prim.Native.Nat.{_≤_};
 ghost use lib.ListN.{length};
+use crate::block_parts;
 use case_text::Line;
 use case_text::samples;
 use cdef_spec::Answer;
-use cdef_spec::Block;
 use cdef_spec::DirectionAnswer;
 use cdef_spec::FilterParams;
 use cdef_spec::WorkingDamping;
-
-// The most samples of a plane or of a destination that a case can have here.
-const MOST: usize = 8192;
 
 // depth width height x y number direction variance, and the plane
 pub fn same_direction(line: &[u8]) -> bool {
@@ -20,10 +17,10 @@ pub fn same_direction(line: &[u8]) -> bool {
         return false;
     }
     let count = numbers - 8;
-    if MOST < count {
+    if block_parts::MOST < count {
         return false;
     }
-    let mut plane = [0u16; MOST];
+    let mut plane = [0u16; block_parts::MOST];
     let end = samples::read_samples(line, l.next, count, &mut plane);
     end == line.len() && same_found(found(l, &plane, count), l)
 }
@@ -58,23 +55,23 @@ fn same_found(answer: DirectionAnswer, l: Line) -> bool {
 pub fn same_filter(line: &[u8]) -> bool {
     let l = case_text::read_line(line, 14);
     let size = l.size;
-    let count = samples_of(size[1], size[2]);
-    let places = samples_of(size[1], size[8]);
+    let count = block_parts::samples_of(size[1], size[2]);
+    let places = block_parts::samples_of(size[1], size[8]);
     if case_text::numbers_in(line) != 14 + count + 2 * places {
         return false;
     }
-    if MOST < count {
+    if block_parts::MOST < count {
         return false;
     }
-    if MOST < places {
+    if block_parts::MOST < places {
         return false;
     }
-    let mut plane = [0u16; MOST];
-    let mut dst = [0u16; MOST];
+    let mut plane = [0u16; block_parts::MOST];
+    let mut dst = [0u16; block_parts::MOST];
     let before = samples::read_samples(line, l.next, count, &mut plane);
     let after = samples::read_samples(line, before, places, &mut dst);
     let answer = filter(l, &mut dst, places, &plane, count);
-    same_number(answer, size[13]) && samples::same_samples(line, after, places, &dst)
+    block_parts::same_number(answer, size[13]) && samples::same_samples(line, after, places, &dst)
 }
 
 // Filters the block of a case whose plane and destination are the first samples of the two.
@@ -88,32 +85,9 @@ fn filter(l: Line, dst: &mut [u16], places: usize, plane: &[u16], count: usize) 
         &plane[..count],
         size[1] as usize,
         size[2] as usize,
-        block_of(l),
+        block_parts::block_of(l),
         params_of(l),
     )
-}
-
-// The samples of a plane of this size; too many ones need not be counted.
-fn samples_of(width: u64, height: u64) -> usize
-    ensures { λ r. ⌜ r ≤ 67108864 ⌝ }
-{
-    if width == 0 || height == 0 {
-        return 0;
-    }
-    if 8192 < width || 8192 < height {
-        return MOST + 1;
-    }
-    (width * height) as usize
-}
-
-fn block_of(l: Line) -> Block {
-    let size = l.size;
-    Block {
-        x: size[3] as usize,
-        y: size[4] as usize,
-        width: size[5] as usize,
-        height: size[6] as usize,
-    }
 }
 
 fn params_of(l: Line) -> FilterParams {
@@ -124,12 +98,5 @@ fn params_of(l: Line) -> FilterParams {
         dir: case_text::as_u8(size[11]),
         damping: WorkingDamping(case_text::as_u8(size[12])),
         depth: case_text::as_u8(size[0]),
-    }
-}
-
-fn same_number(answer: Answer, number: u64) -> bool {
-    match answer {
-        Answer::Done => number == 0,
-        Answer::Refused(n) => (n as u64) == number,
     }
 }

@@ -1,8 +1,11 @@
 // Replays the stored answers of the Rust through the public calls: one file a call, one case a line.
 // Prints for each call how many cases there were, how many differ, and the line of the first that does.
 mod block_cases; // block_cases.rt: one case of each call on a block
+mod block_parts; // block_parts.rt: what the calls on a block share
 mod cases; // cases.rt: one case of each call on numbers
+mod distance_cases; // distance_cases.rt: one case of each distance
 mod pieces; // pieces.rt: a file in pieces
+mod trial_cases; // trial_cases.rt: one case of a trial
 
 ghost use Prim.Native.Nat.{_≤_};
 ghost use lib.ListN.{length};
@@ -41,6 +44,9 @@ fn same(call: u32, line: &[u8]) -> bool {
     match call {
         4 => block_cases::same_direction(line),
         5 => block_cases::same_filter(line),
+        6 => trial_cases::same_trial(line),
+        7 => distance_cases::same_distance(line, false),
+        8 => distance_cases::same_distance(line, true),
         _ => cases::same_numbers(call, line),
     }
 }
@@ -140,4 +146,7 @@ fn main() {
     replay_file(3, b"log2_floor", b"log2_floor.txt");
     replay_file(4, b"direction", b"direction.txt");
     replay_file(5, b"filter", b"filter.txt");
+    replay_file(6, b"trial", b"trial.txt");
+    replay_file(7, b"distance", b"distance.txt");
+    replay_file(8, b"squares", b"squares.txt");
 }

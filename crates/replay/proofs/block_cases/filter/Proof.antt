@@ -7,7 +7,7 @@ use Rattle.replay.proofs.block_cases.filter.Tie as tie
 use Rattle.replay.proofs.block_cases.filter.Reads as reads
 use Rattle.replay.proofs.block_cases.filter.Lts as lts
 use Rattle.cdef.proofs.filter.filter_block.Reads as filter-block-reads
-use Rattle.replay.proofs.block_cases.block_of.Reads as block-of-reads
+use Rattle.replay.proofs.block_parts.block_of.Reads as block-of-reads
 use Rattle.replay.proofs.block_cases.params_of.Reads as params-of-reads
 
 slice-relend-prefix-filter-block : tie.Need-slice-relend-prefix-filter-block

@@ -4,10 +4,10 @@ use native.Mathlib.Nat.{mul-le-mul}
 use native.Mathlib.Omega.{arith}
 use borrow.Author.Tests.{ltb-false}
 use borrow.Author.Needs.{needs}
-use Rattle.replay.proofs.block_cases.samples_of.Statement.{statement}
-use Rattle.replay.proofs.block_cases.samples_of.Tie as tie
-use Rattle.replay.proofs.block_cases.samples_of.Reads as reads
-use Rattle.replay.proofs.block_cases.samples_of.Lts as lts
+use Rattle.replay.proofs.block_parts.samples_of.Statement.{statement}
+use Rattle.replay.proofs.block_parts.samples_of.Tie as tie
+use Rattle.replay.proofs.block_parts.samples_of.Reads as reads
+use Rattle.replay.proofs.block_parts.samples_of.Lts as lts
 
 returns : tie.Need-returns
 returns c = search needs

@@ -1,6 +1,7 @@
 // Runs document 01's worked lines through the public calls and prints one line each.
 // The file stdout was written from document 01, not from a run.
 mod blocks; // blocks.rt: lines on one block
+mod distances; // distances.rt: lines on the distance of two blocks
 mod numbers; // numbers.rt: lines on single numbers
 mod print; // print.rt: what a line is printed with
 
@@ -10,4 +11,5 @@ fn main() {
     numbers::damping_lines();
     blocks::direction_lines();
     blocks::filter_lines();
+    distances::lines();
 }

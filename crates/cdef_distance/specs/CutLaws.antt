@@ -12,8 +12,8 @@ use lib.Ieee.{Float, nan, inf, fin, up, down, lt, toUnsigned}
 use lib.Ieee.Fits.{down-pos}
 use lib.Ieee.Exact.{HasValue}
 use lib.Ieee.Nearest.{div-same}
-use Rattle.cdef_distance.specs.PatternLaws.{val, val-mono}
-use Rattle.cdef_distance.specs.NewtonLaws.{here-or-on}
+use Rattle.cdef_distance.specs.PatternLaws.{unitsOf, value-grows}
+use Rattle.cdef_distance.specs.NewtonLaws.{below-or-not}
 
 -- ---- what a value says of a comparison and of the cut
 pub below-value : (x : Float) (a c k : ℕ) → 0 < c → HasValue x false a c → T (lt x (fin false 1 (pos k))) → a < 2 ^ k * c
@@ -41,17 +41,17 @@ cut-value (fin false m e) a c C v h =
 
 -- ---- the whole part of the value that a pattern b stands for
 -- the exponent's field is at most 1075, since x is below 2 ^ 53
-pub field-high : (b : ℕ) → 2 ^ 52 ≤ b → val b < 2 ^ 53 * 2 ^ 1074 → b < 1076 * 2 ^ 52
-field-high b l h = elim (here-or-on b (1076 * 2 ^ 52)) [ inl u ↦ u | inr u ↦ absurd (not-le-of-lt h (val-mono (1076 * 2 ^ 52) b (lit≤ tt) u)) ]
+pub field-high : (b : ℕ) → 2 ^ 52 ≤ b → unitsOf b < 2 ^ 53 * 2 ^ 1074 → b < 1076 * 2 ^ 52
+field-high b l h = elim (below-or-not b (1076 * 2 ^ 52)) [ inl u ↦ u | inr u ↦ absurd (not-le-of-lt h (value-grows (1076 * 2 ^ 52) b (lit≤ tt) u)) ]
 
 -- below 1
-pub none : (b : ℕ) → 2 ^ 52 ≤ b → b / 2 ^ 52 < 1023 → val b / 2 ^ 1074 ≡ 0
+pub none : (b : ℕ) → 2 ^ 52 ≤ b → b / 2 ^ 52 < 1023 → unitsOf b / 2 ^ 1074 ≡ 0
 none b l h =
     let m : 2 ^ 52 + b % 2 ^ 52 < 2 ^ 53 = omega arith in
     div-eq-of-lt (lt-of-lt-of-le (shl-lt 53 (b / 2 ^ 52 - 1) m) (pow-mono {i = 53 + (b / 2 ^ 52 - 1)} {j = 1074} (omega arith)))
 
 -- from 1 on
-pub some : (b : ℕ) → 2 ^ 52 ≤ b → b / 2 ^ 52 ≤ 1075 → val b / 2 ^ 1074 ≡ (2 ^ 52 + b % 2 ^ 52) / 2 ^ (1075 - b / 2 ^ 52)
+pub some : (b : ℕ) → 2 ^ 52 ≤ b → b / 2 ^ 52 ≤ 1075 → unitsOf b / 2 ^ 1074 ≡ (2 ^ 52 + b % 2 ^ 52) / 2 ^ (1075 - b / 2 ^ 52)
 some b l h =
     let x = b / 2 ^ 52 in
     let m = 2 ^ 52 + b % 2 ^ 52 in

@@ -17,7 +17,7 @@ use lib.Ieee.Order.{drop, kept, transfer, round-mono}
 use lib.Ieee.Positive.{first-pos}
 use lib.Ieee.Scale.{round-same, grid, round-val}
 use lib.Ieee.Back.{round-whole}
-use Rattle.cdef_distance.specs.NewtonLaws.{here-or-on}
+use Rattle.cdef_distance.specs.NewtonLaws.{below-or-not}
 
 abbrev pub U : ℕ
 U = 2 ^ 1074
@@ -120,7 +120,7 @@ same-value (fin s m e) a c b d h k =
 -- ---- the order of two values is that of their fractions
 
 test-le : (a b : ℕ) (t : Bool) → T (ltb a b || (eqb a b && t)) → a ≤ b
-test-le a b t h = elim (here-or-on b a) [
+test-le a b t h = elim (below-or-not b a) [
   | inl g ↦ absurd (rw (le-ltb a b (omega arith), ne-eqb a b (λ e. omega arith)) at h)
   | inr g ↦ g
 ]
@@ -148,7 +148,7 @@ no-infinity x (inf t) b d e k l = absurd k
 no-infinity x (fin t n g) b d e k l = subst (λ (z : Float). T (le z (fin t n g))) e l
 
 finite-under : (a c : ℕ) (y : Float) (b d : ℕ) → HasValue y false b d → T (le (R a c) y) → G a c < 2 ^ 2098
-finite-under a c y b d k l = elim (here-or-on (G a c) (2 ^ 2098)) [
+finite-under a c y b d k l = elim (below-or-not (G a c) (2 ^ 2098)) [
   | inl h ↦ h
   | inr h ↦ absurd (no-infinity (R a c) y b d (round-is binary64 false a c ∙ over (kept 53 (a * U) c) (drop 53 (a * U) c) h) k l)
 ]

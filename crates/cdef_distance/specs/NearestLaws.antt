@@ -12,8 +12,8 @@ use lib.Ieee.Bits.{ofBits-toBits, ofBits-fits}
 use lib.Ieee.Exact.{HasValue}
 use Rattle.cdef_spec.specs.Root.{nearestWhole, rootBits, rootOf, plain, IsNearestRoot, RootIsNearest}
 use Rattle.cdef_distance.specs.RootWords.{normal, NearestWhole}
-use Rattle.cdef_distance.specs.PatternLaws.{val, bits-is, pattern-in-range}
-use Rattle.cdef_distance.specs.NewtonLaws.{here-or-on}
+use Rattle.cdef_distance.specs.PatternLaws.{unitsOf, pattern-value, pattern-range}
+use Rattle.cdef_distance.specs.NewtonLaws.{below-or-not}
 use Rattle.cdef_distance.specs.RootLaws.{Wide, found-range, found, found-normal, nearest-whole, wide-low, wide-high, under128}
 use Rattle.cdef_distance.specs.FloatLaws.{U}
 use Rattle.cdef_distance.specs.SequenceLaws.{moved-any}
@@ -21,7 +21,7 @@ use Rattle.cdef_distance.specs.UnitLaws.{counted, cross-lt, below-of, ab
 
 -- ---- a number of 53 digits from 2 ^ 52 * 2 ^ k up is a multiple of 2 ^ k
 multiple : (n j k : ℕ) → n < 2 ^ 53 → 2 ^ 52 * 2 ^ k ≤ n * 2 ^ j → (q : ℕ) × (n * 2 ^ j ≡ q * 2 ^ k)
-multiple n j k s h = elim (here-or-on j k) [
+multiple n j k s h = elim (below-or-not j k) [
   | inl l ↦ absurd (not-le-of-lt (low l) h)
   | inr g ↦ (n * 2 ^ (j - k), ap (λ (z : ℕ). n * z) (ap (λ (z : ℕ). 2 ^ z) (sym (sub-add-cancel g)) ∙ pow-add 2 (j - k) k) ∙ sym (mul-assoc n (2 ^ (j - k)) (2 ^ k)))
 ]
@@ -88,7 +88,7 @@ square-edge M n K Y p h l =
     lt-of-le-of-lt t (lt-of-lt-of-le s (le-trans (le-of-eq e) (mul-le-mul-left 4 f)))
 
 -- ---- the numbers of a pattern and of its root's
-root-value : (F n : ℕ) → 2 ^ 52 ≤ n → n < 2 ^ 53 → val (F * 2 ^ 52 + (n - 2 ^ 52)) ≡ n * 2 ^ (F - 1)
+root-value : (F n : ℕ) → 2 ^ 52 ≤ n → n < 2 ^ 53 → unitsOf (F * 2 ^ 52 + (n - 2 ^ 52)) ≡ n * 2 ^ (F - 1)
 root-value F n l u =
     let b = F * 2 ^ 52 + (n - 2 ^ 52) in
     let e : b / 2 ^ 52 ≡ F = omega arith in
@@ -96,7 +96,7 @@ root-value F n l u =
     ap (λ (z : ℕ). z * 2 ^ (b / 2 ^ 52 - 1)) f ∙ ap (λ (z : ℕ). n * 2 ^ (z - 1)) e
 
 -- the value of v is M times the square of the root's unit
-squared-unit : (b : ℕ) → 2 ^ 52 ≤ b → val b * U ≡ Wide b * (2 ^ ((b / 2 ^ 52 + 1023) / 2 - 1) * 2 ^ ((b / 2 ^ 52 + 1023) / 2 - 1))
+squared-unit : (b : ℕ) → 2 ^ 52 ≤ b → unitsOf b * U ≡ Wide b * (2 ^ ((b / 2 ^ 52 + 1023) / 2 - 1) * 2 ^ ((b / 2 ^ 52 + 1023) / 2 - 1))
 squared-unit b l =
     let E = b / 2 ^ 52 in
     let m = 2 ^ 52 + b % 2 ^ 52 in
@@ -132,7 +132,7 @@ module _ (v : Float) (F : T (fits binary64 v)) (N : T (normal v)) where
   unfolding rootOf
   facts =
       let b = toBits binary64 v in
-      let rg = pattern-in-range v F N in
+      let rg = pattern-range v F N in
       let mv = moved-any b in
       let h = mv .0 in
       let m = mv .1 in
@@ -151,10 +151,10 @@ module _ (v : Float) (F : T (fits binary64 v)) (N : T (normal v)) where
         M-low = wide-low h (m .low);
         n-low = r .0;
         n-high = r .1;
-        A = val b;
-        v-value = subst (λ (z : Float). HasValue z false (val b) U) (ofBits-toBits binary64 v F) (bits-is b (rg .0) (rg .1));
+        A = unitsOf b;
+        v-value = subst (λ (z : Float). HasValue z false (unitsOf b) U) (ofBits-toBits binary64 v F) (pattern-value b (rg .0) (rg .1));
         r-value = subst (λ (z : ℕ). HasValue (ofBits binary64 z) false (n * 2 ^ ((b / 2 ^ 52 + 1023) / 2 - 1)) U) e
-            (subst (λ (z : ℕ). HasValue (ofBits binary64 x) false z U) (root-value ((b / 2 ^ 52 + 1023) / 2) n (r .0) (r .1)) (bits-is x (nr .0) (nr .1)));
+            (subst (λ (z : ℕ). HasValue (ofBits binary64 x) false z U) (root-value ((b / 2 ^ 52 + 1023) / 2) n (r .0) (r .1)) (pattern-value x (nr .0) (nr .1)));
         unit = squared-unit b (rg .0) ∙ ap (λ (z : ℕ). z * (2 ^ ((b / 2 ^ 52 + 1023) / 2 - 1) * 2 ^ ((b / 2 ^ 52 + 1023) / 2 - 1))) (sym (m .wide));
       }
 
@@ -165,9 +165,9 @@ module _ (v : Float) (F : T (fits binary64 v)) (N : T (normal v)) where
   smaller : (M n k Y j c : ℕ) → NearestWhole M n → 2 ^ 104 ≤ M → 2 ^ 52 ≤ n → c < 2 ^ 53 → Y ≡ c * 2 ^ j → Y < n * 2 ^ k → (n * 2 ^ k + Y) * (n * 2 ^ k + Y) < 4 * (M * (2 ^ k * 2 ^ k))
   smaller M n k Y j c w ml nl s e l =
       let K = 2 ^ k in
-      elim (here-or-on Y (2 ^ 52 * K)) [
+      elim (below-or-not Y (2 ^ 52 * K)) [
         | inl u ↦
-            elim (here-or-on (2 ^ 52) n) [
+            elim (below-or-not (2 ^ 52) n) [
               | inl g ↦
                   let q : n * K + Y ≤ n * K + 2 ^ 52 * K = omega arith in
                   lt-of-le-of-lt (mul-le-mul q q) (square-below M n (2 ^ 52) K (pow-pos k) w (omega arith))

@@ -6,8 +6,8 @@ use native.Mathlib.Decide.{decLt}
 use native.Mathlib.Nat.{lt-of-lt-of-le, mul-comm, mul-add, add-mul, mul-le-mul, div-add-mod', mod-lt}
 use native.Mathlib.Omega.{arith}
 
-pub here-or-on : (i b : ℕ) → (i < b) ⊎ (b ≤ i)
-here-or-on i b = go (decLt i b)
+pub below-or-not : (i b : ℕ) → (i < b) ⊎ (b ≤ i)
+below-or-not i b = go (decLt i b)
   where
     go : Dec (i < b) → (i < b) ⊎ (b ≤ i)
     go (yes h) = inl h
@@ -19,7 +19,7 @@ apart x d = let e : d * x ≡ x * d = mul-comm d x in simp (mul-add, add-mul) (o
 
 -- 2 x y ≤ x² + y²
 pub product-low : (x y : ℕ) → 2 * (x * y) ≤ x * x + y * y
-product-low x y = elim (here-or-on x y) [ inl l ↦ go x (y - x) (omega arith) | inr h ↦ turn (go y (x - y) (omega arith)) ]
+product-low x y = elim (below-or-not x y) [ inl l ↦ go x (y - x) (omega arith) | inr h ↦ turn (go y (x - y) (omega arith)) ]
   where
     go : {y : ℕ} (x d : ℕ) → y ≡ x + d → 2 * (x * y) ≤ x * x + y * y
     go x d e = subst (λ (z : ℕ). 2 * (x * z) ≤ x * x + z * z) (sym e) (omega (arith, apart x d))
@@ -35,8 +35,8 @@ under-square a b s h =
     let r : 2 * s * (2 * s) ≡ 4 * (s * s) = omega arith in
     omega (arith, product-low a b)
 
-pub newton-above : (h g : ℕ) → 0 < g → h < ((g + h / g) / 2 + 1) * ((g + h / g) / 2 + 1)
-newton-above h g p =
+pub next-above : (h g : ℕ) → 0 < g → h < ((g + h / g) / 2 + 1) * ((g + h / g) / 2 + 1)
+next-above h g p =
     let q = h / g in
     let d : q * g + h % g ≡ h = div-add-mod' h g in
     let r : h % g < g = mod-lt h p in

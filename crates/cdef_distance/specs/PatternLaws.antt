@@ -15,11 +15,11 @@ use lib.Ieee.Exact.{HasValue, odd-sign}
 use lib.Ieee.Positive.{above, above-of-le, le→cross}
 use Rattle.cdef_spec.specs.Root.{leastNormal}
 use Rattle.cdef_distance.specs.RootWords.{normal}
-use Rattle.cdef_distance.specs.NewtonLaws.{here-or-on}
+use Rattle.cdef_distance.specs.NewtonLaws.{below-or-not}
 
 -- the 53 digits of a pattern, moved up by its exponent's field less 1
-abbrev pub val : ℕ → ℕ
-val b = (2 ^ 52 + b % 2 ^ 52) * 2 ^ (b / 2 ^ 52 - 1)
+abbrev pub unitsOf : ℕ → ℕ
+unitsOf b = (2 ^ 52 + b % 2 ^ 52) * 2 ^ (b / 2 ^ 52 - 1)
 
 -- ---- what a pattern stands for
 
@@ -28,22 +28,22 @@ unfolding ofFields
 field-value zero t l u = absurd (omega arith)
 field-value (suc x) t l u = let k : suc x - 1 ≡ x = omega arith in rw (ne-eqb (suc x) 2047 (λ e. omega arith), k)
 
-pub bits-is : (b : ℕ) → 2 ^ 52 ≤ b → b < 9218868437227405312 → HasValue (ofBits binary64 b) false (val b) (2 ^ 1074)
+pub pattern-value : (b : ℕ) → 2 ^ 52 ≤ b → b < 9218868437227405312 → HasValue (ofBits binary64 b) false (unitsOf b) (2 ^ 1074)
 unfolding ofBits
-bits-is b l u =
+pattern-value b l u =
     let s : leb (2 ^ 63) b ≡ false = lt-leb (2 ^ 63) b (omega arith) in
     let r : b % 2 ^ 63 ≡ b = mod-eq-of-lt (omega arith) in
     let e : ofFields binary64 (leb (2 ^ 63) b) (b % 2 ^ 63 / 2 ^ 52) (b % 2 ^ 52) ≡ odd 53 false (2 ^ 52 + b % 2 ^ 52) (b / 2 ^ 52 - 1) 1074 = rw (s, r) (field-value (b / 2 ^ 52) (b % 2 ^ 52) (omega arith) (omega arith)) in
-    subst (λ (z : Float). HasValue z false (val b) (2 ^ 1074)) (sym e) (odd-sign 53 false (2 ^ 52 + b % 2 ^ 52) (b / 2 ^ 52 - 1) 1074)
+    subst (λ (z : Float). HasValue z false (unitsOf b) (2 ^ 1074)) (sym e) (odd-sign 53 false (2 ^ 52 + b % 2 ^ 52) (b / 2 ^ 52 - 1) 1074)
 
 -- a greater pattern stands for a greater value
-pub val-mono : (b c : ℕ) → 2 ^ 52 ≤ b → b ≤ c → val b ≤ val c
-val-mono b c l h =
+pub value-grows : (b c : ℕ) → 2 ^ 52 ≤ b → b ≤ c → unitsOf b ≤ unitsOf c
+value-grows b c l h =
     let x = b / 2 ^ 52 in
     let y = c / 2 ^ 52 in
     let m : 2 ^ 52 + b % 2 ^ 52 ≤ 2 ^ 53 = omega arith in
     let n : 2 ^ 52 ≤ 2 ^ 52 + c % 2 ^ 52 = omega arith in
-    elim (here-or-on x y) [
+    elim (below-or-not x y) [
       | inl g ↦
           let a : 53 + (x - 1) ≤ 52 + (y - 1) = omega arith in
           le-trans (mul-le-mul-right (2 ^ (x - 1)) m)
@@ -63,7 +63,7 @@ Range b = (2 ^ 52 ≤ b) × (b < 9218868437227405312)
 
 -- of n units
 units-range : (n : ℕ) → 2 ^ 52 ≤ n → n < 2 ^ 2098 → Range (0 + (size n - 53) * 2 ^ 52 + n / 2 ^ (size n - 53))
-units-range n l u = (from (here-or-on 53 (size n)), omega (arith, kept-lt 53 n, size-le n 2098 u))
+units-range n l u = (from (below-or-not 53 (size n)), omega (arith, kept-lt 53 n, size-le n 2098 u))
   where
     from : (53 < size n) ⊎ (size n ≤ 53) → 2 ^ 52 ≤ 0 + (size n - 53) * 2 ^ 52 + n / 2 ^ (size n - 53)
     from (inl h) = let k : 1 ≤ size n - 53 = omega arith in omega arith
@@ -96,19 +96,19 @@ range (fin false (suc m) e) F a h k =
 above-zero : (x : Float) → T (normal x) → T (above x)
 above-zero x N = above-of-le leastNormal x tt (and-l (le leastNormal x) (lt x (inf false)) N)
 
-pub pattern-in-range : (x : Float) → T (fits binary64 x) → T (normal x) → (2 ^ 52 ≤ toBits binary64 x) × (toBits binary64 x < 9218868437227405312)
-pattern-in-range x F N = range x F (above-zero x N) (and-l (le leastNormal x) (lt x (inf false)) N) (and-r (le leastNormal x) (lt x (inf false)) N)
+pub pattern-range : (x : Float) → T (fits binary64 x) → T (normal x) → (2 ^ 52 ≤ toBits binary64 x) × (toBits binary64 x < 9218868437227405312)
+pattern-range x F N = range x F (above-zero x N) (and-l (le leastNormal x) (lt x (inf false)) N) (and-r (le leastNormal x) (lt x (inf false)) N)
 
 -- ---- no NaN
 
-pub is-no-nan : (x : Float) → T (normal x) → T (not (isNan x))
+pub normal-no-nan : (x : Float) → T (normal x) → T (not (isNan x))
 unfolding isNan
-is-no-nan nan N = absurd (above-zero nan N)
-is-no-nan (inf s) N = tt
-is-no-nan (fin s m e) N = tt
+normal-no-nan nan N = absurd (above-zero nan N)
+normal-no-nan (inf s) N = tt
+normal-no-nan (fin s m e) N = tt
 
-pub has-value : (x : Float) (a c : ℕ) → HasValue x false a c → T (not (isNan x))
+pub value-no-nan : (x : Float) (a c : ℕ) → HasValue x false a c → T (not (isNan x))
 unfolding isNan
-has-value nan a c h = absurd h
-has-value (inf s) a c h = absurd h
-has-value (fin s m e) a c h = tt
+value-no-nan nan a c h = absurd h
+value-no-nan (inf s) a c h = absurd h
+value-no-nan (fin s m e) a c h = tt

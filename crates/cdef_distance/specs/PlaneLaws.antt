@@ -17,7 +17,7 @@ use Rattle.cdef_spec.specs.Questions.{sampleTaken, lookedAt, cutTaken}
 use Rattle.cdef_spec.specs.Words.{sum}
 use Rattle.cdef_spec.specs.Distance.{squaredDifference, squares, constantsOf, weightedDistance}
 use Rattle.cdef_spec.specs.BlockCalls.{inPlane, planeSquares, planeDistance}
-use Rattle.cdef_distance.specs.NewtonLaws.{here-or-on}
+use Rattle.cdef_distance.specs.NewtonLaws.{below-or-not}
 use Rattle.cdef_distance.specs.Blocks.{at, cell, blockOf, Within, weightedBy}
 use Rattle.cdef_distance.specs.BlockLaws.{block-cell, block-below, squares-64, squares-same, weighted-same, squares-high, weighted-64-low}
 
@@ -105,10 +105,10 @@ module _ (s t : List ℕ) (w h depth y x : ℕ) (fs : length s ≡ w * h) (ft : 
   plain-low = omega (arith, squares-low s t w h y x (lower _ _ _ _ _ depth hi (cut-within s w h depth y x fs hx hy cs)) (lower _ _ _ _ _ depth hi (cut-within t w h depth y x ft hx hy ct)))
 
   pub distance-low : planeDistance (sized s w h) t depth y x < 2 ^ 53
-  distance-low = elim (here-or-on w (x + 8)) [
+  distance-low = elim (below-or-not w (x + 8)) [
     | inl l ↦ rw (past-right s t w h y x depth l) plain-low
     | inr a ↦
-        elim (here-or-on h (y + 8)) [
+        elim (below-or-not h (y + 8)) [
           | inl l ↦ rw (past-bottom s t w h y x depth l) plain-low
           | inr b ↦
               rw (← inside-is s t w h y x depth a b)

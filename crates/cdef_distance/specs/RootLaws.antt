@@ -8,7 +8,7 @@ use mathlib.Core.Bool.{Bool, true, false, not, cond}
 use lib.Dec.{T, ltb, leb→le, nleb→lt, ltb→lt, nltb→le, lit<}
 use Rattle.cdef_spec.specs.Root.{fitsBit, bitRoot, upOrNot, nearestWhole, rootBits}
 use Rattle.cdef_distance.specs.RootWords.{NearestWhole}
-use Rattle.cdef_distance.specs.NewtonLaws.{here-or-on}
+use Rattle.cdef_distance.specs.NewtonLaws.{below-or-not}
 
 -- ---- there is one at most
 -- n below n': M ≤ n² + n ≤ n'² - n' < M
@@ -25,9 +25,9 @@ apart M n n' p q l =
 
 pub one-nearest : (M n n' : ℕ) → NearestWhole M n → NearestWhole M n' → n ≡ n'
 one-nearest M n n' p q =
-    elim (here-or-on n n') [
+    elim (below-or-not n n') [
       | inl l ↦ absurd (apart M n n' p q l)
-      | inr h ↦ elim (here-or-on n' n) [ inl l ↦ absurd (apart M n' n q p l) | inr g ↦ omega arith ]
+      | inr h ↦ elim (below-or-not n' n) [ inl l ↦ absurd (apart M n' n q p l) | inr g ↦ omega arith ]
     ]
 
 -- ---- and `nearestWhole` is one
@@ -79,8 +79,8 @@ many P M n pp h m a =
 -- ---- the root of a number of 105 or 106 bits, as `rootBits` has it, has 53
 pub root-range : (M n : ℕ) → 2 ^ 104 ≤ M → M + 2 ^ 53 ≤ 2 ^ 106 → NearestWhole M n → (2 ^ 52 ≤ n) × (n < 2 ^ 53)
 root-range M n lo hi p = (
-  elim (here-or-on n (2 ^ 52)) [ inl l ↦ absurd (few l) | inr h ↦ h ],
-  elim (here-or-on n (2 ^ 53)) [ inl l ↦ l | inr h ↦ absurd (many (2 ^ 53) M n (lit< tt) h hi (p .above)) ],
+  elim (below-or-not n (2 ^ 52)) [ inl l ↦ absurd (few l) | inr h ↦ h ],
+  elim (below-or-not n (2 ^ 53)) [ inl l ↦ l | inr h ↦ absurd (many (2 ^ 53) M n (lit< tt) h hi (p .above)) ],
 )
   where
     few : n < 2 ^ 52 → ⊥

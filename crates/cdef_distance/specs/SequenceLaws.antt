@@ -18,8 +18,8 @@ use Rattle.cdef_spec.specs.Root.{leastNormal, nearestWhole, rootBits, rootOf}
 use Rattle.cdef_distance.specs.RootWords.{normal, two53, NearestWhole}
 use Rattle.cdef_spec.specs.Distance.{whole, half}
 use Rattle.cdef_distance.specs.Weighing.{most}
-use Rattle.cdef_distance.specs.PatternLaws.{val, val-mono, bits-is, pattern-in-range}
-use Rattle.cdef_distance.specs.NewtonLaws.{here-or-on}
+use Rattle.cdef_distance.specs.PatternLaws.{unitsOf, value-grows, pattern-value, pattern-range}
+use Rattle.cdef_distance.specs.NewtonLaws.{below-or-not}
 use Rattle.cdef_distance.specs.RootLaws.{Moved, even-case, odd-case, nearest-whole, found-range, found, found-normal, wide-low, wide-high, under128}
 use Rattle.cdef_distance.specs.FloatLaws.{U, U-pos, R, G, Held, held-whole, held-pow, held-half, mul-val, add-val, div-val, AtMost, round-high, round-low, same-value}
 
@@ -86,7 +86,7 @@ within x a c u C h l e =
 
 -- ---- the root of a value from 20000 up is at least 128
 pub moved-any : (b : ℕ) → (h : ℕ) × Moved b h
-moved-any b = elim (here-or-on (b / 2 ^ 52 % 2) 1) [
+moved-any b = elim (below-or-not (b / 2 ^ 52 % 2) 1) [
   | inl l ↦ ((2 ^ 52 + b % 2 ^ 52) * 2, even-case b ((2 ^ 52 + b % 2 ^ 52) * 2) (zeroed (b / 2 ^ 52 % 2) l) refl)
   | inr g ↦ (2 ^ 52 + b % 2 ^ 52, odd-case b (2 ^ 52 + b % 2 ^ 52) (λ (z : b / 2 ^ 52 % 2 ≡ 0). clash (b / 2 ^ 52 % 2) z g) refl)
 ]
@@ -117,11 +117,11 @@ pub root-val : (v : Float) (n : ℕ) → T (fits binary64 v) → T (normal v) �
 unfolding rootOf
 root-val v n F N h l =
     let b = toBits binary64 v in
-    let rg = pattern-in-range v F N in
-    let hb : HasValue v false (val b) U = subst (λ (z : Float). HasValue z false (val b) U) (ofBits-toBits binary64 v F) (bits-is b (rg .0) (rg .1)) in
-    let e : n ≡ val b = eq-of-mul-eq-mul-right U U-pos n (val b) (same-value v n U (val b) U h hb) in
-    let lb : 1037 * 2 ^ 52 ≤ b = elim (here-or-on b (1037 * 2 ^ 52)) [
-      | inl u ↦ absurd (not-le-of-lt (lt-of-le-of-lt (val-mono b (1037 * 2 ^ 52) (rg .0) (before b (1037 * 2 ^ 52) u)) (lit< tt)) (le-trans l (le-of-eq e)))
+    let rg = pattern-range v F N in
+    let hb : HasValue v false (unitsOf b) U = subst (λ (z : Float). HasValue z false (unitsOf b) U) (ofBits-toBits binary64 v F) (pattern-value b (rg .0) (rg .1)) in
+    let e : n ≡ unitsOf b = eq-of-mul-eq-mul-right U U-pos n (unitsOf b) (same-value v n U (unitsOf b) U h hb) in
+    let lb : 1037 * 2 ^ 52 ≤ b = elim (below-or-not b (1037 * 2 ^ 52)) [
+      | inl u ↦ absurd (not-le-of-lt (lt-of-le-of-lt (value-grows b (1037 * 2 ^ 52) (rg .0) (before b (1037 * 2 ^ 52) u)) (lit< tt)) (le-trans l (le-of-eq e)))
       | inr g ↦ g
     ] in
     let rt = rooted b in
@@ -131,7 +131,7 @@ root-val v n F N h l =
     let rlo : 2 ^ 52 ≤ rb = le-trans (nr .0) (le-of-eq (k .is-bits)) in
     let rhi : rb < 9218868437227405312 = lt-of-le-of-lt (le-of-eq (sym (k .is-bits))) (nr .1) in
     let up-to : 1030 * 2 ^ 52 ≤ rb = le-trans (enough b (rt .0) lb) (le-of-eq (k .is-bits)) in
-    (val rb, bits-is rb rlo rhi, le-trans (lit≤ tt) (val-mono (1030 * 2 ^ 52) rb (lit≤ tt) up-to))
+    (unitsOf rb, pattern-value rb rlo rhi, le-trans (lit≤ tt) (value-grows (1030 * 2 ^ 52) rb (lit≤ tt) up-to))
   where
     before : (x y : ℕ) → x < y → x ≤ y
     before x y h = omega arith

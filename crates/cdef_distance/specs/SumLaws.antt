@@ -7,7 +7,7 @@ use native.Mathlib.Numerals.{add-one}
 use native.Mathlib.Omega.{arith}
 use Rattle.cdef_spec.specs.Words.{sum, sum2}
 use Rattle.cdef_spec.specs.Distance.{squaredDifference, squaresLimit}
-use Rattle.cdef_distance.specs.NewtonLaws.{here-or-on, apart, product-low}
+use Rattle.cdef_distance.specs.NewtonLaws.{below-or-not, apart, product-low}
 use Rattle.cdef_distance.specs.Weighing.{SumsOf}
 
 pub sum-none : (f : ℕ → ℕ) → 0 ≡ sum 0 f
@@ -53,7 +53,7 @@ down x y d e = let m : max x y - min x y ≡ d = omega arith in rw (m, e) (omega
 
 difference-is : (x y : ℕ) → squaredDifference x y + 2 * (x * y) ≡ x * x + y * y
 unfolding squaredDifference
-difference-is x y = elim (here-or-on x y) [ inl l ↦ up x y (y - x) (omega arith) | inr h ↦ down x y (x - y) (omega arith) ]
+difference-is x y = elim (below-or-not x y) [ inl l ↦ up x y (y - x) (omega arith) | inr h ↦ down x y (x - y) (omega arith) ]
 
 pub difference-high : (x y c : ℕ) → x ≤ c → y ≤ c → squaredDifference x y ≤ c * c
 unfolding squaredDifference

@@ -12,12 +12,12 @@ use lib.Ieee.Fits.{and-l, and-r}
 use lib.Ieee.Exact.{HasValue}
 use lib.Ieee.Positive.{num, den, den-pos, value→cross}
 use Rattle.cdef_spec.specs.Root.{plain, sumNum, sumDen}
-use Rattle.cdef_distance.specs.NewtonLaws.{here-or-on}
+use Rattle.cdef_distance.specs.NewtonLaws.{below-or-not}
 use Rattle.cdef_distance.specs.FloatLaws.{U, U-pos}
 
 -- ---- a value that fits, in units of 2 ^ -1074
 pow-back : (a l : ℕ) → 2 ^ a ≤ 2 ^ l → a ≤ l
-pow-back a l h = elim (here-or-on l a) [ inl g ↦ absurd (not-le-of-lt (pow-lt g) h) | inr g ↦ g ]
+pow-back a l h = elim (below-or-not l a) [ inl g ↦ absurd (not-le-of-lt (pow-lt g) h) | inr g ↦ g ]
 
 units : (d : ℤ) → down d ≤ 2 ^ 1074 → (j : ℕ) × ((n : ℕ) → n * up d * U ≡ n * 2 ^ j * down d)
 units (pos a) h = (a + 1074, λ n. mul-assoc n (2 ^ a) U ∙ ap (λ (z : ℕ). n * z) (sym (pow-add 2 a 1074)) ∙ sym (mul-one (n * 2 ^ (a + 1074))))

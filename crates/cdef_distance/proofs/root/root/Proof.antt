@@ -9,17 +9,17 @@ use lib.Dec.{T}
 use lib.Ieee.{Float, binary64, fits, ofBits, toBits}
 use lib.Ieee.Bits.{nanBits-is}
 use Rattle.cdef_spec.specs.Root.{rootOf, IsNearestRoot}
-use Rattle.cdef_distance.specs.PatternLaws.{pattern-in-range, is-no-nan, has-value, bits-is, val}
+use Rattle.cdef_distance.specs.PatternLaws.{pattern-range, normal-no-nan, value-no-nan, pattern-value, unitsOf}
 use Rattle.cdef_distance.specs.RootLaws.{Moved, even-case, odd-case, found-range, found, found-normal}
 use Rattle.cdef_distance.specs.NearestLaws.{root-nearest}
 use Rattle.cdef_distance.proofs.root.root.Statement.{statement}
 use Rattle.cdef_distance.proofs.root.root.Tie as tie
 
 float-to-bits-b : tie.Need-float-to-bits-b
-float-to-bits-b c = is-no-nan (c .args .v) (c .pre)
+float-to-bits-b c = normal-no-nan (c .args .v) (c .pre)
 
-held : (c : tie.Start) → T (fits binary64 (c .args .v))
-held c = subst T (sym (c .good .0 .1)) tt
+fits-so : (c : tie.Start) → T (fits binary64 (c .args .v))
+fits-so c = subst T (sym (c .good .0 .1)) tt
 
 abbrev B : tie.Joined1 → ℕ
 B c = toBits binary64 (c .before .args .v)
@@ -45,7 +45,7 @@ record Known (b n : ℕ) : Type 0 where
 
 known : (c : tie.After-wide-root) → Known (B (c .before)) (c .wide-root .result)
 known c =
-    let r = pattern-in-range (c .before .before .args .v) (held (c .before .before)) (c .before .before .pre) in
+    let r = pattern-range (c .before .before .args .v) (fits-so (c .before .before)) (c .before .before .pre) in
     let n = found-range (B (c .before)) (c .before .if1 .h) (c .wide-root .result) (moved (c .before)) (c .wide-root .ensures) in
     record { b-low = r .0; b-high = r .1; n-low = n .0; n-high = n .1 }
 
@@ -68,7 +68,7 @@ float-from-bits-result c =
     let p = (b / 2 ^ 52 + 1023) / 2 * 2 ^ 52 + (n - 2 ^ 52) in
     let k = known c in
     let r = found-normal b n (k .b-low) (k .b-high) (k .n-low) (k .n-high) in
-    subst (λ (t : Bool). T (not t)) (sym (nanBits-is binary64 p)) (has-value (ofBits binary64 p) (val p) (2 ^ 1074) (bits-is p (r .0) (r .1)))
+    subst (λ (t : Bool). T (not t)) (sym (nanBits-is binary64 p)) (value-no-nan (ofBits binary64 p) (unitsOf p) (2 ^ 1074) (pattern-value p (r .0) (r .1)))
 
 is-root : (c : tie.After-wide-root) → ofBits binary64 ((B (c .before) / 2 ^ 52 + 1023) / 2 * 2 ^ 52 + (c .wide-root .result - 2 ^ 52)) ≡ rootOf (c .before .before .args .v)
 unfolding rootOf
@@ -77,7 +77,7 @@ is-root c = ap (ofBits binary64) (found (B (c .before)) (c .before .if1 .h) (c .
 returns : tie.Need-returns
 returns c =
     let s = c .before .before in
-    (is-root c, subst (λ (z : Float). IsNearestRoot (s .args .v) z) (sym (is-root c)) (root-nearest (s .args .v) (held s) (s .pre)))
+    (is-root c, subst (λ (z : Float). IsNearestRoot (s .args .v) z) (sym (is-root c)) (root-nearest (s .args .v) (fits-so s) (s .pre)))
 
 pub root-spec : {M : Type 1} → statement M
 root-spec = tie.close (tie.spec float-to-bits-b add-m mul-h wide-root-requires add-result mul-result sub-result add-result-2 float-from-bits-result returns)

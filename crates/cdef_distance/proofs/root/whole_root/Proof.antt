@@ -2,7 +2,7 @@
 use Prim.Native.Nat.{ℕ, zero, suc, _+_, _*_, _/_, _^_, _≤_, _<_}
 use native.Mathlib.Nat.{le-div-iff-mul-le, div-le-self, zero-lt-suc}
 use native.Mathlib.Omega.{arith}
-use Rattle.cdef_distance.specs.NewtonLaws.{newton-above}
+use Rattle.cdef_distance.specs.NewtonLaws.{next-above}
 use Rattle.cdef_distance.proofs.root.whole_root.Statement.{statement}
 use Rattle.cdef_distance.proofs.root.whole_root.Tie as tie
 
@@ -37,7 +37,7 @@ loop-holds : tie.Need-loop-holds Inv-loop μ-loop
 loop-holds c =
     let h = c .before .args .h in
     let g = c .first-guess .result in
-    let up : h < ((g + h / g) / 2 + 1) * ((g + h / g) / 2 + 1) = newton-above h g (omega arith) in
+    let up : h < ((g + h / g) / 2 + 1) * ((g + h / g) / 2 + 1) = next-above h g (omega arith) in
     (up, above-zero h ((g + h / g) / 2) (omega arith) up, omega (arith, div-le-self h g))
 
 div-next : tie.Need-div-next Inv-loop μ-loop
@@ -53,7 +53,7 @@ loop-again : tie.Need-loop-again Inv-loop μ-loop
 loop-again c =
     let h = c .before .before .before .args .h in
     let g = c .before .loop .g in
-    let up : h < ((g + h / g) / 2 + 1) * ((g + h / g) / 2 + 1) = newton-above h g (omega arith) in
+    let up : h < ((g + h / g) / 2 + 1) * ((g + h / g) / 2 + 1) = next-above h g (omega arith) in
     (up, above-zero h ((g + h / g) / 2) (omega arith) up, omega arith)
 
 returns : tie.Need-returns Inv-loop μ-loop

@@ -144,3 +144,10 @@ pub fn distance(
     };
     (number, out)
 }
+
+/// The root of a number from the least normal f64 on.
+#[inline]
+pub fn root(v: f64) -> f64 {
+    // SAFETY: the entry takes any number and is lent nothing.
+    unsafe { entries::quern_root(v) }
+}

@@ -6,6 +6,7 @@ unsafe extern "C" {
     pub fn quern_adjust_pri(strength: u32, variance: u32, out: *mut u32) -> u32;
     pub fn quern_damping(index: u32, out: *mut u8) -> u32;
     pub fn quern_log2_floor(v: u32) -> u32;
+    pub fn quern_root(v: f64) -> f64;
     pub fn quern_direction(
         plane: *const u16,
         plane_len: usize,

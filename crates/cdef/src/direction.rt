@@ -2,7 +2,8 @@
 ghost use mathlib.Core.Path.{_≡_};
 ghost use Rattle.cdef_spec.specs.Answers.{readDirection};
 ghost use Rattle.cdef_spec.specs.BlockCalls.{directionOutcome};
-use crate::questions;
+use cdef_asked::block_questions;
+use cdef_asked::questions;
 use cdef_spec::DirectionAnswer;
 
 // The direction and the variance of the 8 by 8 block at (x, y). Only the block, cut to the plane, is looked at.
@@ -16,17 +17,9 @@ pub fn direction(
 ) -> DirectionAnswer
     ensures { λ r. ⌜ readDirection r ≡ directionOutcome (record { samples = now (plane .entry); width = width; height = height }) depth y x ⌝ }
 {
-    if !questions::depth_taken(depth) {
-        return DirectionAnswer::NoDirection(1);
-    }
-    if !questions::side_taken(width) {
-        return DirectionAnswer::NoDirection(2);
-    }
-    if !questions::side_taken(height) {
-        return DirectionAnswer::NoDirection(2);
-    }
-    if !questions::full(plane, width, height) {
-        return DirectionAnswer::NoDirection(4);
+    let no = block_questions::plane_no(plane, width, height, depth);
+    if no != 0 {
+        return DirectionAnswer::NoDirection(no);
     }
     if !questions::corner_taken(width, height, x, y) {
         return DirectionAnswer::NoDirection(5);

@@ -1,41 +1,9 @@
 // The calls for the distance of two blocks.
 ghost use mathlib.Core.Path.{_≡_};
 ghost use Rattle.cdef_spec.specs.Answers.{readDistance};
-ghost use Rattle.cdef_spec.specs.BlockCalls.{distanceNo, distanceOutcome, squaresOutcome};
-use crate::block_questions;
-use crate::questions;
+ghost use Rattle.cdef_spec.specs.BlockCalls.{distanceOutcome, squaresOutcome};
+use cdef_asked::distance_questions;
 use cdef_spec::DistanceAnswer;
-
-// 1, 2, 4, 5 and 9 of an original and another plane: the number of the first no, or 0.
-fn distance_no(
-    orig: &[u16],
-    other: &[u16],
-    width: usize,
-    height: usize,
-    x: usize,
-    y: usize,
-    depth: u8,
-) -> u8
-    ensures { λ r. ⌜ r ≡ distanceNo (record { samples = now (orig .entry); width = width; height = height }) (now (other .entry)) depth y x ⌝ }
-{
-    let no = block_questions::plane_no(orig, width, height, depth);
-    if no != 0 {
-        return no;
-    }
-    if !questions::full(other, width, height) {
-        return 4;
-    }
-    if !questions::corner_taken(width, height, x, y) {
-        return 5;
-    }
-    if !cdef_distance::looked::cut_taken(orig, width, height, x, y, depth) {
-        return 9;
-    }
-    if !cdef_distance::looked::cut_taken(other, width, height, x, y, depth) {
-        return 9;
-    }
-    0
-}
 
 // The weighted distance of the 8 by 8 blocks at (x, y); past the right or bottom edge, plain squares.
 pub fn distance(
@@ -49,7 +17,7 @@ pub fn distance(
 ) -> DistanceAnswer
     ensures { λ r. ⌜ readDistance r ≡ distanceOutcome (record { samples = now (orig .entry); width = width; height = height }) (now (other .entry)) depth y x ⌝ }
 {
-    let no = distance_no(orig, other, width, height, x, y, depth);
+    let no = distance_questions::distance_no(orig, other, width, height, x, y, depth);
     if no != 0 {
         return DistanceAnswer::NoDistance(no);
     }
@@ -70,7 +38,7 @@ pub fn squares(
 ) -> DistanceAnswer
     ensures { λ r. ⌜ readDistance r ≡ squaresOutcome (record { samples = now (orig .entry); width = width; height = height }) (now (other .entry)) depth y x ⌝ }
 {
-    let no = distance_no(orig, other, width, height, x, y, depth);
+    let no = distance_questions::distance_no(orig, other, width, height, x, y, depth);
     if no != 0 {
         return DistanceAnswer::NoDistance(no);
     }

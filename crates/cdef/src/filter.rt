@@ -3,7 +3,7 @@ ghost use mathlib.Core.Path.{_≡_};
 ghost use Rattle.cdef_spec.specs.Document01.{Plane};
 ghost use Rattle.cdef_spec.specs.Answers.{readAnswer};
 ghost use Rattle.cdef_spec.specs.BlockCalls.{filterOutcome};
-use crate::block_questions;
+use cdef_asked::block_questions;
 use cdef_spec::Answer;
 use cdef_spec::Block;
 use cdef_spec::FilterParams;

@@ -2,7 +2,7 @@
 ghost use mathlib.Core.Path.{_≡_};
 ghost use Rattle.cdef_spec.specs.Answers.{readDifference, readStrength, readDamping};
 ghost use Rattle.cdef_spec.specs.BlockCalls.{constrainOutcome, adjustOutcome, dampingOutcome};
-use crate::questions;
+use cdef_asked::questions;
 use cdef_spec::DampingAnswer;
 use cdef_spec::DifferenceAnswer;
 use cdef_spec::StrengthAnswer;

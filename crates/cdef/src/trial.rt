@@ -1,71 +1,13 @@
 // The call for the trial of a block.
 ghost use mathlib.Core.Path.{_≡_};
-ghost use mathlib.Core.Bool.{_&&_};
-ghost use lib.Dec.{ltb};
 ghost use Rattle.cdef_spec.specs.Document01.{Plane};
 ghost use Rattle.cdef_spec.specs.Answers.{readAnswer};
-ghost use Rattle.cdef_spec.specs.Questions.{firstNo, wayTaken, workingTaken};
 ghost use Rattle.cdef_spec.specs.BlockCalls.{trialOutcome};
-ghost use Rattle.cdef.specs.TrialParts.{trialFirst};
-use crate::block_questions;
-use crate::questions;
+use cdef_asked::trial_questions;
 use cdef_spec::Answer;
 use cdef_spec::Block;
 use cdef_spec::TrialWay;
 use cdef_spec::WorkingDamping;
-
-// 8: a variance, which only the luma way has.
-fn way_taken(way: TrialWay) -> bool
-    ensures { λ r. ⌜ r ≡ wayTaken way ⌝ }
-{
-    match way {
-        TrialWay::Luma(var) => questions::variance_taken(var),
-        TrialWay::Chroma => true,
-    }
-}
-
-// 8: direction, variance and damping.
-fn trial_taken(way: TrialWay, dir: u8, damping: WorkingDamping) -> bool
-    ensures { λ r. ⌜ r ≡ ltb dir 8 && (wayTaken way && workingTaken damping) ⌝ }
-{
-    if 7 < dir {
-        return false;
-    }
-    if !way_taken(way) {
-        return false;
-    }
-    questions::working_taken(damping)
-}
-
-// 1, 2, 4, 5, 7 and 8: the number of the first no, or 0.
-fn trial_no(
-    out: &[u16],
-    plane: &[u16],
-    width: usize,
-    height: usize,
-    b: Block,
-    way: TrialWay,
-    dir: u8,
-    damping: WorkingDamping,
-    depth: u8,
-) -> u8
-    ensures { λ r. ⌜ r ≡ firstNo (trialFirst (record { samples = now (plane .entry); width = width; height = height }) b way dir damping depth (now (out .entry))) ⌝ }
-{
-    let no = block_questions::plane_no(plane, width, height, depth);
-    if no != 0 {
-        return no;
-    }
-    if !block_questions::block_taken(width, height, b) {
-        return 5;
-    }
-    if out.len() != 768 {
-        return 7;
-    }
-    if !trial_taken(way, dir, damping) {
-        return 8;
-    }
-    0
-}
 
 // Filters a block with the twelve pairs: trial block t lies in the 64 places from t * 64 on, with the block's width as its row pitch.
 // A marked centre, or one off the plane, gives 16384; the places after the block keep what they held.
@@ -83,7 +25,7 @@ pub fn trial(
     ensures { λ r. ⌜ readAnswer r ≡ (trialOutcome (record { samples = now (plane .entry); width = width; height = height }) block way dir damping depth (now (out .entry))) .answer ⌝ }
     ensures { λ _. ⌜ now (out .exit) ≡ (trialOutcome (record { samples = now (plane .entry); width = width; height = height }) block way dir damping depth (now (out .entry))) .out ⌝ }
 {
-    let no = trial_no(out, plane, width, height, block, way, dir, damping, depth);
+    let no = trial_questions::trial_no(out, plane, width, height, block, way, dir, damping, depth);
     if no != 0 {
         return Answer::Refused(no);
     }

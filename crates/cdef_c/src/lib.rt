@@ -4,4 +4,5 @@ pub mod direction; // direction.rt: the direction of a block
 pub mod distance; // distance.rt: the distance of two blocks
 pub mod filter; // filter.rt: the block filter
 pub mod numbers; // numbers.rt: the calls on single numbers
+pub mod root; // root.rt: the root by itself
 pub mod trial; // trial.rt: the trial of a block

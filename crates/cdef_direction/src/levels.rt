@@ -1,19 +1,12 @@
 // The samples of a block, each shifted right by depth - 8, less 128.
 ghost use mathlib.Core.Path.{_≡_};
 ghost use mathlib.Core.Bool.{true};
-ghost use Prim.Native.Nat.{_+_, _*_, _/_, _^_, _≤_, _<_, min};
+ghost use Prim.Native.Nat.{_+_, _*_, _/_, _^_, _≤_, _<_};
 ghost use lib.IntN.{pos, _-ℤ_};
 ghost use lib.ListN.{length};
 ghost use Rattle.cdef_spec.specs.Document01.{directionInput};
 ghost use Rattle.cdef_spec.specs.Questions.{cutTaken};
 ghost use Rattle.cdef_direction.specs.Lines.{blockOf};
-
-// The lesser of two.
-pub fn least(a: usize, b: usize) -> usize
-    ensures { λ r. ⌜ r ≡ min a b ⌝ }
-{
-    if a < b { a } else { b }
-}
 
 // A sample, shifted, less 128.
 fn level(v: u16, shift: u32) -> i16
@@ -66,10 +59,10 @@ fn levels_edge(
     let shift = (depth - 8) as u32;
     let mut b = [0i16; 64];
     for i in 0..8usize {
-        let row = least(y + i, height - 1) * width;
+        let row = cdef_sample::lesser(y + i, height - 1) * width;
         let to = i * 8;
         for j in 0..8usize {
-            let at = row + least(x + j, width - 1);
+            let at = row + cdef_sample::lesser(x + j, width - 1);
             b[to + j] = level(plane[at], shift);
         }
     }

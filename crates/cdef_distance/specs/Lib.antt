@@ -15,4 +15,3 @@ pub mod SumLaws
 pub mod Blocks
 pub mod BlockLaws
 pub mod PlaneLaws
-pub mod LookedLaws

@@ -59,7 +59,7 @@ module _ (s t : List ℕ) (w h y x : ℕ) where
   unfolding planeSquares
   squares-is r e = e ∙ squares-same _ _ _ _ _ _ (λ i j hi hj. at-plane s w h y x i j) (λ i j hi hj. at-plane t w h y x i j)
 
-  pub cells : (u : List ℕ) (i j : ℕ) → i < 8 → j < 8 → cell (blockOf u (y * w + x) w) i j ≡ inPlane (sized u w h) y x i j
+  cells : (u : List ℕ) (i j : ℕ) → i < 8 → j < 8 → cell (blockOf u (y * w + x) w) i j ≡ inPlane (sized u w h) y x i j
   cells u i j hi hj = block-cell u (y * w + x) w i j hi hj ∙ at-plane u w h y x i j
 
   -- by the 64 samples of a block wholly inside

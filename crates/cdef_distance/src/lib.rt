@@ -1,7 +1,7 @@
 // The distance of two 8 by 8 blocks: plain squares, and the weighted distance.
 ghost use mathlib.Core.Path.{_≡_};
 ghost use mathlib.Core.Bool.{true};
-ghost use Prim.Native.Nat.{ℕ, _+_, _*_, _^_, _≤_, _<_, min};
+ghost use Prim.Native.Nat.{ℕ, _+_, _*_, _^_, _≤_, _<_};
 ghost use lib.ListN.{length};
 ghost use Rattle.cdef_spec.specs.Questions.{cutTaken};
 ghost use Rattle.cdef_spec.specs.Distance.{constantsOf};
@@ -10,17 +10,9 @@ ghost use Rattle.cdef_distance.specs.Weighing.{OfDepth};
 ghost use Rattle.cdef_distance.specs.Blocks.{cell, Below, weightedBy};
 use cdef_spec::DistanceConstants;
 
-pub mod looked; // looked.rt: are the samples of a block below 2^depth?
 pub mod root; // root.rt: the root and the cut of an f64
 pub mod sums; // sums.rt: sums over blocks
 pub mod weight; // weight.rt: the weighted distance from sums
-
-// The lesser of two.
-fn least(a: usize, b: usize) -> usize
-    ensures { λ r. ⌜ r ≡ min a b ⌝ }
-{
-    if a < b { a } else { b }
-}
 
 // The weighted distance of 64 samples and 64 others.
 pub fn block_distance(a: &[u16; 64], b: &[u16; 64], c: DistanceConstants) -> u64
@@ -49,8 +41,8 @@ pub fn block_sse_8x8(
     requires { ⌜ ((depth : ℕ) × (depth ≤ 12) × (cutTaken (record { samples = now orig; width = width; height = height }) depth y x ≡ true) × (cutTaken (record { samples = now other; width = width; height = height }) depth y x ≡ true)) ⌝ }
     ensures { λ r. ⌜ r ≡ planeSquares (record { samples = now (orig .entry); width = width; height = height }) (now (other .entry)) y x ⌝ }
 {
-    let rows = least(8, height - y);
-    let cols = least(8, width - x);
+    let rows = cdef_sample::lesser(8, height - y);
+    let cols = cdef_sample::lesser(8, width - x);
     let at = y * width + x;
     if rows + cols < 16 {
         return sums::squares(orig, at, width, other, at, width, rows, cols) as u64;

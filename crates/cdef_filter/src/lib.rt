@@ -59,12 +59,6 @@ fn filter_rows(
     }
 }
 
-fn lesser(a: usize, b: usize) -> usize
-    ensures { λ r. ⌜ r ≡ min a b ⌝ }
-{
-    if a < b { a } else { b }
-}
-
 // Filters a block from its window, in a plane w by h, into a destination whose first row is the plane's row y0.
 pub fn filter_window(
     dst: &mut [u16],
@@ -84,8 +78,8 @@ pub fn filter_window(
     let t = cdef_kernel::taps(q.dir as usize);
     let f = cdef_kernel::primary(q.pri as u16, d, q.depth);
     let g = cdef_kernel::secondary(q.sec as u16, d);
-    let cols = lesser(b.width, w - b.x);
-    let rows = lesser(b.height, h - b.y);
+    let cols = cdef_sample::lesser(b.width, w - b.x);
+    let rows = cdef_sample::lesser(b.height, h - b.y);
     filter_rows(dst, w, b.y - y0, b.x, rows, cols, win, t, f, g);
 }
 

@@ -2,17 +2,17 @@
 use mathlib.Core.Path.{_≡_, refl, sym, ap, _∙_}
 use mathlib.Core.Bool.{Bool, true, false, cond}
 use mathlib.Core.List.{List, [], _∷_}
-use Prim.Native.Nat.{ℕ, zero, suc, _+_, _-_, _*_, _≤_, _<_, min}
+use Prim.Native.Nat.{ℕ, zero, suc, _+_, _-_, _≤_, min}
 use native.Mathlib.Omega.{arith}
 use borrow.Author.Tests.{ltb-true, ltb-false, le-ltb}
 use lib.Dec.{ltb}
-use lib.IntN.{ℤ, pos, negsuc, negℤ, _+ℤ_, _-ℤ_, _*ℤ_, +ℤ-assoc, +ℤ-comm, *ℤ-zero}
+use lib.IntN.{ℤ, pos, negsuc, negℤ, _+ℤ_, _-ℤ_, +ℤ-assoc, +ℤ-comm, *ℤ-zero}
 use lib.Signed.{ltZ, shrZ, mag}
-use Rattle.cdef_spec.specs.Standard.{Clip3, rounded, constrain, Tap, missing, sample}
+use Rattle.cdef_spec.specs.Standard.{Clip3, rounded, Tap, missing, sample}
 use Rattle.cdef_spec.specs.FilterLaws.{constrain-off}
 use Rattle.cdef_spec.specs.TapLaws.{Visit}
 use Rattle.cdef_spec.specs.TrialLaws.{adds, total}
-use Rattle.cdef_sample.specs.Sample.{roundOf, movedOf, overOf, underOf, finishOf, freeOf}
+use Rattle.cdef_sample.specs.Sample.{roundOf, movedOf, overOf, finishOf, freeOf}
 use Rattle.cdef_sample.specs.SampleLaws.{held-nat, finish-on, free-on}
 
 -- 8 + z - g is z + (8 - g)

@@ -1,39 +1,36 @@
 -- THE KERNEL'S SAMPLE IS THE FILTERED SAMPLE of the plane.
 use mathlib.Core.Path.{_≡_, refl, sym, ap, _∙_}
 use mathlib.Core.Bool.{Bool, true, false, cond}
-use mathlib.Core.List.{List, [], _∷_, _++_}
+use mathlib.Core.List.{List, _++_}
 use mathlib.Core.Logic.{_⊎_, inl, inr}
-use Prim.Native.Nat.{ℕ, zero, suc, _+_, _-_, _*_, _/_, _%_, _^_, _≤_, _<_, min, max}
+use Prim.Native.Nat.{ℕ, _+_, _-_, _*_, _/_, _%_, _^_, _≤_, _<_, min, max}
 use native.Mathlib.Decide.{ℕ-discrete}
 use native.Mathlib.Omega.{arith}
-use borrow.Author.Tests.{eq-eqb, ne-eqb, eqb-true, eqb-false}
+use borrow.Author.Tests.{eq-eqb, ne-eqb, eqb-true}
 use lib.Dec.{eqb}
 use lib.ListN.{getD}
 use lib.IntN.{ℤ, pos, _+ℤ_, _*ℤ_, +ℤ-idl, +ℤ-idr}
 use Rattle.cdef_spec.specs.declared.Block.{Block}
 use Rattle.cdef_spec.specs.declared.FilterParams.{FilterParams}
-use Rattle.cdef_spec.specs.Words.{_>>_}
-use Rattle.cdef_spec.specs.Standard.{Tap, missing, sample, Clip3, rounded, filterTaps, unclipped, CdefFilter, Cdef-Pri-Taps, Cdef-Sec-Taps}
+use Rattle.cdef_spec.specs.Standard.{sample, rounded, filterTaps, unclipped, CdefFilter, Cdef-Sec-Taps}
 use Rattle.cdef_spec.specs.Document01.{Plane, mark, unmarked, available, orElse, dampingFrom1, filterCentre, filtered}
 use Rattle.cdef_spec.specs.CodeForm.{rowOf, colOf, sampleAt}
 use Rattle.cdef_spec.specs.PlaceLaws.{steps-low, available-here2}
 use Rattle.cdef_spec.specs.FilterLaws.{Around, around, clip-high, filter-off}
 use Rattle.cdef_spec.specs.ClipLaws.{clip-idle}
-use Rattle.cdef_spec.specs.TrialLaws.{total, highest, lowest, priTaps, secTaps, sum-splits, max-is, min-is}
+use Rattle.cdef_spec.specs.TrialLaws.{total, priTaps, secTaps, sum-splits, max-is, min-is}
 use Rattle.cdef_sample.specs.Sample.{orCentre, conOf, finishOf, freeOf}
 use Rattle.cdef_sample.specs.SampleLaws.{centre-mark, centre-tap, finish-mark, free-mark}
 use Rattle.cdef_sample.specs.Bounds.{Held}
 use Rattle.cdef_sample.specs.Upto.{upto}
-use Rattle.cdef_rows.specs.declared.Taps.{Taps}
-use Rattle.cdef_rows.specs.declared.Strength.{Strength}
-use Rattle.cdef_rows.specs.Sums.{InRange, pairAt, lowPair, highPair, priAt, secAt, lowAt, highAt, filteredAt}
+use Rattle.cdef_rows.specs.Sums.{pairAt, lowPair, highPair, priAt, nearAt, farAt, secAt, lowAt, highAt, filteredAt}
 use Rattle.cdef_window.specs.Window.{windowAt}
 use Rattle.cdef_kernel.specs.Kernel.{tapsOf, offAt, shiftOf, priOf, secOf, kernelAt}
 use Rattle.cdef_kernel.specs.ShapeLaws.{pri-shape, sec-shape, weights, low-lt, max-below}
 use Rattle.cdef_kernel.specs.PlaceLaws.{entry-is, centre-is, on-tap, back-tap}
 use Rattle.cdef_kernel.specs.OrderLaws.{max-twelve, min-twelve}
 use Rattle.cdef_kernel.specs.SumLaws.{Matches, joined, summed, greatest, smallest, total-is, highest-is, lowest-is, onSample, backSample, along, pri-matches, sec-matches}
-use Rattle.cdef_kernel.specs.FinishLaws.{finish-is, free-is, Idle, none, more, total-idle}
+use Rattle.cdef_kernel.specs.FinishLaws.{finish-is, free-is, none, more, total-idle}
 
 -- row i and column j of the block b of the plane p, filtered with q
 module _ (p : Plane) (b : Block) (q : FilterParams) (i j : ℕ) (hh : b .height ≤ 8) (hw : b .width ≤ 8) (hi : i < b .height) (hj : j < b .width) (hd : q .dir < 8) (held : Held (upto (windowAt p b) 144)) where
@@ -142,7 +139,7 @@ module _ (p : Plane) (b : Block) (q : FilterParams) (i j : ℕ) (hh : b .height 
         ∙ sym (total-is c c-low n d (pri-matches p y x (dampingFrom1 q) hd low) ∙ pri-summed))
 
     sec-is : secAt win at (tapsOf (q .dir)) (secOf (q .sec) d) ≡ total c d (secTaps (available p) y x c (dampingFrom1 q))
-    unfolding secAt tapsOf secOf dampingFrom1
+    unfolding secAt nearAt farAt tapsOf secOf dampingFrom1
     sec-is =
         rw (here, pair-is q2 0 (q .sec) q8 (omega arith), pair-is q2 1 (q .sec) q8 (omega arith), pair-is q6 0 (q .sec) r8 (omega arith), pair-is q6 1 (q .sec) r8 (omega arith))
         (sec-shape 2 1 (con (q .sec) (on q2 0)) (con (q .sec) (back q2 0)) (con (q .sec) (on q2 1)) (con (q .sec) (back q2 1)) (con (q .sec) (on q6 0)) (con (q .sec) (back q6 0)) (con (q .sec) (on q6 1)) (con (q .sec) (back q6 1))
@@ -272,7 +269,6 @@ module _ (p : Plane) (b : Block) (q : FilterParams) (i j : ℕ) (hh : b .height 
       go (yes e) = rw (eq-eqb c 16384 e) (off e)
       go (no n) = rw (ne-eqb c 16384 n) (on n)
 
-  -- the kernel's sample, or the mark where there is none
   pub kernel-is : kernelAt (upto (windowAt p b) 144) ((i + 2) * 12 + 2 + j) (tapsOf (q .dir)) (priOf (q .pri) (max 1 (q .damping .0)) (q .depth)) (secOf (q .sec) (max 1 (q .damping .0))) ≡ orElse mark (filtered p q (b .y + i) (b .x + j))
   unfolding win
   kernel-is = settled _ kernel-off kernel-on

@@ -1,6 +1,6 @@
 -- Twelve numbers and a start, folded one by one or by pairs: the same least and the same greatest.
-use mathlib.Core.Path.{_≡_, refl, sym, ap, _∙_}
-use Prim.Native.Nat.{ℕ, _≤_, min, max}
+use mathlib.Core.Path.{_≡_}
+use Prim.Native.Nat.{ℕ, min, max}
 use native.Mathlib.Nat.{min-comm, max-comm}
 use native.Mathlib.Omega.{arith}
 

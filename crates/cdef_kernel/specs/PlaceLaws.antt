@@ -1,6 +1,5 @@
 -- A wrapped offset, added to a place of the window or taken from it, lands on the entry that holds the plane's sample at the intended row and column, or the mark where that is off the plane.
-use mathlib.Core.Path.{_≡_, refl, sym, ap, _∙_}
-use mathlib.Core.List.{List}
+use mathlib.Core.Path.{_≡_, _∙_}
 use mathlib.Core.Logic.{_⊎_, inl, inr}
 use Prim.Native.Nat.{ℕ, _+_, _-_, _*_, _%_, _^_, _≤_, _<_}
 use native.Mathlib.Decide.{decLe}

@@ -1,7 +1,7 @@
 -- Shapes of the sums, and ranges of strengths and samples.
-use mathlib.Core.Path.{_≡_, refl, sym, ap, _∙_}
-use mathlib.Core.List.{List, []}
-use Prim.Native.Nat.{ℕ, zero, suc, _+_, _-_, _*_, _/_, _%_, _^_, _≤_, _<_, min, max}
+use mathlib.Core.Path.{_≡_, refl, sym}
+use mathlib.Core.List.{[]}
+use Prim.Native.Nat.{ℕ, zero, suc, _+_, _-_, _*_, _%_, _^_, _≤_, _<_, max}
 use native.Mathlib.Decide.{ℕ-discrete}
 use native.Mathlib.Nat.{mul-le-mul}
 use native.Mathlib.Omega.{arith}

@@ -1,17 +1,15 @@
 -- The standard's twelve taps as the samples that the code reads: the sum, the greatest and the least.
-use mathlib.Core.Path.{_≡_, refl, sym, ap, _∙_}
+use mathlib.Core.Path.{_≡_, refl, ap, _∙_}
 use mathlib.Core.List.{List, [], _∷_, _++_}
-use Prim.Native.Nat.{ℕ, zero, suc, _+_, _-_, _*_, _/_, _%_, _^_, _≤_, _<_, min, max}
+use Prim.Native.Nat.{ℕ, _+_, _-_, _%_, _≤_, _<_, min, max}
 use native.Mathlib.Omega.{arith}
-use lib.ListN.{getD}
 use lib.IntN.{ℤ, pos, _+ℤ_, _*ℤ_}
 use Rattle.cdef_spec.specs.declared.FilterParams.{FilterParams}
-use Rattle.cdef_spec.specs.Words.{_>>_, −1, +1}
-use Rattle.cdef_spec.specs.Standard.{Tap, Cdef-Pri-Taps, Cdef-Sec-Taps}
+use Rattle.cdef_spec.specs.Standard.{Tap}
 use Rattle.cdef_spec.specs.Document01.{Plane, unmarked, available}
 use Rattle.cdef_spec.specs.CodeForm.{rowOf, colOf, sampleAt}
 use Rattle.cdef_spec.specs.PlaceLaws.{tap-forward, tap-back}
-use Rattle.cdef_spec.specs.TapLaws.{Visit, priVisit, secVisit}
+use Rattle.cdef_spec.specs.TapLaws.{Visit}
 use Rattle.cdef_spec.specs.TrialLaws.{adds, total, higher, lower, highest, lowest, priTaps, secTaps}
 use Rattle.cdef_sample.specs.Sample.{orCentre, conOf}
 use Rattle.cdef_kernel.specs.Kernel.{shiftOf}

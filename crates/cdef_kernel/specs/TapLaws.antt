@@ -1,15 +1,15 @@
 -- One tap: the code's constrained difference, with its shift held to 15 and a marked tap taken as the centre, is what the standard adds.
-use mathlib.Core.Path.{_≡_, refl, sym, ap, _∙_}
-use mathlib.Core.Bool.{Bool, true, false, cond}
-use Prim.Native.Nat.{ℕ, zero, suc, _+_, _-_, _*_, _/_, _^_, _≤_, _<_, min, max}
+use mathlib.Core.Path.{_≡_, sym, ap, _∙_}
+use mathlib.Core.Bool.{cond}
+use Prim.Native.Nat.{ℕ, zero, suc, _+_, _-_, _/_, _^_, _≤_, _<_, min, max}
 use native.Mathlib.Decide.{decLe, decLt, ℕ-discrete}
 use native.Mathlib.Nat.{lt-of-lt-of-le, div-eq-of-lt}
 use native.Mathlib.Omega.{arith}
 use borrow.Author.Tests.{lt-ltb, le-ltb, eq-eqb, ne-eqb}
-use lib.Dec.{eqb, ltb}
-use lib.IntN.{ℤ, pos, negsuc, negℤ, natAbs, subℕ, _+ℤ_, _-ℤ_, _*ℤ_, *ℤ-zero}
+use lib.Dec.{eqb}
+use lib.IntN.{ℤ, pos, negsuc, _-ℤ_, _*ℤ_, *ℤ-zero}
 use lib.Pow.{pow-mono}
-use Rattle.cdef_spec.specs.Standard.{FloorLog2, withSign, constrain, Tap, missing, sample}
+use Rattle.cdef_spec.specs.Standard.{FloorLog2, withSign, constrain, missing, sample}
 use Rattle.cdef_spec.specs.Document01.{unmarked}
 use Rattle.cdef_spec.specs.CodeForm.{constrainMag}
 use Rattle.cdef_spec.specs.ConstrainLaws.{constrain-is}

@@ -6,13 +6,16 @@ use native.Mathlib.Omega.{arith}
 use native.Mathlib.Nat.{mul-le-mul}
 use lib.ListN.{getD}
 use lib.IntN.{ℤ, pos, natAbs, _+ℤ_, _*ℤ_}
+use mir.Syntax.{w16}
+use mir.Val.{toZ, ofZ}
 use Rattle.cdef_spec.specs.SignedLaws.{size-add, size-scale}
 use Rattle.cdef_sample.specs.Sample.{conOf}
 use Rattle.cdef_sample.specs.SampleLaws.{size-con}
 use Rattle.cdef_rows.specs.Place.{tapOn, tapBack}
 use Rattle.cdef_sample.specs.Bounds.{Held, Within}
+use Rattle.cdef_sample.proofs.Joins.{add-ok, add-is, back-is}
 use Rattle.cdef_sample.specs.Upto.{upto, upto-all-of}
-use Rattle.cdef_rows.specs.Sums.{InRange, pairAt, highPair, priAt, secAt, lowAt, highAt}
+use Rattle.cdef_rows.specs.Sums.{InRange, pairAt, highPair, priAt, nearAt, farAt, secAt, lowAt, highAt}
 use Rattle.cdef_rows.specs.SumsLaws.{high-pair-le}
 use Rattle.cdef_rows.specs.declared.Taps.{Taps}
 use Rattle.cdef_rows.specs.declared.Strength.{Strength}
@@ -39,9 +42,26 @@ module _ (w : List ℕ) (k : ℕ) (t : Taps) (f : Strength) (m : InRange f) wher
   unfolding priAt
   size-pri = two (scaled (m .w0) (at (t .p0))) (scaled (m .w1) (at (t .p1))) .small
 
+  pub size-near : natAbs (nearAt w k t f) ≤ 3840
+  unfolding nearAt
+  size-near = scaled (m .w0) (two (at (t .q0)) (at (t .r0))) .small
+
+  pub size-far : natAbs (farAt w k t f) ≤ 3840
+  unfolding farAt
+  size-far = scaled (m .w1) (two (at (t .q1)) (at (t .r1))) .small
+
   pub size-sec : natAbs (secAt w k t f) ≤ 7680
   unfolding secAt
-  size-sec = two (scaled (m .w0) (two (at (t .q0)) (at (t .r0)))) (scaled (m .w1) (two (at (t .q1)) (at (t .r1)))) .small
+  size-sec = omega (arith, size-add (nearAt w k t f) (farAt w k t f), size-near, size-far)
+
+  -- the two parts, as they are handed to `add`, and what it gives
+  module _ {x y : ℤ} (ex : x ≡ nearAt w k t f) (ey : y ≡ farAt w k t f) where
+    pub sec-ok : natAbs (toZ w16 (ofZ w16 x)) + natAbs (toZ w16 (ofZ w16 y)) ≤ 32767
+    sec-ok = add-ok {m = 3840} {n = 3840} (record { is = ex; small = size-near }) (record { is = ey; small = size-far }) (omega arith)
+
+    pub sec-is : {r : ℤ} → r ≡ toZ w16 (ofZ w16 x) +ℤ toZ w16 (ofZ w16 y) → toZ w16 (ofZ w16 r) ≡ secAt w k t f
+    unfolding secAt
+    sec-is e = back-is (add-is {m = 3840} {n = 3840} (record { is = ex; small = size-near }) (record { is = ey; small = size-far }) (omega arith) e) (omega arith)
 
 module _ (w : List ℕ) (k : ℕ) (t : Taps) (h : Held w) where
   pub low-le : lowAt w k t ≤ 16384

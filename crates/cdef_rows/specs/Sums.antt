@@ -1,6 +1,6 @@
 -- The sums, the least and the greatest of one sample of the window.
 use mathlib.Core.List.{List}
-use Prim.Native.Nat.{ℕ, _+_, _*_, _≤_, min, max}
+use Prim.Native.Nat.{ℕ, _≤_, min, max}
 use lib.ListN.{getD}
 use lib.IntN.{ℤ, pos, _+ℤ_, _*ℤ_}
 use Rattle.cdef_sample.specs.Sample.{conOf, finishOf}
@@ -37,11 +37,19 @@ priAt w k t f =
     let c = getD w k 0 in
     pos (f .w0) *ℤ pairAt w k (t .p0) c (f .s) (f .sh) +ℤ pos (f .w1) *ℤ pairAt w k (t .p1) c (f .s) (f .sh)
 
-unfoldable pub secAt : List ℕ → ℕ → Taps → Strength → ℤ
-secAt w k t f =
+-- the near taps and the far ones of the two side directions
+unfoldable pub nearAt : List ℕ → ℕ → Taps → Strength → ℤ
+nearAt w k t f =
     let c = getD w k 0 in
     pos (f .w0) *ℤ (pairAt w k (t .q0) c (f .s) (f .sh) +ℤ pairAt w k (t .r0) c (f .s) (f .sh))
-    +ℤ pos (f .w1) *ℤ (pairAt w k (t .q1) c (f .s) (f .sh) +ℤ pairAt w k (t .r1) c (f .s) (f .sh))
+
+unfoldable pub farAt : List ℕ → ℕ → Taps → Strength → ℤ
+farAt w k t f =
+    let c = getD w k 0 in
+    pos (f .w1) *ℤ (pairAt w k (t .q1) c (f .s) (f .sh) +ℤ pairAt w k (t .r1) c (f .s) (f .sh))
+
+unfoldable pub secAt : List ℕ → ℕ → Taps → Strength → ℤ
+secAt w k t f = nearAt w k t f +ℤ farAt w k t f
 
 unfoldable pub lowAt : List ℕ → ℕ → Taps → ℕ
 lowAt w k t =

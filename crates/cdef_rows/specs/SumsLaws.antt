@@ -1,18 +1,14 @@
 -- Laws of the taps and the sums: what they are bounded by.
-use mathlib.Core.Path.{_≡_, refl, sym, ap, _∙_}
 use mathlib.Core.Bool.{Bool, true, false, cond}
 use mathlib.Core.List.{List}
-use Prim.Native.Nat.{ℕ, zero, suc, _+_, _-_, _*_, _≤_, _<_, min, max}
+use Prim.Native.Nat.{ℕ, _≤_}
 use native.Mathlib.Omega.{arith}
-use native.Mathlib.Nat.{mul-le-mul}
 use lib.Dec.{eqb}
 use lib.ListN.{getD}
-use lib.IntN.{ℤ, pos, natAbs, _+ℤ_, _*ℤ_}
-use Rattle.cdef_sample.specs.Sample.{orCentre, conOf}
-use Rattle.cdef_sample.specs.SampleLaws.{size-con}
-use Rattle.cdef_rows.specs.Place.{Near, onFrom, backFrom, tapOn, tapBack}
+use Rattle.cdef_sample.specs.Sample.{orCentre}
+use Rattle.cdef_rows.specs.Place.{onFrom, backFrom, tapOn, tapBack}
 use Rattle.cdef_sample.specs.Bounds.{Held}
-use Rattle.cdef_rows.specs.Sums.{pairAt, lowPair, highPair, priAt, secAt, lowAt, highAt}
+use Rattle.cdef_rows.specs.Sums.{lowPair, highPair}
 
 centre-le : (t c : ℕ) → t ≤ 16384 → c ≤ 16384 → orCentre t c ≤ 16384
 unfolding orCentre

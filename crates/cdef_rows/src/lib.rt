@@ -1,13 +1,13 @@
 // A row of eight samples of the window, each sum and the filtered row by value.
 ghost use mathlib.Core.Path.{_≡_};
-ghost use Prim.Native.Nat.{ℕ, _+_, _*_, _≤_, _<_};
-ghost use lib.IntN.{natAbs, pos, _+ℤ_};
-ghost use lib.ListN.{length, getD};
+ghost use Prim.Native.Nat.{_+_, _≤_};
+ghost use lib.IntN.{pos, _+ℤ_};
+ghost use lib.ListN.{getD};
 ghost use Rattle.cdef_sample.specs.Sample.{finishOf, freeOf};
 ghost use Rattle.cdef_sample.specs.Upto.{upto};
 ghost use Rattle.cdef_rows.specs.Place.{Near, tapOn, tapBack};
 ghost use Rattle.cdef_sample.specs.Bounds.{Held, Within};
-ghost use Rattle.cdef_rows.specs.Sums.{Near6, InRange, pairAt, lowPair, highPair, priAt, secAt, lowAt, highAt, filteredAt};
+ghost use Rattle.cdef_rows.specs.Sums.{Near6, InRange, pairAt, lowPair, highPair, priAt, nearAt, farAt, secAt, lowAt, highAt, filteredAt};
 
 // offsets of the taps in a window of pitch 12, wrapped; the opposite tap lies as far the other way
 pub struct Taps {
@@ -25,6 +25,12 @@ pub struct Strength {
     pub sh: u32,
     pub w0: u16,
     pub w1: u16,
+}
+
+// the least and the greatest of each sample of a row and its taps
+pub struct LimitRow {
+    pub lo: [u16; 8],
+    pub hi: [u16; 8],
 }
 
 pub fn tap_on(w: &[u16; 144], k: usize, o: usize, c: u16) -> u16
@@ -67,7 +73,8 @@ fn high_pair(w: &[u16; 144], k: usize, o: usize, c: u16) -> u16
     cdef_sample::most(tap_on(w, k, o, c), tap_back(w, k, o, c))
 }
 
-fn pri_at(w: &[u16; 144], k: usize, t: Taps, f: Strength) -> i16
+// The primary sum of the sample at k.
+pub fn pri_at(w: &[u16; 144], k: usize, t: Taps, f: Strength) -> i16
     requires { ⌜ (26 ≤ k) × (k ≤ 117) × Held (now w) × Near6 t × InRange f ⌝ }
     ensures { λ r. ⌜ r ≡ priAt (now (w .entry)) k t f ⌝ }
 {
@@ -77,22 +84,28 @@ fn pri_at(w: &[u16; 144], k: usize, t: Taps, f: Strength) -> i16
     cdef_sample::add(cdef_sample::scale(f.w0, a), cdef_sample::scale(f.w1, b))
 }
 
-fn sec_at(w: &[u16; 144], k: usize, t: Taps, f: Strength) -> i16
+// The secondary sum of the sample at k has two parts: the near taps, and the far ones.
+pub fn sec_near(w: &[u16; 144], k: usize, t: Taps, f: Strength) -> i16
     requires { ⌜ (26 ≤ k) × (k ≤ 117) × Held (now w) × Near6 t × InRange f ⌝ }
-    ensures { λ r. ⌜ r ≡ secAt (now (w .entry)) k t f ⌝ }
+    ensures { λ r. ⌜ r ≡ nearAt (now (w .entry)) k t f ⌝ }
 {
     let c = w[k];
-    let a = cdef_sample::add(
-        pair(w, k, t.q0, c, f.s, f.sh),
-        pair(w, k, t.r0, c, f.s, f.sh),
-    );
-    let b = cdef_sample::add(
-        pair(w, k, t.q1, c, f.s, f.sh),
-        pair(w, k, t.r1, c, f.s, f.sh),
-    );
-    cdef_sample::add(cdef_sample::scale(f.w0, a), cdef_sample::scale(f.w1, b))
+    let q = pair(w, k, t.q0, c, f.s, f.sh);
+    let r = pair(w, k, t.r0, c, f.s, f.sh);
+    cdef_sample::scale(f.w0, cdef_sample::add(q, r))
 }
 
+pub fn sec_far(w: &[u16; 144], k: usize, t: Taps, f: Strength) -> i16
+    requires { ⌜ (26 ≤ k) × (k ≤ 117) × Held (now w) × Near6 t × InRange f ⌝ }
+    ensures { λ r. ⌜ r ≡ farAt (now (w .entry)) k t f ⌝ }
+{
+    let c = w[k];
+    let q = pair(w, k, t.q1, c, f.s, f.sh);
+    let r = pair(w, k, t.r1, c, f.s, f.sh);
+    cdef_sample::scale(f.w1, cdef_sample::add(q, r))
+}
+
+// The least of the sample at k and its taps.
 fn low_at(w: &[u16; 144], k: usize, t: Taps) -> u16
     requires { ⌜ (26 ≤ k) × (k ≤ 117) × Held (now w) × Near6 t ⌝ }
     ensures { λ r. ⌜ r ≡ lowAt (now (w .entry)) k t ⌝ }
@@ -104,6 +117,7 @@ fn low_at(w: &[u16; 144], k: usize, t: Taps) -> u16
     cdef_sample::least(cdef_sample::least(p, q), cdef_sample::least(r, c))
 }
 
+// The greatest of them.
 fn high_at(w: &[u16; 144], k: usize, t: Taps) -> u16
     requires { ⌜ (26 ≤ k) × (k ≤ 117) × Held (now w) × Near6 t ⌝ }
     ensures { λ r. ⌜ r ≡ highAt (now (w .entry)) k t ⌝ }
@@ -132,31 +146,23 @@ pub fn sec_row(w: &[u16; 144], row: usize, t: Taps, f: Strength) -> [i16; 8]
 {
     let mut out = [0i16; 8];
     for j in 0..8usize {
-        out[j] = sec_at(w, row + j, t, f);
+        let k = row + j;
+        out[j] = cdef_sample::add(sec_near(w, k, t, f), sec_far(w, k, t, f));
     }
     out
 }
 
-pub fn low_row(w: &[u16; 144], row: usize, t: Taps) -> [u16; 8]
+pub fn limit_row(w: &[u16; 144], row: usize, t: Taps) -> LimitRow
     requires { ⌜ (26 ≤ row) × (row ≤ 110) × Held (now w) × Near6 t ⌝ }
-    ensures { λ r. ⌜ r ≡ upto (λ j. lowAt (now (w .entry)) (row + j) t) 8 ⌝ }
+    ensures { λ r. ⌜ (r .lo ≡ upto (λ j. lowAt (now (w .entry)) (row + j) t) 8) × (r .hi ≡ upto (λ j. highAt (now (w .entry)) (row + j) t) 8) ⌝ }
 {
-    let mut out = [0u16; 8];
+    let mut lo = [0u16; 8];
+    let mut hi = [0u16; 8];
     for j in 0..8usize {
-        out[j] = low_at(w, row + j, t);
+        lo[j] = low_at(w, row + j, t);
+        hi[j] = high_at(w, row + j, t);
     }
-    out
-}
-
-pub fn high_row(w: &[u16; 144], row: usize, t: Taps) -> [u16; 8]
-    requires { ⌜ (26 ≤ row) × (row ≤ 110) × Held (now w) × Near6 t ⌝ }
-    ensures { λ r. ⌜ r ≡ upto (λ j. highAt (now (w .entry)) (row + j) t) 8 ⌝ }
-{
-    let mut out = [0u16; 8];
-    for j in 0..8usize {
-        out[j] = high_at(w, row + j, t);
-    }
-    out
+    LimitRow { lo: lo, hi: hi }
 }
 
 pub fn done_row(
@@ -185,8 +191,9 @@ pub fn filtered_row(w: &[u16; 144], row: usize, t: Taps, f: Strength, g: Strengt
 {
     let p = pri_row(w, row, t, f);
     let s = sec_row(w, row, t, g);
-    let lo = low_row(w, row, t);
-    let hi = high_row(w, row, t);
+    let e = limit_row(w, row, t);
+    let lo = e.lo;
+    let hi = e.hi;
     done_row(w, row, p, s, lo, hi)
 }
 

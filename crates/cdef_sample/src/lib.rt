@@ -5,6 +5,13 @@ ghost use lib.IntN.{natAbs, pos, _+ℤ_, _*ℤ_};
 ghost use lib.ListN.{length, getD};
 ghost use Rattle.cdef_sample.specs.Sample.{orCentre, sizeOf, conOf, movedOf, overOf, underOf, finishOf, freeOf};
 
+// The lesser of two sides or places.
+pub fn lesser(a: usize, b: usize) -> usize
+    ensures { λ r. ⌜ r ≡ min a b ⌝ }
+{
+    if a < b { a } else { b }
+}
+
 // The lesser and the greater of two samples.
 pub fn least(a: u16, b: u16) -> u16
     requires { ⌜ (a ≤ 32767) × (b ≤ 32767) ⌝ }

@@ -14,8 +14,8 @@ use Rattle.cdef_rows.specs.declared.Taps.{Taps}
 use Rattle.cdef_rows.specs.declared.Strength.{Strength}
 use Rattle.cdef_rows.specs.Sums.{InRange, priAt, secAt, lowAt, highAt}
 use Rattle.cdef_rows.proofs.Bounds.{size-pri, size-sec, low-le, high-le}
-use Rattle.cdef_trial.specs.Trial.{placeOf, HeldTo, WithinTo, fourPut}
-use Rattle.cdef_trial.specs.declared.Twelve.{Twelve}
+use Rattle.cdef_trial.specs.Trial.{placeOf, HeldTo, WithinTo, PriKnown, PriWithin, firstLaid, fourLaid}
+use Rattle.cdef_trial.specs.declared.PriSums.{PriSums}
 use Rattle.cdef_trial.specs.PutLaws.{held-to, within-to}
 
 -- a store keeps the length
@@ -42,5 +42,15 @@ module _ (win : List ℕ) (n : ℕ) (t : Taps) (f : Strength) (r : InRange f) wh
   pub sec-within : (l : List ℤ) → take n l ≡ upto (λ (k : ℕ). secAt win (placeOf k) t f) n → WithinTo l 7680 n
   sec-within l e = within-to l (λ (k : ℕ). secAt win (placeOf k) t f) n 7680 e (λ k. size-sec win (placeOf k) t f r)
 
-pub long-four : (d e win : List ℕ) (u : Twelve) (g : Strength) (t w n : ℕ) → e ≡ fourPut d win u g t w n → length d ≡ 768 → length e ≡ 768
-long-four d e win u g t w n q l = rw q (long-after _ _ _ _ _ refl (long-after _ _ _ _ _ refl (long-after _ _ _ _ _ refl (long-after _ _ _ _ _ refl l))))
+pub pri-bounds : (win : List ℕ) (t : Taps) (f g h : Strength) (n : ℕ) (p : PriSums) → InRange f → InRange g → InRange h → PriKnown win t f g h n p → PriWithin p (n * 8)
+pri-bounds win t f g h n p rf rg rh k = record {
+  p1 = pri-within win (n * 8) t f rf (p .p1) (k .p1-is);
+  p2 = pri-within win (n * 8) t g rg (p .p2) (k .p2-is);
+  p3 = pri-within win (n * 8) t h rh (p .p3) (k .p3-is);
+}
+
+pub long-first : (d e c : List ℕ) (p : PriSums) (w n : ℕ) → e ≡ firstLaid d c p w n → length d ≡ 768 → length e ≡ 768
+long-first d e c p w n q h = rw q (long-after _ _ _ _ _ refl (long-after _ _ _ _ _ refl (long-after _ _ _ _ _ refl (long-after _ _ _ _ _ refl h))))
+
+pub long-four : (d e c : List ℕ) (z s : List ℤ) (p : PriSums) (lo hi : List ℕ) (t w n : ℕ) → e ≡ fourLaid d c z s p lo hi t w n → length d ≡ 768 → length e ≡ 768
+long-four d e c z s p lo hi t w n q h = rw q (long-after _ _ _ _ _ refl (long-after _ _ _ _ _ refl (long-after _ _ _ _ _ refl (long-after _ _ _ _ _ refl h))))

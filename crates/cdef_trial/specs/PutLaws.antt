@@ -4,7 +4,7 @@ use mathlib.Core.List.{List}
 use Prim.Native.Nat.{ℕ, zero, suc, _+_, _*_, _/_, _%_, _≤_, _<_}
 use native.Mathlib.Nat.{mul-le-mul, mul-comm}
 use native.Mathlib.Omega.{arith}
-use lib.Arith.{digits-lt, digits-div, digits-mod}
+use lib.Arith.{digits-div, digits-mod}
 use lib.ListN.{getD, set, take}
 use lib.Seq.{getD-take}
 use lib.IntN.{ℤ, pos, natAbs, _+ℤ_}

@@ -14,6 +14,9 @@ use Rattle.cdef_rows.specs.declared.Taps.{Taps}
 use Rattle.cdef_rows.specs.declared.Strength.{Strength}
 use Rattle.cdef_rows.specs.Sums.{Near6, InRange, priAt, secAt, lowAt, highAt, filteredAt}
 use Rattle.cdef_trial.specs.declared.Twelve.{Twelve}
+use Rattle.cdef_trial.specs.declared.PriSums.{PriSums}
+use Rattle.cdef_trial.specs.declared.SecSums.{SecSums}
+use Rattle.cdef_trial.specs.declared.Limits.{Limits}
 
 -- place k of a block in rows of eight, in the window
 unfoldable pub placeOf : ℕ → ℕ
@@ -83,14 +86,44 @@ pub record Ready (u : Twelve) : Type 0 where
   pub s1 : InRange (u .s1)
   pub s2 : InRange (u .s2)
 
--- the sums that several of the twelve share, of h rows
-pub record Known (win : List ℕ) (u : Twelve) (h : ℕ) (c lo hi : List ℕ) (p1 p2 p3 : List ℤ) : Type 0 where
-  pub c-is : take (h * 8) c ≡ upto (λ (k : ℕ). getD win (placeOf k) 0) (h * 8)
-  pub lo-is : take (h * 8) lo ≡ upto (λ (k : ℕ). lowAt win (placeOf k) (u .own)) (h * 8)
-  pub hi-is : take (h * 8) hi ≡ upto (λ (k : ℕ). highAt win (placeOf k) (u .own)) (h * 8)
-  pub p1-is : take (h * 8) p1 ≡ upto (λ (k : ℕ). priAt win (placeOf k) (u .own) (u .p1)) (h * 8)
-  pub p2-is : take (h * 8) p2 ≡ upto (λ (k : ℕ). priAt win (placeOf k) (u .own) (u .p2)) (h * 8)
-  pub p3-is : take (h * 8) p3 ≡ upto (λ (k : ℕ). priAt win (placeOf k) (u .own) (u .p3)) (h * 8)
+-- the sums that several of the twelve share, of h rows: of three primary strengths, of two secondary ones; the limits
+pub record PriKnown (win : List ℕ) (t : Taps) (f1 f2 f3 : Strength) (h : ℕ) (p : PriSums) : Type 0 where
+  pub p1-is : take (h * 8) (p .p1) ≡ upto (λ (k : ℕ). priAt win (placeOf k) t f1) (h * 8)
+  pub p2-is : take (h * 8) (p .p2) ≡ upto (λ (k : ℕ). priAt win (placeOf k) t f2) (h * 8)
+  pub p3-is : take (h * 8) (p .p3) ≡ upto (λ (k : ℕ). priAt win (placeOf k) t f3) (h * 8)
+
+pub record SecKnown (win : List ℕ) (t : Taps) (g1 g2 : Strength) (h : ℕ) (s : SecSums) : Type 0 where
+  pub s1-is : take (h * 8) (s .s1) ≡ upto (λ (k : ℕ). secAt win (placeOf k) t g1) (h * 8)
+  pub s2-is : take (h * 8) (s .s2) ≡ upto (λ (k : ℕ). secAt win (placeOf k) t g2) (h * 8)
+
+pub record LimitsKnown (win : List ℕ) (t : Taps) (h : ℕ) (e : Limits) : Type 0 where
+  pub lo-is : take (h * 8) (e .lo) ≡ upto (λ (k : ℕ). lowAt win (placeOf k) t) (h * 8)
+  pub hi-is : take (h * 8) (e .hi) ≡ upto (λ (k : ℕ). highAt win (placeOf k) t) (h * 8)
+
+-- all of them
+pub record Known (win : List ℕ) (u : Twelve) (h : ℕ) (c : List ℕ) (p : PriSums) (e : Limits) (z s : SecSums) : Type 0 where
+  pub centre : take (h * 8) c ≡ upto (λ (k : ℕ). getD win (placeOf k) 0) (h * 8)
+  pub pri : PriKnown win (u .own) (u .p1) (u .p2) (u .p3) h p
+  pub limits : LimitsKnown win (u .own) h e
+  pub zero : SecKnown win (u .zero) (u .s1) (u .s2) h z
+  pub own : SecKnown win (u .own) (u .s1) (u .s2) h s
+
+-- their first n entries are bounded
+pub record PriWithin (p : PriSums) (n : ℕ) : Type 0 where
+  pub p1 : WithinTo (p .p1) 3840 n
+  pub p2 : WithinTo (p .p2) 3840 n
+  pub p3 : WithinTo (p .p3) 3840 n
+
+-- the trials 0 to 3, n places each: as they stand, then by each of the three sums alone
+abbrev pub firstLaid : List ℕ → List ℕ → PriSums → ℕ → ℕ → List ℕ
+firstLaid d c p w n = putRow (putRow (putRow (putRow d 64 (laidTap c w) 0 0 n) 64 (freeTap c (p .p1) w) 1 0 n) 64 (freeTap c (p .p2) w) 2 0 n) 64 (freeTap c (p .p3) w) 3 0 n
+
+-- four trials, from trial t on, n places each: by a sum z alone, then by s with each of the three
+abbrev pub fourLaid : List ℕ → List ℕ → List ℤ → List ℤ → PriSums → List ℕ → List ℕ → ℕ → ℕ → ℕ → List ℕ
+fourLaid d c z s p lo hi t w n =
+    putRow (putRow (putRow (putRow d 64 (freeTap c z w) t 0 n) 64 (bothTap c (p .p1) s lo hi w) (t + 1) 0 n)
+    64 (bothTap c (p .p2) s lo hi w) (t + 2) 0 n)
+    64 (bothTap c (p .p3) s lo hi w) (t + 3) 0 n
 
 -- the four trials of a secondary strength g, from trial t on, n places each
 abbrev pub fourPut : List ℕ → List ℕ → Twelve → Strength → ℕ → ℕ → ℕ → List ℕ

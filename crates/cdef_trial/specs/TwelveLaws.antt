@@ -1,13 +1,18 @@
 -- All twelve trials, from what each store leaves.
-use mathlib.Core.Path.{_≡_, refl, sym, ap, _∙_}
+use mathlib.Core.Path.{_≡_, refl, _∙_}
 use mathlib.Core.List.{List}
-use Prim.Native.Nat.{ℕ, _+_, _*_, _≤_, _<_}
-use lib.IntN.{ℤ}
+use Prim.Native.Nat.{ℕ, _+_, _*_, _≤_}
+use lib.ListN.{getD, take}
 use Rattle.cdef_spec.specs.Standard.{Tap}
 use Rattle.cdef_spec.specs.LoopForm.{putRow, putBlock}
 use Rattle.cdef_spec.specs.PlaneLaws.{row-same}
+use Rattle.cdef_sample.specs.Upto.{upto}
 use Rattle.cdef_trial.specs.declared.Twelve.{Twelve}
-use Rattle.cdef_trial.specs.Trial.{laidTap, freeTap, centreTap, priTap, secTap, fullTap, priBy, secBy, trialTap, fourPut, Known}
+use Rattle.cdef_trial.specs.declared.PriSums.{PriSums}
+use Rattle.cdef_trial.specs.declared.Limits.{Limits}
+use Rattle.cdef_trial.specs.declared.SecSums.{SecSums}
+use Rattle.cdef_trial.specs.Trial.{placeOf, freeTap, centreTap, priTap, secTap, fullTap, priBy, secBy, trialTap, firstLaid, fourLaid, fourPut, PriKnown, Known}
+use Rattle.cdef_trial.specs.FourLaws.{four-is}
 use Rattle.cdef_trial.specs.PutLaws.{centre-from, pri-from}
 
 module _ (win : List ℕ) (u : Twelve) (w n : ℕ) where
@@ -31,15 +36,30 @@ module _ (win : List ℕ) (u : Twelve) (w n : ℕ) where
   unfolding putBlock
   block-12 d = refl
 
-pub twelve-is : (d win : List ℕ) (u : Twelve) (w h : ℕ) → w ≤ 8 → (c lo hi : List ℕ) (p1 p2 p3 : List ℤ) → Known win u h c lo hi p1 p2 p3
-    → (d1 d2 d3 d4 d5 d6 : List ℕ) → d1 ≡ putRow d 64 (laidTap c w) 0 0 (h * w) → d2 ≡ putRow d1 64 (freeTap c p1 w) 1 0 (h * w) → d3 ≡ putRow d2 64 (freeTap c p2 w) 2 0 (h * w) → d4 ≡ putRow d3 64 (freeTap c p3 w) 3 0 (h * w)
-    → d5 ≡ fourPut d4 win u (u .s1) 4 w (h * w) → d6 ≡ fourPut d5 win u (u .s2) 8 w (h * w) → d6 ≡ putBlock d 64 (trialTap win u w) 0 0 (h * w) 12
-unfolding trialTap priBy secBy
-twelve-is d win u w h hw c lo hi p1 p2 p3 k d1 d2 d3 d4 d5 d6 e1 e2 e3 e4 e5 e6 =
-    let f1 = e1 ∙ centre-from d 0 w h hw win c (k .c-is) ∙ same win u w (h * w) d (centreTap win w) 0 (λ c. refl) in
-    let f2 = e2 ∙ pri-from d1 1 w h hw win c (k .c-is) (u .own) (u .p1) p1 (k .p1-is) ∙ same win u w (h * w) d1 (priTap win (u .own) (u .p1) w) 1 (λ c. refl) in
-    let f3 = e3 ∙ pri-from d2 2 w h hw win c (k .c-is) (u .own) (u .p2) p2 (k .p2-is) ∙ same win u w (h * w) d2 (priTap win (u .own) (u .p2) w) 2 (λ c. refl) in
-    let f4 = e4 ∙ pri-from d3 3 w h hw win c (k .c-is) (u .own) (u .p3) p3 (k .p3-is) ∙ same win u w (h * w) d3 (priTap win (u .own) (u .p3) w) 3 (λ c. refl) in
-    let f5 = e5 ∙ from-4 win u w (h * w) d4 in
-    let f6 = e6 ∙ from-8 win u w (h * w) d5 in
-    f6 ∙ rw (f5, f4, f3, f2, f1) (block-12 win u w (h * w) d)
+module _ (win : List ℕ) (u : Twelve) (w h : ℕ) (hw : w ≤ 8) (c : List ℕ) (p : PriSums) (ce : take (h * 8) c ≡ upto (λ (k : ℕ). getD win (placeOf k) 0) (h * 8)) (k : PriKnown win (u .own) (u .p1) (u .p2) (u .p3) h p) where
+  first-1 : (d : List ℕ) → putRow d 64 (freeTap c (p .p1) w) 1 0 (h * w) ≡ putRow d 64 (trialTap win u w) 1 0 (h * w)
+  unfolding trialTap priBy
+  first-1 d = pri-from d 1 w h hw win c ce (u .own) (u .p1) (p .p1) (k .p1-is) ∙ same win u w (h * w) d (priTap win (u .own) (u .p1) w) 1 (λ c. refl)
+
+  first-2 : (d : List ℕ) → putRow d 64 (freeTap c (p .p2) w) 2 0 (h * w) ≡ putRow d 64 (trialTap win u w) 2 0 (h * w)
+  unfolding trialTap priBy
+  first-2 d = pri-from d 2 w h hw win c ce (u .own) (u .p2) (p .p2) (k .p2-is) ∙ same win u w (h * w) d (priTap win (u .own) (u .p2) w) 2 (λ c. refl)
+
+  first-3 : (d : List ℕ) → putRow d 64 (freeTap c (p .p3) w) 3 0 (h * w) ≡ putRow d 64 (trialTap win u w) 3 0 (h * w)
+  unfolding trialTap priBy
+  first-3 d = pri-from d 3 w h hw win c ce (u .own) (u .p3) (p .p3) (k .p3-is) ∙ same win u w (h * w) d (priTap win (u .own) (u .p3) w) 3 (λ c. refl)
+
+  first-is : (d : List ℕ) → firstLaid d c p w (h * w) ≡ next4 win u w (h * w) d 0
+  unfolding trialTap
+  first-is d =
+      rw (centre-from d 0 w h hw win c ce ∙ same win u w (h * w) d (centreTap win w) 0 (λ c. refl))
+      (rw (first-1 _) (rw (first-2 _) (first-3 _)))
+
+pub twelve-is : (d win : List ℕ) (u : Twelve) (w h : ℕ) → w ≤ 8 → (c : List ℕ) (p : PriSums) (e : Limits) (z s : SecSums) → Known win u h c p e z s
+    → (d4 d8 d12 : List ℕ) → d4 ≡ firstLaid d c p w (h * w) → d8 ≡ fourLaid d4 c (z .s1) (s .s1) p (e .lo) (e .hi) 4 w (h * w) → d12 ≡ fourLaid d8 c (z .s2) (s .s2) p (e .lo) (e .hi) 8 w (h * w)
+    → d12 ≡ putBlock d 64 (trialTap win u w) 0 0 (h * w) 12
+twelve-is d win u w h hw c p e z s k d4 d8 d12 e4 e8 e12 =
+    let f4 = e4 ∙ first-is win u w h hw c p (k .centre) (k .pri) d in
+    let f8 = e8 ∙ four-is d4 win u (u .s1) 4 w h hw c p e (z .s1) (s .s1) (k .centre) (k .pri) (k .limits) (k .zero .s1-is) (k .own .s1-is) ∙ from-4 win u w (h * w) d4 in
+    let f12 = e12 ∙ four-is d8 win u (u .s2) 8 w h hw c p e (z .s2) (s .s2) (k .centre) (k .pri) (k .limits) (k .zero .s2-is) (k .own .s2-is) ∙ from-8 win u w (h * w) d8 in
+    f12 ∙ rw (f8, f4) (block-12 win u w (h * w) d)

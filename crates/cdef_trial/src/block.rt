@@ -1,6 +1,6 @@
 // The trial of a block of a plane.
 ghost use mathlib.Core.Path.{_≡_};
-ghost use Prim.Native.Nat.{ℕ, _*_, _≤_, _<_};
+ghost use Prim.Native.Nat.{_*_, _≤_, _<_};
 ghost use lib.ListN.{length};
 ghost use Rattle.cdef_spec.specs.Words.{table};
 ghost use Rattle.cdef_spec.specs.BlockCalls.{trialPlace};

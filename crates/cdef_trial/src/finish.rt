@@ -1,6 +1,6 @@
 // Filtered samples from sums, n of the 64 places of a block.
 ghost use mathlib.Core.Path.{_≡_};
-ghost use Prim.Native.Nat.{ℕ, _≤_};
+ghost use Prim.Native.Nat.{_≤_};
 ghost use lib.IntN.{pos, _+ℤ_};
 ghost use lib.ListN.{getD, take};
 ghost use Rattle.cdef_sample.specs.Sample.{finishOf, freeOf};

@@ -1,6 +1,6 @@
 // A trial block stored: its own width is its row pitch.
 ghost use mathlib.Core.Path.{_≡_};
-ghost use Prim.Native.Nat.{ℕ, _+_, _*_, _≤_, _<_};
+ghost use Prim.Native.Nat.{_+_, _*_, _≤_, _<_};
 ghost use lib.ListN.{length};
 ghost use Rattle.cdef_spec.specs.LoopForm.{putRow};
 ghost use Rattle.cdef_trial.specs.Trial.{HeldTo, WithinTo, laidTap, freeTap, bothTap};

@@ -1,6 +1,6 @@
 // What the twelve trials are filtered with.
 ghost use mathlib.Core.Path.{_≡_};
-ghost use Prim.Native.Nat.{ℕ, _≤_, _<_};
+ghost use Prim.Native.Nat.{_≤_, _<_};
 ghost use Rattle.cdef_trial.specs.Strengths.{adjustedBy, twelveOf};
 use crate::Twelve;
 use cdef_spec::TrialWay;

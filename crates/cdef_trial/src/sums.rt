@@ -1,11 +1,14 @@
-// Sums, least and largest taps of the first rows of a block, eight places a row.
+// Sums, least and largest taps of the first rows of a block, eight places a row. Sums of the same taps are made in one loop.
 ghost use mathlib.Core.Path.{_≡_};
-ghost use Prim.Native.Nat.{ℕ, _*_, _≤_};
+ghost use Prim.Native.Nat.{_*_, _≤_};
 ghost use lib.ListN.{getD, take};
 ghost use Rattle.cdef_sample.specs.Bounds.{Held};
 ghost use Rattle.cdef_sample.specs.Upto.{upto};
-ghost use Rattle.cdef_rows.specs.Sums.{Near6, InRange, priAt, secAt, lowAt, highAt};
-ghost use Rattle.cdef_trial.specs.Trial.{placeOf};
+ghost use Rattle.cdef_rows.specs.Sums.{Near6, InRange};
+ghost use Rattle.cdef_trial.specs.Trial.{placeOf, PriKnown, SecKnown, LimitsKnown};
+use crate::Limits;
+use crate::PriSums;
+use crate::SecSums;
 use cdef_rows::Strength;
 use cdef_rows::Taps;
 
@@ -24,62 +27,72 @@ pub fn centre_block(w: &[u16; 144], rows: usize) -> [u16; 64]
     out
 }
 
-pub fn pri_block(w: &[u16; 144], rows: usize, t: Taps, f: Strength) -> [i16; 64]
-    requires { ⌜ (rows ≤ 8) × Held (now w) × Near6 t × InRange f ⌝ }
-    ensures { λ r. ⌜ take (rows * 8) r ≡ upto (λ k. priAt (now (w .entry)) (placeOf k) t f) (rows * 8) ⌝ }
+pub fn pri_blocks(
+    w: &[u16; 144],
+    rows: usize,
+    t: Taps,
+    f: Strength,
+    g: Strength,
+    h: Strength,
+) -> PriSums
+    requires { ⌜ (rows ≤ 8) × Held (now w) × Near6 t × InRange f × InRange g × InRange h ⌝ }
+    ensures { λ r. ⌜ PriKnown (now (w .entry)) t f g h rows r ⌝ }
 {
-    let mut out = [0i16; 64];
+    let mut p1 = [0i16; 64];
+    let mut p2 = [0i16; 64];
+    let mut p3 = [0i16; 64];
     for i in 0..rows {
-        let row = cdef_rows::pri_row(w, (i + 2) * 12 + 2, t, f);
+        let from = (i + 2) * 12 + 2;
         let to = i * 8;
         for j in 0..8usize {
-            out[to + j] = row[j];
+            p1[to + j] = cdef_rows::pri_at(w, from + j, t, f);
+            p2[to + j] = cdef_rows::pri_at(w, from + j, t, g);
+            p3[to + j] = cdef_rows::pri_at(w, from + j, t, h);
         }
     }
-    out
+    PriSums {
+        p1: p1,
+        p2: p2,
+        p3: p3,
+    }
 }
 
-pub fn sec_block(w: &[u16; 144], rows: usize, t: Taps, f: Strength) -> [i16; 64]
-    requires { ⌜ (rows ≤ 8) × Held (now w) × Near6 t × InRange f ⌝ }
-    ensures { λ r. ⌜ take (rows * 8) r ≡ upto (λ k. secAt (now (w .entry)) (placeOf k) t f) (rows * 8) ⌝ }
+pub fn sec_blocks(w: &[u16; 144], rows: usize, t: Taps, f: Strength, g: Strength) -> SecSums
+    requires { ⌜ (rows ≤ 8) × Held (now w) × Near6 t × InRange f × InRange g ⌝ }
+    ensures { λ r. ⌜ SecKnown (now (w .entry)) t f g rows r ⌝ }
 {
-    let mut out = [0i16; 64];
+    let mut s1 = [0i16; 64];
+    let mut s2 = [0i16; 64];
     for i in 0..rows {
-        let row = cdef_rows::sec_row(w, (i + 2) * 12 + 2, t, f);
+        let from = (i + 2) * 12 + 2;
         let to = i * 8;
         for j in 0..8usize {
-            out[to + j] = row[j];
+            s1[to + j] = cdef_sample::add(
+                cdef_rows::sec_near(w, from + j, t, f),
+                cdef_rows::sec_far(w, from + j, t, f),
+            );
+            s2[to + j] = cdef_sample::add(
+                cdef_rows::sec_near(w, from + j, t, g),
+                cdef_rows::sec_far(w, from + j, t, g),
+            );
         }
     }
-    out
+    SecSums { s1: s1, s2: s2 }
 }
 
-pub fn low_block(w: &[u16; 144], rows: usize, t: Taps) -> [u16; 64]
+pub fn limit_blocks(w: &[u16; 144], rows: usize, t: Taps) -> Limits
     requires { ⌜ (rows ≤ 8) × Held (now w) × Near6 t ⌝ }
-    ensures { λ r. ⌜ take (rows * 8) r ≡ upto (λ k. lowAt (now (w .entry)) (placeOf k) t) (rows * 8) ⌝ }
+    ensures { λ r. ⌜ LimitsKnown (now (w .entry)) t rows r ⌝ }
 {
-    let mut out = [0u16; 64];
+    let mut lo = [0u16; 64];
+    let mut hi = [0u16; 64];
     for i in 0..rows {
-        let row = cdef_rows::low_row(w, (i + 2) * 12 + 2, t);
+        let row = cdef_rows::limit_row(w, (i + 2) * 12 + 2, t);
         let to = i * 8;
         for j in 0..8usize {
-            out[to + j] = row[j];
+            lo[to + j] = row.lo[j];
+            hi[to + j] = row.hi[j];
         }
     }
-    out
-}
-
-pub fn high_block(w: &[u16; 144], rows: usize, t: Taps) -> [u16; 64]
-    requires { ⌜ (rows ≤ 8) × Held (now w) × Near6 t ⌝ }
-    ensures { λ r. ⌜ take (rows * 8) r ≡ upto (λ k. highAt (now (w .entry)) (placeOf k) t) (rows * 8) ⌝ }
-{
-    let mut out = [0u16; 64];
-    for i in 0..rows {
-        let row = cdef_rows::high_row(w, (i + 2) * 12 + 2, t);
-        let to = i * 8;
-        for j in 0..8usize {
-            out[to + j] = row[j];
-        }
-    }
-    out
+    Limits { lo: lo, hi: hi }
 }

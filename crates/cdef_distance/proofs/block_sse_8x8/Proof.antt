@@ -21,7 +21,7 @@ other-in s = let a = s .args in let p = s .pre .1 in lower _ _ _ _ _ (p .1 .0) (
 
 -- no side is cut
 whole : (c : tie.Else1) → let a = c .before .before .before .before .before .args in (a .x + 8 ≤ a .width) × (a .y + 8 ≤ a .height)
-whole c = (omega (arith, c .before .before .least .ensures, c .before .least2 .ensures), omega (arith, c .before .before .least .ensures, c .before .least2 .ensures))
+whole c = (omega (arith, c .before .before .lesser .ensures, c .before .lesser2 .ensures), omega (arith, c .before .before .lesser .ensures, c .before .lesser2 .ensures))
 
 orig-whole : (c : tie.Else1) → let a = c .before .before .before .before .before .args in Within (a .orig .now) (a .y * a .width + a .x) (a .width) 8 8 4096
 orig-whole c = whole-within _ _ (c .before .before .before .before .before .args .height) _ _ _ (whole c .0) (whole c .1) (orig-in (c .before .before .before .before .before))
@@ -29,17 +29,17 @@ orig-whole c = whole-within _ _ (c .before .before .before .before .before .args
 other-whole : (c : tie.Else1) → let a = c .before .before .before .before .before .args in Within (a .other .now) (a .y * a .width + a .x) (a .width) 8 8 4096
 other-whole c = whole-within _ _ (c .before .before .before .before .before .args .height) _ _ _ (whole c .0) (whole c .1) (other-in (c .before .before .before .before .before))
 
-sub-least : tie.Need-sub-least
-sub-least c = search needs
+sub-lesser : tie.Need-sub-lesser
+sub-lesser c = search needs
 
-least-requires : tie.Need-least-requires
-least-requires c κs = search needs
+lesser-requires : tie.Need-lesser-requires
+lesser-requires c κs = search needs
 
-sub-least-2 : tie.Need-sub-least-2
-sub-least-2 c = search needs
+sub-lesser-2 : tie.Need-sub-lesser-2
+sub-lesser-2 c = search needs
 
-least-requires-2 : tie.Need-least-requires-2
-least-requires-2 c κs = search needs
+lesser-requires-2 : tie.Need-lesser-requires-2
+lesser-requires-2 c κs = search needs
 
 mul-at : tie.Need-mul-at
 mul-at c = omega (arith, corner (c .before .before .before .before))
@@ -51,13 +51,13 @@ add-if1 : tie.Need-add-if1
 add-if1 c = search needs
 
 squares-requires : tie.Need-squares-requires
-squares-requires c κs = rw (c .before .before .least .ensures, c .before .least2 .ensures) (omega arith, omega arith, orig-in (c .before .before .before .before .before), other-in (c .before .before .before .before .before))
+squares-requires c κs = rw (c .before .before .lesser .ensures, c .before .lesser2 .ensures) (omega arith, omega arith, orig-in (c .before .before .before .before .before), other-in (c .before .before .before .before .before))
 
 cast-result : tie.Need-cast-result
 cast-result c = search needs
 
 returns : tie.Need-returns
-returns c = squares-is _ _ _ _ _ _ _ (c .squares .ensures ∙ rw (c .before .before .before .least .ensures, c .before .before .least2 .ensures))
+returns c = squares-is _ _ _ _ _ _ _ (c .squares .ensures ∙ rw (c .before .before .before .lesser .ensures, c .before .before .lesser2 .ensures))
 
 block-of-requires : tie.Need-block-of-requires
 block-of-requires c κs = orig-whole c .held
@@ -78,10 +78,10 @@ pub block-sse-8x8-spec : {M : Type 1} → statement M
 block-sse-8x8-spec =
     tie.close
     (tie.spec
-    sub-least
-    least-requires
-    sub-least-2
-    least-requires-2
+    sub-lesser
+    lesser-requires
+    sub-lesser-2
+    lesser-requires-2
     mul-at
     add-at
     add-if1

@@ -1,8 +1,9 @@
 -- `cdef_rows::filtered_row` meets its contract.
-use mathlib.Core.Path.{_≡_, refl, sym, ap, _∙_}
-use mathlib.Core.List.{List}
-use Prim.Native.Nat.{ℕ, _+_, _≤_, _<_}
+use mathlib.Core.Path.{_≡_, _∙_}
+use Prim.Native.Nat.{ℕ, _+_}
 use native.Mathlib.Omega.{arith}
+use borrow.Author.Needs.{needs}
+use mathlib.Core.List.{List}
 use lib.ListN.{getD}
 use lib.IntN.{ℤ, pos, _+ℤ_}
 use Rattle.cdef_sample.specs.Sample.{finishOf}
@@ -17,8 +18,7 @@ use Rattle.cdef_rows.proofs.filtered_row.Tie as tie
 use Rattle.cdef_rows.proofs.filtered_row.Reads as reads
 use Rattle.cdef_rows.proofs.filtered_row.Lts as lts
 use Rattle.cdef_rows.proofs.done_row.Reads as done-row-reads
-use Rattle.cdef_rows.proofs.high_row.Reads as high-row-reads
-use Rattle.cdef_rows.proofs.low_row.Reads as low-row-reads
+use Rattle.cdef_rows.proofs.limit_row.Reads as limit-row-reads
 use Rattle.cdef_rows.proofs.pri_row.Reads as pri-row-reads
 use Rattle.cdef_rows.proofs.sec_row.Reads as sec-row-reads
 
@@ -33,27 +33,18 @@ pri-row-requires c κs = search needs
 sec-row-requires : tie.Need-sec-row-requires
 sec-row-requires c κs = search needs
 
-low-row-requires : tie.Need-low-row-requires
-low-row-requires c κs = search needs
-
-high-row-requires : tie.Need-high-row-requires
-high-row-requires c κs = search needs
+limit-row-requires : tie.Need-limit-row-requires
+limit-row-requires c κs = search needs
 
 done-row-requires : tie.Need-done-row-requires
-done-row-requires c κs = let s = c .before .before .before .before in
+done-row-requires c κs = let s = c .before .before .before .before .before in
     let a = s .args in
-    (s .pre .0, s .pre .1, s .pre .2, rw (c .before .before .before .pri-row .ensures) (pri-within (a .w .now) (a .row) (a .t) (a .f) (s .pre .4)), rw (c .before .before .sec-row .ensures) (sec-within (a .w .now) (a .row) (a .t) (a .g) (s .pre .5)), rw (c .before .low-row .ensures) (low-held (a .w .now) (a .row) (a .t) (s .pre .2)), rw (c .high-row .ensures) (high-held (a .w .now) (a .row) (a .t) (s .pre .2)))
+    (s .pre .0, s .pre .1, s .pre .2, rw (c .before .before .before .before .pri-row .ensures) (pri-within (a .w .now) (a .row) (a .t) (a .f) (s .pre .4)), rw (c .before .before .before .sec-row .ensures) (sec-within (a .w .now) (a .row) (a .t) (a .g) (s .pre .5)), rw (c .before .before .limit-row .ensures .0) (low-held (a .w .now) (a .row) (a .t) (s .pre .2)), rw (c .before .before .limit-row .ensures .1) (high-held (a .w .now) (a .row) (a .t) (s .pre .2)))
 
 returns : tie.Need-returns
-returns c = glue _ _ _ _ _ _ _ _ _ _ (c .before .before .before .before .pri-row .ensures) (c .before .before .before .sec-row .ensures) (c .before .before .low-row .ensures) (c .before .high-row .ensures) (c .done-row .ensures)
+returns c = glue _ _ _ _ _ _ _ _ _ _ (c .before .before .before .before .before .pri-row .ensures) (c .before .before .before .before .sec-row .ensures) (c .before .before .before .limit-row .ensures .0) (c .before .before .before .limit-row .ensures .1) (c .done-row .ensures)
 
 pub filtered-row-spec : {M : Type 1} → statement M
 filtered-row-spec =
     tie.close
-    (tie.spec
-    pri-row-requires
-    sec-row-requires
-    low-row-requires
-    high-row-requires
-    done-row-requires
-    returns)
+    (tie.spec pri-row-requires sec-row-requires limit-row-requires done-row-requires returns)

@@ -1,10 +1,9 @@
 -- `cdef_rows::low_pair` meets its contract.
-use mathlib.Core.Path.{_≡_, refl, sym, ap, _∙_}
+use mathlib.Core.Path.{_∙_}
 use Prim.Native.Nat.{_≤_}
 use native.Mathlib.Omega.{arith}
-use Rattle.cdef_rows.specs.Place.{tapOn, tapBack}
 use Rattle.cdef_rows.specs.Sums.{lowPair}
-use Rattle.cdef_rows.specs.SumsLaws.{on-le, tap-back-le, low-pair-le}
+use Rattle.cdef_rows.specs.SumsLaws.{on-le, tap-back-le}
 use borrow.Author.Needs.{needs}
 use Rattle.cdef_rows.proofs.low_pair.Statement.{statement}
 use Rattle.cdef_rows.proofs.low_pair.Tie as tie

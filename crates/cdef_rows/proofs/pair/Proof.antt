@@ -1,5 +1,5 @@
 -- `cdef_rows::pair` meets its contract.
-use mathlib.Core.Path.{_≡_, refl, sym, ap, _∙_}
+use mathlib.Core.Path.{_∙_}
 use Prim.Native.Nat.{_≤_}
 use native.Mathlib.Omega.{arith}
 use Rattle.cdef_sample.specs.Sample.{conOf}

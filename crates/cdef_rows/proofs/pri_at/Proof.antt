@@ -1,9 +1,6 @@
 -- `cdef_rows::pri_at` meets its contract.
-use mathlib.Core.Path.{_≡_, refl, sym, ap, _∙_}
-use Prim.Native.Nat.{_≤_}
 use native.Mathlib.Omega.{arith}
 use lib.ListN.{getD}
-use lib.IntN.{pos, _*ℤ_}
 use Rattle.cdef_rows.specs.Sums.{pairAt, priAt}
 use Rattle.cdef_rows.proofs.Bounds.{size-pair}
 use Rattle.cdef_sample.proofs.Joins.{Is, add-ok, add-is, back-is, scale-ok, scale-is}

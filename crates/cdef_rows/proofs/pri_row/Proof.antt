@@ -1,13 +1,13 @@
 -- `cdef_rows::pri_row` meets its contract.
-use mathlib.Core.Path.{_≡_, refl, sym, ap, _∙_}
-use Prim.Native.Nat.{ℕ, _+_, _-_, _≤_, _<_}
+use mathlib.Core.Path.{_≡_, refl, sym}
+use Prim.Native.Nat.{ℕ, _+_, _-_, _≤_}
 use native.Mathlib.Omega.{arith}
 use lib.ListN.{length, take, length-set}
 use Rattle.cdef_rows.specs.Sums.{priAt}
 use mir.Syntax.{w16}
 use mir.Val.{toZ, ofZ}
 use Rattle.cdef_rows.proofs.Bounds.{size-pri}
-use Rattle.cdef_sample.proofs.Joins.{Is, back-is}
+use Rattle.cdef_sample.proofs.Joins.{back-is}
 use Rattle.cdef_sample.specs.Upto.{upto, upto-none, upto-more, upto-all}
 use Rattle.cdef_rows.proofs.pri_row.Statement.{statement}
 use Rattle.cdef_rows.proofs.pri_row.Tie as tie

@@ -1,19 +1,19 @@
 -- `cdef_rows::sec_row` meets its contract.
-use mathlib.Core.Path.{_≡_, refl, sym, ap, _∙_}
-use Prim.Native.Nat.{ℕ, _+_, _-_, _≤_, _<_}
+use mathlib.Core.Path.{_≡_, refl, sym}
+use Prim.Native.Nat.{ℕ, _+_, _-_, _≤_}
 use native.Mathlib.Omega.{arith}
+use borrow.Author.Needs.{needs}
 use lib.ListN.{length, take, length-set}
 use Rattle.cdef_rows.specs.Sums.{secAt}
-use mir.Syntax.{w16}
-use mir.Val.{toZ, ofZ}
-use Rattle.cdef_rows.proofs.Bounds.{size-sec}
-use Rattle.cdef_sample.proofs.Joins.{Is, back-is}
+use Rattle.cdef_rows.proofs.Bounds.{sec-ok, sec-is}
 use Rattle.cdef_sample.specs.Upto.{upto, upto-none, upto-more, upto-all}
 use Rattle.cdef_rows.proofs.sec_row.Statement.{statement}
 use Rattle.cdef_rows.proofs.sec_row.Tie as tie
 use Rattle.cdef_rows.proofs.sec_row.Reads as reads
 use Rattle.cdef_rows.proofs.sec_row.Lts as lts
-use Rattle.cdef_rows.proofs.sec_at.Reads as sec-at-reads
+use Rattle.cdef_rows.proofs.sec_far.Reads as sec-far-reads
+use Rattle.cdef_rows.proofs.sec_near.Reads as sec-near-reads
+use Rattle.cdef_sample.proofs.add.Reads as add-reads
 
 abbrev Inv-loop : tie.InvT-loop
 Inv-loop w row t f out₀ j₀ out j = (take j out ≡ upto (λ (j : ℕ). secAt w (row + j) t f) j) × (length out ≡ 8) × (j ≤ 8)
@@ -21,20 +21,20 @@ Inv-loop w row t f out₀ j₀ out j = (take j out ≡ upto (λ (j : ℕ). secAt
 abbrev μ-loop : tie.MeasureT-loop
 μ-loop w row t f out₀ j₀ out j = 8 - j
 
--- what a turn stores
-stored : (c : tie.After-sec-at Inv-loop μ-loop) → let a = c .before .before .before .args in toZ w16 (ofZ w16 (c .sec-at .result)) ≡ secAt (a .w .now) (a .row + c .before .before .loop .j) (a .t) (a .f)
-stored c = let s = c .before .before .before in
-    let a = s .args in
-    back-is {m = 7680} (record { is = c .sec-at .ensures; small = size-sec (a .w .now) (a .row + c .before .before .loop .j) (a .t) (a .f) (s .pre .4) }) (omega arith)
-
 loop-holds : tie.Need-loop-holds Inv-loop μ-loop
 loop-holds c = (sym (upto-none _), refl, omega arith)
 
-add-sec-at : tie.Need-add-sec-at Inv-loop μ-loop
-add-sec-at c = let s = c .before .before in omega (arith, s .pre .1)
+add-k : tie.Need-add-k Inv-loop μ-loop
+add-k c = let s = c .before .before in omega (arith, s .pre .1)
 
-sec-at-requires : tie.Need-sec-at-requires Inv-loop μ-loop
-sec-at-requires c κs = let s = c .before .before in (omega (arith, s .pre .0), omega (arith, s .pre .1), s .pre .2, s .pre .3, s .pre .4)
+sec-near-requires : tie.Need-sec-near-requires Inv-loop μ-loop
+sec-near-requires c κs = let s = c .before .before in (omega (arith, s .pre .0), omega (arith, s .pre .1), s .pre .2, s .pre .3, s .pre .4)
+
+sec-far-requires : tie.Need-sec-far-requires Inv-loop μ-loop
+sec-far-requires c κs = let s = c .before .before .before in (omega (arith, s .pre .0), omega (arith, s .pre .1), s .pre .2, s .pre .3, s .pre .4)
+
+add-requires : tie.Need-add-requires Inv-loop μ-loop
+add-requires c κs = let s = c .before .before .before .before in let a = s .args in sec-ok (a .w .now) _ (a .t) (a .f) (s .pre .4) (c .before .sec-near .ensures) (c .sec-far .ensures)
 
 mul-out : tie.Need-mul-out Inv-loop μ-loop
 mul-out c = omega arith
@@ -49,7 +49,7 @@ loop-less : tie.Need-loop-less Inv-loop μ-loop
 loop-less c = omega arith
 
 loop-again : tie.Need-loop-again Inv-loop μ-loop
-loop-again c = let p = c .before .before in (upto-more _ _ _ _ (p .loop .inv .0) (omega arith) (stored c), simp length-set (p .loop .inv .1), omega arith)
+loop-again c = let s = c .before .before .before .before .before in let a = s .args in let p = c .before .before .before .before in (upto-more _ _ _ _ (p .loop .inv .0) (omega arith) (sec-is (a .w .now) _ (a .t) (a .f) (s .pre .4) (c .before .before .sec-near .ensures) (c .before .sec-far .ensures) (c .add .ensures)), simp length-set (p .loop .inv .1), omega arith)
 
 returns : tie.Need-returns Inv-loop μ-loop
 returns c = let p = c .before in upto-all _ _ 8 _ (p .loop .inv .0) (p .loop .inv .1) (omega arith)
@@ -61,8 +61,10 @@ sec-row-spec =
     Inv-loop
     μ-loop
     loop-holds
-    add-sec-at
-    sec-at-requires
+    add-k
+    sec-near-requires
+    sec-far-requires
+    add-requires
     mul-out
     array-set-from-out
     add-j

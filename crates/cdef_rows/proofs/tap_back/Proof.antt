@@ -1,5 +1,5 @@
 -- `cdef_rows::tap_back` meets its contract.
-use mathlib.Core.Path.{_≡_, refl, sym, ap, _∙_}
+use mathlib.Core.Path.{_≡_, _∙_}
 use native.Mathlib.Omega.{arith}
 use Rattle.cdef_rows.specs.Place.{backFrom, tapBack, back-in, back-is}
 use borrow.Author.Needs.{needs}

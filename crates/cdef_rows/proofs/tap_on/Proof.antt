@@ -1,5 +1,5 @@
 -- `cdef_rows::tap_on` meets its contract.
-use mathlib.Core.Path.{_≡_, refl, sym, ap, _∙_}
+use mathlib.Core.Path.{_≡_, _∙_}
 use native.Mathlib.Omega.{arith}
 use Rattle.cdef_rows.specs.Place.{onFrom, tapOn, on-in}
 use borrow.Author.Needs.{needs}

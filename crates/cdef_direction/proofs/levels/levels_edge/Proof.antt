@@ -25,13 +25,13 @@ abbrev μ-loop : tie.MeasureT-loop
 μ-loop plane width height x y depth shift b₀ i₀ b i = 8 - i
 
 -- the place of a turn
-row-is : (c : tie.After-least Inv-loop2 μ-loop2 Inv-loop μ-loop) → let a = c .before .before .before .before .args in c .least .result * a .width ≡ min (a .y + c .before .before .loop .i) (a .height - 1) * a .width
-row-is c = ap (λ (n : ℕ). n * c .before .before .before .before .args .width) (c .least .ensures)
+row-is : (c : tie.After-lesser Inv-loop2 μ-loop2 Inv-loop μ-loop) → let a = c .before .before .before .before .args in c .lesser .result * a .width ≡ min (a .y + c .before .before .loop .i) (a .height - 1) * a .width
+row-is c = ap (λ (n : ℕ). n * c .before .before .before .before .args .width) (c .lesser .ensures)
 
-place-is : (c : tie.After-least2 Inv-loop2 μ-loop2 Inv-loop μ-loop) → let a = c .before .before .before .before .before .before .before .args in c .before .before .before .least .result * a .width + c .least2 .result ≡ min (a .y + c .before .before .before .before .before .loop .i) (a .height - 1) * a .width + min (a .x + c .before .before .loop2 .j) (a .width - 1)
-place-is c = rw (c .before .before .before .least .ensures, c .least2 .ensures)
+place-is : (c : tie.After-lesser2 Inv-loop2 μ-loop2 Inv-loop μ-loop) → let a = c .before .before .before .before .before .before .before .args in c .before .before .before .lesser .result * a .width + c .lesser2 .result ≡ min (a .y + c .before .before .before .before .before .loop .i) (a .height - 1) * a .width + min (a .x + c .before .before .loop2 .j) (a .width - 1)
+place-is c = rw (c .before .before .before .lesser .ensures, c .lesser2 .ensures)
 
-place : (c : tie.After-least2 Inv-loop2 μ-loop2 Inv-loop μ-loop) → let a = c .before .before .before .before .before .before .before .args in c .before .before .before .least .result * a .width + c .least2 .result < length (a .plane .now)
+place : (c : tie.After-lesser2 Inv-loop2 μ-loop2 Inv-loop μ-loop) → let a = c .before .before .before .before .before .before .before .args in c .before .before .before .lesser .result * a .width + c .lesser2 .result < length (a .plane .now)
 place c =
     let s = c .before .before .before .before .before .before .before in
     let a = s .args in
@@ -42,7 +42,7 @@ place c =
 in-plane : (s : tie.Start Inv-loop2 μ-loop2 Inv-loop μ-loop) → length (s .args .plane .now) ≤ 4096 * 4096
 in-plane s = omega (arith, plane-low (s .args .width) (s .args .height) (s .pre .1 .0 .0) (s .pre .1 .0 .1), s .pre .0)
 
-row-low : (c : tie.After-least Inv-loop2 μ-loop2 Inv-loop μ-loop) → let a = c .before .before .before .before .args in c .least .result * a .width ≤ 4096 * 4096
+row-low : (c : tie.After-lesser Inv-loop2 μ-loop2 Inv-loop μ-loop) → let a = c .before .before .before .before .args in c .lesser .result * a .width ≤ 4096 * 4096
 row-low c =
     let s = c .before .before .before .before in
     let a = s .args in
@@ -51,7 +51,7 @@ row-low c =
     omega (arith, row-is c, place-low (a .width) (a .height) _ _ i j, in-plane s, s .pre .0)
 
 -- what a turn reads
-read : (c : tie.After-least2 Inv-loop2 μ-loop2 Inv-loop μ-loop) → let a = c .before .before .before .before .before .before .before .args in getD (a .plane .now) (c .before .before .before .least .result * a .width + c .least2 .result) 0 ≡ edgeSample (record { samples = a .plane .now; width = a .width; height = a .height }) (a .y + c .before .before .before .before .before .loop .i) (a .x + c .before .before .loop2 .j)
+read : (c : tie.After-lesser2 Inv-loop2 μ-loop2 Inv-loop μ-loop) → let a = c .before .before .before .before .before .before .before .args in getD (a .plane .now) (c .before .before .before .lesser .result * a .width + c .lesser2 .result) 0 ≡ edgeSample (record { samples = a .plane .now; width = a .width; height = a .height }) (a .y + c .before .before .before .before .before .loop .i) (a .x + c .before .before .loop2 .j)
 read c =
     let a = c .before .before .before .before .before .before .before .args in
     edge-is (a .plane .now) (a .width) (a .height) (a .depth) (a .y) (a .x) _ _ _ (place-is c)
@@ -72,14 +72,14 @@ cast-shift c = omega arith
 loop-holds : tie.Need-loop-holds Inv-loop2 μ-loop2 Inv-loop μ-loop
 loop-holds c = (sym (upto-none _), refl, omega arith)
 
-add-least : tie.Need-add-least Inv-loop2 μ-loop2 Inv-loop μ-loop
-add-least c = omega arith
+add-lesser : tie.Need-add-lesser Inv-loop2 μ-loop2 Inv-loop μ-loop
+add-lesser c = omega arith
 
-sub-least : tie.Need-sub-least Inv-loop2 μ-loop2 Inv-loop μ-loop
-sub-least c = omega arith
+sub-lesser : tie.Need-sub-lesser Inv-loop2 μ-loop2 Inv-loop μ-loop
+sub-lesser c = omega arith
 
-least-requires : tie.Need-least-requires Inv-loop2 μ-loop2 Inv-loop μ-loop
-least-requires c κs = tt
+lesser-requires : tie.Need-lesser-requires Inv-loop2 μ-loop2 Inv-loop μ-loop
+lesser-requires c κs = tt
 
 mul-row : tie.Need-mul-row Inv-loop2 μ-loop2 Inv-loop μ-loop
 mul-row c = omega (arith, row-low c)
@@ -90,14 +90,14 @@ mul-to c = omega arith
 loop2-holds : tie.Need-loop2-holds Inv-loop2 μ-loop2 Inv-loop μ-loop
 loop2-holds c = let p = c .before .before in (upto-at _ _ _ _ (omega arith) (p .loop .inv .0), p .loop .inv .1, omega arith)
 
-add-least-2 : tie.Need-add-least-2 Inv-loop2 μ-loop2 Inv-loop μ-loop
-add-least-2 c = omega arith
+add-lesser-2 : tie.Need-add-lesser-2 Inv-loop2 μ-loop2 Inv-loop μ-loop
+add-lesser-2 c = omega arith
 
-sub-least-2 : tie.Need-sub-least-2 Inv-loop2 μ-loop2 Inv-loop μ-loop
-sub-least-2 c = omega arith
+sub-lesser-2 : tie.Need-sub-lesser-2 Inv-loop2 μ-loop2 Inv-loop μ-loop
+sub-lesser-2 c = omega arith
 
-least-requires-2 : tie.Need-least-requires-2 Inv-loop2 μ-loop2 Inv-loop μ-loop
-least-requires-2 c κs = tt
+lesser-requires-2 : tie.Need-lesser-requires-2 Inv-loop2 μ-loop2 Inv-loop μ-loop
+lesser-requires-2 c κs = tt
 
 add-at : tie.Need-add-at Inv-loop2 μ-loop2 Inv-loop μ-loop
 add-at c = omega (arith, place c, in-plane (c .before .before .before .before .before .before .before))
@@ -156,15 +156,15 @@ levels-edge-spec =
     sub-shift
     cast-shift
     loop-holds
-    add-least
-    sub-least
-    least-requires
+    add-lesser
+    sub-lesser
+    lesser-requires
     mul-row
     mul-to
     loop2-holds
-    add-least-2
-    sub-least-2
-    least-requires-2
+    add-lesser-2
+    sub-lesser-2
+    lesser-requires-2
     add-at
     mul-level
     shared-slice-read-level

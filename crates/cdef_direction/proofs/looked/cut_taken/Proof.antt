@@ -1,100 +1,96 @@
 -- `cdef_direction::looked::cut_taken` meets its contract.
 use mathlib.Core.Path.{_≡_, _∙_}
-use Prim.Native.Nat.{_+_, _-_, _*_, _≤_, _<_, min}
+use mathlib.Core.List.{List}
+use Prim.Native.Nat.{ℕ, _+_, _-_, _*_, _/_, _^_, _≤_, _<_, min}
+use native.Mathlib.Nat.{mul-comm, mul-le-mul-right}
 use native.Mathlib.Omega.{arith}
-use lib.ListN.{length}
+use lib.Dec.{eqb}
+use Rattle.cdef_spec.specs.Questions.{cutTaken}
 use Rattle.cdef_direction.specs.Looked.{orRows}
-use Rattle.cdef_direction.specs.LookedLaws.{rows-none, rows-more, cut-bits, shifted-none}
-use Rattle.cdef_direction.proofs.Places.{place-low, plane-low}
+use Rattle.cdef_direction.specs.LookedLaws.{cut-bits, shifted-none}
+use borrow.Author.Needs.{needs}
 use Rattle.cdef_direction.proofs.looked.cut_taken.Statement.{statement}
 use Rattle.cdef_direction.proofs.looked.cut_taken.Tie as tie
 
-abbrev Inv-loop : tie.InvT-loop
-Inv-loop plane width height x y depth cols rows bits₀ i₀ bits i = (bits ≡ orRows plane width y x cols i) × (i ≤ rows)
-
-abbrev μ-loop : tie.MeasureT-loop
-μ-loop plane width height x y depth cols rows bits₀ i₀ bits i = rows - i
-
 -- a row lies in the plane
-row-in : (c : tie.In-loop Inv-loop μ-loop) → let a = c .before .before .before .before .before .args in (a .y + c .before .loop .i) * a .width + a .x + c .before .before .before .least .result ≤ length (a .plane .now)
-row-in c =
+row-in : (w h n y x rows cols : ℕ) → n ≡ w * h → y + rows ≤ h → x + cols ≤ w → (i : ℕ) → i < rows → (y + i) * w + x + cols ≤ n
+row-in w h n y x rows cols e hy hx i hi =
+    let a : y + i + 1 ≤ h = omega arith in
+    omega (arith, mul-le-mul-right w a, mul-comm w h)
+
+-- the bits of the block cut to the plane answer the question
+bits-say : (s : List ℕ) (w h d y x rows cols bits : ℕ) → y < h → x < w → rows ≡ min 8 (h - y) → cols ≡ min 8 (w - x) → bits ≡ orRows s w y x cols rows → eqb (bits / 2 ^ d) 0 ≡ cutTaken (record { samples = s; width = w; height = h }) d y x
+bits-say s w h d y x rows cols bits hy hx er ec eb = shifted-none bits d ∙ rw (eb, er, ec) (cut-bits s w h d y x hy hx)
+
+sub-lesser : tie.Need-sub-lesser
+sub-lesser c = search needs
+
+lesser-requires : tie.Need-lesser-requires
+lesser-requires c κs = search needs
+
+sub-lesser-2 : tie.Need-sub-lesser-2
+sub-lesser-2 c = search needs
+
+lesser-requires-2 : tie.Need-lesser-requires-2
+lesser-requires-2 c κs = search needs
+
+add-if1 : tie.Need-add-if1
+add-if1 c = search needs
+
+block-bits-requires : tie.Need-block-bits-requires
+block-bits-requires c κs =
+    let s = c .before .before .before .before in
+    let a = s .args in
+    let f = c .before .before .lesser .ensures in
+    let g = c .before .lesser2 .ensures in
+    (omega (arith, g), row-in (a .width) (a .height) _ (a .y) (a .x) _ _ (s .pre .0) (omega (arith, g)) (omega (arith, f)))
+
+cast-result : tie.Need-cast-result
+cast-result c = search needs
+
+shr-result : tie.Need-shr-result
+shr-result c = search needs
+
+returns : tie.Need-returns
+returns c =
     let s = c .before .before .before .before .before in
+    bits-say _ _ _ _ _ _ _ _ _ (s .pre .1 .3) (s .pre .1 .2) (c .before .before .lesser2 .ensures) (c .before .before .before .lesser .ensures) (c .block-bits .ensures)
+
+block-bits-requires-2 : tie.Need-block-bits-requires-2
+block-bits-requires-2 c κs =
+    let s = c .before .before .before .before in
     let a = s .args in
-    let i : a .y + c .before .loop .i < a .height = omega (arith, c .before .before .least2 .ensures) in
-    let j : a .x + c .before .before .before .least .result - 1 < a .width = omega (arith, c .before .before .before .least .ensures) in
-    omega (arith, place-low (a .width) (a .height) _ _ i j, s .pre .0, c .before .before .before .least .ensures)
+    let f = c .before .before .lesser .ensures in
+    let g = c .before .lesser2 .ensures in
+    (omega (arith, f, g), row-in (a .width) (a .height) _ (a .y) (a .x) 8 8 (s .pre .0) (omega (arith, f, g)) (omega (arith, f, g)))
 
-plane-in : (c : tie.In-loop Inv-loop μ-loop) → length (c .before .before .before .before .before .args .plane .now) ≤ 4096 * 4096
-plane-in c = let s = c .before .before .before .before .before in omega (arith, plane-low (s .args .width) (s .args .height) (s .pre .1 .0) (s .pre .1 .1), s .pre .0)
+cast-result-2 : tie.Need-cast-result-2
+cast-result-2 c = search needs
 
-sub-least : tie.Need-sub-least Inv-loop μ-loop
-sub-least c = omega arith
+shr-result-2 : tie.Need-shr-result-2
+shr-result-2 c = search needs
 
-least-requires : tie.Need-least-requires Inv-loop μ-loop
-least-requires c κs = tt
-
-sub-least-2 : tie.Need-sub-least-2 Inv-loop μ-loop
-sub-least-2 c = omega arith
-
-least-requires-2 : tie.Need-least-requires-2 Inv-loop μ-loop
-least-requires-2 c κs = tt
-
-loop-holds : tie.Need-loop-holds Inv-loop μ-loop
-loop-holds c = (rows-none _ _ _ _ _, omega arith)
-
-add-row-bits : tie.Need-add-row-bits Inv-loop μ-loop
-add-row-bits c = omega (arith, c .before .before .least2 .ensures)
-
-mul-row-bits : tie.Need-mul-row-bits Inv-loop μ-loop
-mul-row-bits c = omega (arith, row-in c, plane-in c)
-
-add-row-bits-2 : tie.Need-add-row-bits-2 Inv-loop μ-loop
-add-row-bits-2 c = omega (arith, row-in c, plane-in c)
-
-row-bits-requires : tie.Need-row-bits-requires Inv-loop μ-loop
-row-bits-requires c κs = row-in c
-
-add-i : tie.Need-add-i Inv-loop μ-loop
-add-i c = omega (arith, c .before .before .before .least2 .ensures)
-
-loop-less : tie.Need-loop-less Inv-loop μ-loop
-loop-less c = omega arith
-
-loop-again : tie.Need-loop-again Inv-loop μ-loop
-loop-again c = let p = c .before .before in (rw (p .loop .inv .0, c .row-bits .ensures) (rows-more _ _ _ _ _ _), omega arith)
-
-cast-result : tie.Need-cast-result Inv-loop μ-loop
-cast-result c = omega arith
-
-shr-result : tie.Need-shr-result Inv-loop μ-loop
-shr-result c = omega arith
-
-returns : tie.Need-returns Inv-loop μ-loop
-returns c = let s = c .before .before .before .before .before in
-    let a = s .args in
-    let p = c .before in
-    let e : p .loop .i ≡ c .before .before .least2 .result = omega arith in
-    let q : p .loop .bits ≡ orRows (a .plane .now) (a .width) (a .y) (a .x) (min 8 (a .width - a .x)) (min 8 (a .height - a .y)) = p .loop .inv .0 ∙ rw (e, c .before .before .before .least .ensures, c .before .before .least2 .ensures) in
-    shifted-none (p .loop .bits) (a .depth) ∙ rw q (cut-bits _ _ _ _ _ _ (s .pre .1 .3) (s .pre .1 .2))
+returns-2 : tie.Need-returns-2
+returns-2 c =
+    let s = c .before .before .before .before .before in
+    let f = c .before .before .before .lesser .ensures in
+    let g = c .before .before .lesser2 .ensures in
+    bits-say _ _ _ _ _ _ 8 8 _ (s .pre .1 .3) (s .pre .1 .2) (omega (arith, f, g)) (omega (arith, f, g)) (c .block-bits2 .ensures)
 
 pub cut-taken-spec : {M : Type 1} → statement M
 cut-taken-spec =
     tie.close
     (tie.spec
-    Inv-loop
-    μ-loop
-    sub-least
-    least-requires
-    sub-least-2
-    least-requires-2
-    loop-holds
-    add-row-bits
-    mul-row-bits
-    add-row-bits-2
-    row-bits-requires
-    add-i
-    loop-less
-    loop-again
+    sub-lesser
+    lesser-requires
+    sub-lesser-2
+    lesser-requires-2
+    add-if1
+    block-bits-requires
     cast-result
     shr-result
-    returns)
+    returns
+    block-bits-requires-2
+    cast-result-2
+    shr-result-2
+    returns-2)

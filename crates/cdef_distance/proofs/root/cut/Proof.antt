@@ -51,7 +51,7 @@ returns : tie.Need-returns
 returns c =
     let s = c .before in
     let k = known s in
-    let e = none (B s) (k .low) (c .if1 .taken) in
+    let e = none (B s) (k .low) (omega (arith, c .if1 .taken)) in
     sym (cut-value (s .args .x) (unitsOf (B s)) (2 ^ 1074) (pow-pos 1074) (k .value) (lt-of-le-of-lt (le-of-eq e) (lit< tt)) ∙ e)
 
 returns-2 : tie.Need-returns-2

@@ -1,5 +1,5 @@
 -- `cdef_trial::cdef_block_candidates` meets its contract.
-use mathlib.Core.Path.{_≡_, _∙_}
+use mathlib.Core.Path.{_∙_}
 use Rattle.cdef_window.specs.Window.{planeOf}
 use Rattle.cdef_trial.specs.TableLaws.{trial-table}
 use borrow.Author.Needs.{needs}

@@ -1,5 +1,5 @@
 -- `cdef_trial::trial_window` meets its contract.
-use mathlib.Core.Path.{_≡_, _∙_}
+use mathlib.Core.Path.{_∙_}
 use Rattle.cdef_trial.specs.StrengthLaws.{twelve-ready}
 use borrow.Author.Needs.{needs}
 use Rattle.cdef_trial.proofs.block.trial_window.Statement.{statement}

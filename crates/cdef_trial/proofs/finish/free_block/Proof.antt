@@ -1,9 +1,9 @@
 -- `cdef_trial::free_block` meets its contract.
-use mathlib.Core.Path.{_≡_, refl, sym, ap, _∙_}
-use Prim.Native.Nat.{ℕ, _+_, _-_, _≤_, _<_}
+use mathlib.Core.Path.{_≡_, refl, sym, _∙_}
+use Prim.Native.Nat.{ℕ, _-_, _≤_}
 use native.Mathlib.Omega.{arith}
 use lib.ListN.{length, take, getD, length-set}
-use lib.IntN.{ℤ, pos, natAbs}
+use lib.IntN.{pos}
 use Rattle.cdef_sample.specs.Sample.{freeOf}
 use Rattle.cdef_sample.specs.Upto.{upto, upto-none, upto-more, upto-at}
 use Rattle.cdef_sample.proofs.Joins.{Is, back-is}

@@ -1,5 +1,5 @@
 -- `cdef_trial::put_both` meets its contract.
-use mathlib.Core.Path.{_≡_, _∙_}
+use mathlib.Core.Path.{_∙_}
 use Rattle.cdef_trial.specs.PutLaws.{laid-both}
 use borrow.Author.Needs.{needs}
 use Rattle.cdef_trial.proofs.put.put_both.Statement.{statement}

@@ -1,8 +1,8 @@
 -- `cdef_trial::put_whole` meets its contract.
-use mathlib.Core.Path.{_≡_, refl, sym, ap, _∙_}
-use Prim.Native.Nat.{ℕ, _+_, _-_, _*_, _/_, _%_, _≤_, _<_}
+use mathlib.Core.Path.{_≡_, refl, sym, _∙_}
+use Prim.Native.Nat.{_-_, _≤_}
 use native.Mathlib.Omega.{arith}
-use lib.ListN.{length, getD, length-set}
+use lib.ListN.{length, length-set}
 use Rattle.cdef_spec.specs.LoopForm.{putRow}
 use Rattle.cdef_spec.specs.PlaneLaws.{row-none}
 use Rattle.cdef_trial.specs.Trial.{laidTap}

@@ -1,5 +1,5 @@
 -- `cdef_trial::adjusted` meets its contract.
-use mathlib.Core.Path.{_≡_, ap, sym, _∙_}
+use mathlib.Core.Path.{ap, sym, _∙_}
 use Rattle.cdef_spec.specs.declared.TrialWay.{TrialWay}
 use Rattle.cdef_trial.specs.Strengths.{adjustedBy}
 use borrow.Author.Needs.{needs}

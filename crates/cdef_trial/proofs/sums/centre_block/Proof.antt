@@ -1,13 +1,12 @@
 -- `cdef_trial::centre_block` meets its contract.
-use mathlib.Core.Path.{_≡_, refl, sym, ap, _∙_}
-use Prim.Native.Nat.{ℕ, _+_, _-_, _*_, _≤_, _<_}
+use mathlib.Core.Path.{_≡_, refl, sym}
+use Prim.Native.Nat.{ℕ, _+_, _-_, _*_, _≤_}
 use native.Mathlib.Omega.{arith}
 use borrow.Author.Needs.{needs}
 use lib.ListN.{length, take, getD, length-set}
-use lib.IntN.{pos}
-use Rattle.cdef_sample.specs.Upto.{upto, upto-none, upto-more, upto-at}
+use Rattle.cdef_sample.specs.Upto.{upto, upto-none, upto-at}
 use Rattle.cdef_trial.specs.Trial.{placeOf}
-use Rattle.cdef_trial.specs.TrialLaws.{row-at}
+use Rattle.cdef_trial.specs.TrialLaws.{filled, entry}
 use Rattle.cdef_trial.proofs.sums.centre_block.Statement.{statement}
 use Rattle.cdef_trial.proofs.sums.centre_block.Tie as tie
 use Rattle.cdef_trial.proofs.sums.centre_block.Reads as reads
@@ -70,7 +69,7 @@ loop2-less c = omega arith
 
 loop2-again : tie.Need-loop2-again Inv-loop2 μ-loop2 Inv-loop μ-loop
 loop2-again c = let s = c .before .before .before .before .before in let a = s .args in let i = c .before .before .before .before .loop .i in let j = c .before .loop2 .j in
-    (upto-at _ _ _ _ (omega arith) (upto-more _ _ _ _ (c .before .loop2 .inv .0) (omega arith) (row-at (λ (p : ℕ). getD (a .w .now) (p) 0) (c .before .before .centre-row .result) i j 0 (c .before .before .centre-row .ensures) (omega arith))), simp length-set (c .before .loop2 .inv .1), omega arith)
+    (filled (λ (p : ℕ). getD (a .w .now) p 0) _ i j _ (omega arith) (c .before .loop2 .inv .1) (omega arith) (entry _ _ j 0 (c .before .before .centre-row .ensures) (omega arith)) (c .before .loop2 .inv .0), simp length-set (c .before .loop2 .inv .1), omega arith)
 
 add-i : tie.Need-add-i Inv-loop2 μ-loop2 Inv-loop μ-loop
 add-i c = omega arith

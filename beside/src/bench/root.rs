@@ -1,0 +1,43 @@
+//! The root of the weighted distance beside the processor's own, a value in a block's place.
+
+use crate::timing;
+use ours::bare;
+use std::hint::black_box;
+use support::random::Random;
+
+const VALUES: usize = 4800;
+const SEED: u64 = 64;
+
+/// 64 squares of the largest difference at depth 8.
+const LIMIT: u64 = 64 * 255 * 255;
+
+/// What the weighted distance takes roots of at depth 8: c2 and a product of two spreads.
+fn values() -> Vec<f64> {
+    let mut r = Random::new(SEED);
+    let mut spread = || r.below(LIMIT + 1) as f64;
+    (0..VALUES)
+        .map(|_| 20_000.0 + spread() * spread())
+        .collect()
+}
+
+/// Prints the line; whether every root was the same.
+pub fn line() -> bool {
+    let values = values();
+    timing::line(
+        "root, the processor's for the Rust",
+        values.len(),
+        || {
+            for &v in &values {
+                black_box(bare::root(black_box(v)));
+            }
+        },
+        || {
+            for &v in &values {
+                black_box(black_box(v).sqrt());
+            }
+        },
+    );
+    values
+        .iter()
+        .all(|&v| bare::root(v).to_bits() == v.sqrt().to_bits())
+}

@@ -1,7 +1,0 @@
--- The questions in the parts that the code asks them in, and their laws.
-pub mod Parts
-pub mod PartLaws
-pub mod WindowLaws
-pub mod DistanceLaws
-pub mod TrialParts
-pub mod TrialPartLaws

@@ -1,0 +1,9 @@
+-- The questions in the parts that the code asks them in, and their laws.
+pub mod YesLaws
+pub mod Parts
+pub mod PartLaws
+pub mod WindowLaws
+pub mod DirectionLaws
+pub mod DistanceLaws
+pub mod TrialParts
+pub mod TrialPartLaws

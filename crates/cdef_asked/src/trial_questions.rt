@@ -1,0 +1,65 @@
+// The questions of the trial: the number of the first no, or 0.
+ghost use mathlib.Core.Path.{_≡_};
+ghost use mathlib.Core.Bool.{_&&_};
+ghost use lib.Dec.{ltb};
+ghost use Rattle.cdef_spec.specs.Document01.{Plane};
+ghost use Rattle.cdef_spec.specs.Questions.{firstNo, wayTaken, workingTaken};
+ghost use Rattle.cdef_asked.specs.TrialParts.{trialFirst};
+use crate::block_questions;
+use crate::questions;
+use cdef_spec::Block;
+use cdef_spec::TrialWay;
+use cdef_spec::WorkingDamping;
+
+// 8: a variance, which only the luma way has.
+fn way_taken(way: TrialWay) -> bool
+    ensures { λ r. ⌜ r ≡ wayTaken way ⌝ }
+{
+    match way {
+        TrialWay::Luma(var) => questions::variance_taken(var),
+        TrialWay::Chroma => true,
+    }
+}
+
+// 8: direction, variance and damping.
+fn trial_taken(way: TrialWay, dir: u8, damping: WorkingDamping) -> bool
+    ensures { λ r. ⌜ r ≡ ltb dir 8 && (wayTaken way && workingTaken damping) ⌝ }
+{
+    if 7 < dir {
+        return false;
+    }
+    if !way_taken(way) {
+        return false;
+    }
+    questions::working_taken(damping)
+}
+
+// 1, 2, 4, 5, 7 and 8: the number of the first no, or 0.
+pub fn trial_no(
+    out: &[u16],
+    plane: &[u16],
+    width: usize,
+    height: usize,
+    b: Block,
+    way: TrialWay,
+    dir: u8,
+    damping: WorkingDamping,
+    depth: u8,
+) -> u8
+    ensures { λ r. ⌜ r ≡ firstNo (trialFirst (record { samples = now (plane .entry); width = width; height = height }) b way dir damping depth (now (out .entry))) ⌝ }
+{
+    let no = block_questions::plane_no(plane, width, height, depth);
+    if no != 0 {
+        return no;
+    }
+    if !block_questions::block_taken(width, height, b) {
+        return 5;
+    }
+    if out.len() != 768 {
+        return 7;
+    }
+    if !trial_taken(way, dir, damping) {
+        return 8;
+    }
+    0
+}

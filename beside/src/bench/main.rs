@@ -2,6 +2,7 @@
 //! medians. Exit status: 0 printed, 1 an answer is different.
 
 mod blocks;
+mod frames;
 mod root;
 mod scene;
 mod timing;
@@ -15,7 +16,7 @@ fn main() -> ExitCode {
     println!("{}", timing::conditions());
     println!();
     println!("{}", timing::HEAD);
-    if blocks::table(&scene) & root::line() {
+    if blocks::table(&scene) & root::line() & frames::table(&scene) {
         ExitCode::SUCCESS
     } else {
         eprintln!("bench: an answer is different; the times mean nothing");

@@ -2,7 +2,10 @@
 
 use std::time::{Duration, Instant};
 
-const ROUNDS: usize = 25;
+pub const ROUNDS: usize = 25;
+
+/// On the largest picture.
+pub const FEW_ROUNDS: usize = 5;
 
 /// A round of either side lasts at least this long.
 const ROUND: Duration = Duration::from_millis(6);
@@ -10,8 +13,9 @@ const ROUND: Duration = Duration::from_millis(6);
 /// How the times come about.
 pub fn conditions() -> String {
     format!(
-        "times: medians of {ROUNDS} rounds of at least {} ms, ours and the Rust in turn, each \
-         first in every other round; one thread; spread: half the middle half, ours and the Rust",
+        "times: medians of {ROUNDS} rounds of at least {} ms ({FEW_ROUNDS} on pictures of 4096 by \
+         4096), ours and the Rust in turn, each first in every other round; one thread; spread: \
+         half the middle half, ours and the Rust",
         ROUND.as_millis()
     )
 }
@@ -21,18 +25,30 @@ pub const HEAD: &str = "\
 |---|---|---|---|---|---|";
 
 /// Times two passes over the same blocks and prints their line.
-pub fn line(name: &str, blocks: usize, mut ours: impl FnMut(), mut rust: impl FnMut()) {
+pub fn line(name: &str, blocks: usize, ours: impl FnMut(), rust: impl FnMut()) {
+    rounds(ROUNDS, name, blocks, ours, rust);
+}
+
+/// As many rounds of it; gives the ratio.
+pub fn rounds(
+    rounds: usize,
+    name: &str,
+    blocks: usize,
+    mut ours: impl FnMut(),
+    mut rust: impl FnMut(),
+) -> f64 {
     let sides: [&mut dyn FnMut(); 2] = [&mut ours, &mut rust];
     let mut sides = sides.map(|pass| Side::new(pass, blocks));
-    for round in 0..ROUNDS {
+    for round in 0..rounds {
         sides[round % 2].round();
         sides[1 - round % 2].round();
     }
     let [(ours, ours_spread), (rust, rust_spread)] = sides.map(Side::median);
+    let ratio = ours / rust;
     println!(
-        "| {name} | {blocks} | {ours:.1} | {rust:.1} | {:.3} | {ours_spread:.1} %, {rust_spread:.1} % |",
-        ours / rust
+        "| {name} | {blocks} | {ours:.1} | {rust:.1} | {ratio:.3} | {ours_spread:.1} %, {rust_spread:.1} % |"
     );
+    ratio
 }
 
 struct Side<'a> {

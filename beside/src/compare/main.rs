@@ -3,6 +3,7 @@
 mod blocks;
 mod distance;
 mod drawn;
+mod frame;
 mod leaves;
 mod seen;
 mod trial;
@@ -15,5 +16,6 @@ fn main() -> ExitCode {
         blocks::compare(report, long, seed);
         trial::compare(report, long, seed);
         distance::compare(report, long, seed);
+        frame::compare(report, long, seed);
     })
 }

@@ -2,8 +2,11 @@
 
 pub mod bare;
 mod entries;
+pub mod frame;
+mod list;
 
 use entries::*;
+use list::List;
 use support::Answer;
 use support::adjust_pri::AdjustPri;
 use support::constrain::Constrain;
@@ -124,66 +127,50 @@ pub fn direction(c: &Direction, held: (u8, u32)) -> Answer<[i64; 2]> {
 /// What stands on both sides of a lent list; no filtered sample.
 const HELD: u16 = 50_000;
 
-/// The number and the whole list, which has places to spare on both sides.
-fn list(before: &[u16], spare: usize, call: impl FnOnce(*mut u16) -> u32) -> Answer<Vec<u16>> {
-    let end = spare + before.len();
-    let mut lent = vec![HELD; end + spare];
-    lent[spare..end].copy_from_slice(before);
-    // SAFETY: a place of the list, or its end.
-    let number = call(unsafe { lent.as_mut_ptr().add(spare) });
-    let mut beside = lent[..spare].iter().chain(&lent[end..]);
-    let alone = beside.all(|&v| v == HELD);
-    Answer {
-        number: if alone { number } else { BESIDE },
-        value: lent[spare..end].to_vec(),
-    }
-}
-
 /// The destination has rows to spare.
 pub fn filter(c: &Filter) -> Answer<Vec<u16>> {
     let (b, s) = (&c.block, &c.block.spot);
-    list(&c.dst, 16 + 2 * s.width.min(SIDE_MAX), |dst| {
-        // SAFETY: destination and plane have the lengths given, and are apart.
-        unsafe {
-            quern_filter_block(
-                dst,
-                c.dst.len(),
-                c.y0,
-                s.plane.as_ptr(),
-                s.plane.len(),
-                s.width,
-                s.height,
-                s.x,
-                s.y,
-                b.width,
-                b.height,
-                c.pri,
-                c.sec,
-                b.dir,
-                b.damping,
-                s.depth,
-            )
-        }
-    })
-}
-
-pub fn trial(c: &Trial) -> Answer<Vec<u16>> {
-    let (b, s) = (&c.block, &c.block.spot);
-    list(&c.before(), 64, |out| {
-        // SAFETY: the list has that many places.
-        let places = unsafe { std::slice::from_raw_parts_mut(out, c.places) };
-        bare::trial(
-            places,
-            &s.plane,
-            (s.width, s.height),
-            (s.x, s.y),
-            (b.width, b.height),
-            (c.luma == 1).then_some(c.variance),
+    let mut dst = List::new(&c.dst, 16 + 2 * s.width.min(SIDE_MAX), HELD);
+    let lent = dst.lent();
+    // SAFETY: destination and plane have the lengths given, and are apart.
+    let number = unsafe {
+        quern_filter_block(
+            lent.as_mut_ptr(),
+            lent.len(),
+            c.y0,
+            s.plane.as_ptr(),
+            s.plane.len(),
+            s.width,
+            s.height,
+            s.x,
+            s.y,
+            b.width,
+            b.height,
+            c.pri,
+            c.sec,
             b.dir,
             b.damping,
             s.depth,
         )
-    })
+    };
+    dst.answer(number)
+}
+
+pub fn trial(c: &Trial) -> Answer<Vec<u16>> {
+    let (b, s) = (&c.block, &c.block.spot);
+    let mut list = List::new(&c.before(), 64, HELD);
+    let number = bare::trial(
+        list.lent(),
+        &s.plane,
+        (s.width, s.height),
+        (s.x, s.y),
+        (b.width, b.height),
+        (c.luma == 1).then_some(c.variance),
+        b.dir,
+        b.damping,
+        s.depth,
+    );
+    list.answer(number)
 }
 
 /// The weighted distance or the squares.

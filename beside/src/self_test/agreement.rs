@@ -1,6 +1,6 @@
 //! Trying, applying and measuring agree in the Rust: demand 3 on small pictures.
 
-use reference::Frame;
+use reference::{Frame, Lists};
 use support::random::Random;
 use support::report::Tally;
 
@@ -47,46 +47,28 @@ pub fn check(tally: &mut Tally, r: &mut Random, long: bool) {
     }
 }
 
-/// The lists of a frame: flags, directions, variances.
-pub struct Lists {
-    pub skip: Vec<u8>,
-    pub directions: Vec<u8>,
-    pub variances: Vec<u32>,
-}
-
-impl Lists {
-    pub fn new(r: &mut Random, luma: &[u16], size: [usize; 4], depth: u8) -> Self {
-        let (directions, variances) = reference::direction_pass(luma, size[0], size[1], depth);
-        Lists {
-            skip: directions
-                .iter()
-                .map(|_| u8::from(r.below(5) == 0))
-                .collect(),
-            directions,
-            variances,
-        }
-    }
-
-    pub fn frame(
-        &self,
-        size: [usize; 4],
-        layout: (usize, usize),
-        depth: u8,
-        damping: u8,
-    ) -> Frame<'_> {
-        Frame {
-            width: size[0],
-            height: size[1],
-            visible_width: size[2],
-            visible_height: size[3],
-            sub_x: layout.0,
-            sub_y: layout.1,
-            depth,
-            signalled_damping: damping,
-            skip: &self.skip,
-            directions: &self.directions,
-            variances: &self.variances,
-        }
+/// A frame of true directions and random flags.
+pub fn of_luma(
+    r: &mut Random,
+    luma: &[u16],
+    [width, height, visible_width, visible_height]: [usize; 4],
+    (sub_x, sub_y): (usize, usize),
+    depth: u8,
+    signalled_damping: u8,
+) -> Frame {
+    let (directions, variances) = reference::direction_pass(luma, width, height, depth);
+    let flag = |_: &u8| u8::from(r.below(5) == 0);
+    let skip: Vec<u8> = directions.iter().map(flag).collect();
+    Frame {
+        width,
+        height,
+        visible_width,
+        visible_height,
+        sub_x,
+        sub_y,
+        depth,
+        signalled_damping,
+        lists: Lists::new(&skip, &directions, &variances),
     }
 }
 
@@ -96,9 +78,8 @@ type Apply = fn(&Frame, &mut [u16], &[u16], &[(u8, u8)]);
 
 fn frame(tally: &mut Tally, r: &mut Random, size: [usize; 4], layout: (usize, usize), depth: u8) {
     let luma = r.picture(size[0], size[1], depth);
-    let lists = Lists::new(r, &luma, size, depth);
     let damping = r.between(3, 6) as u8;
-    let f = lists.frame(size, layout, depth, damping);
+    let f = of_luma(r, &luma, size, layout, depth, damping);
     let calls: (Try, Measure, Apply) = (
         reference::cdef_luma_unit_dists_all,
         reference::cdef_luma_unit_dists,
@@ -143,7 +124,7 @@ fn totals(f: &Frame, halved: (usize, usize), distance: impl Fn(Part) -> i64) -> 
     for by in 0..f.block_rows() {
         for bx in 0..f.block_columns() {
             let (x, y) = (bx * 8 / x_by, by * 8 / y_by);
-            if f.skip[by * f.block_columns() + bx] == 0 && x < visible.0 && y < visible.1 {
+            if !f.lists.skip[by * f.block_columns() + bx] && x < visible.0 && y < visible.1 {
                 let part = Part {
                     x,
                     y,

@@ -2,7 +2,7 @@
 //! dampings) against `frame_cdef` itself, run whole: what it leaves in the planes is
 //! what applying its own pairs leaves.
 
-use crate::agreement::{LAYOUTS, Lists};
+use crate::agreement::{LAYOUTS, of_luma};
 use support::random::Random;
 use support::report::Tally;
 
@@ -25,8 +25,8 @@ fn picture(tally: &mut Tally, r: &mut Random, layout: (usize, usize), depth: u8)
     let original = planes(r, layout, depth);
     let snapshot = original.each_ref().map(|p| noisy(r, p, depth));
     let index = r.below(256) as u8;
-    let lists = Lists::new(r, &snapshot[0], SIZE, depth);
-    let f = lists.frame(SIZE, layout, depth, reference::cdef_damping(index));
+    let damping = reference::cdef_damping(index);
+    let f = of_luma(r, &snapshot[0], SIZE, layout, depth, damping);
     let mut left = snapshot.clone();
     let Some(picked) = reference::frame_cdef(&f, index, &mut left, &original) else {
         return false;

@@ -9,6 +9,7 @@ pub mod damping;
 pub mod direction;
 pub mod distance;
 pub mod filter;
+pub mod frame;
 pub mod log2_floor;
 pub mod options;
 pub mod planes;

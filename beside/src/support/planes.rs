@@ -27,6 +27,7 @@ pub fn sizes(r: &mut Random) -> Vec<(usize, usize)> {
     list
 }
 
+#[derive(Clone)]
 pub struct Plane {
     pub samples: Vec<u16>,
     pub width: usize,

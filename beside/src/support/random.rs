@@ -35,6 +35,11 @@ impl Random {
         self.next().checked_shr(64 - length).unwrap_or(0)
     }
 
+    /// `count` numbers of any size.
+    pub fn list<T: Cut>(&mut self, count: usize) -> Vec<T> {
+        (0..count).map(|_| T::cut(self.next())).collect()
+    }
+
     /// `count` samples of one kind: flat, near each other, near the ends, or any.
     pub fn samples(&mut self, count: usize, depth: u8) -> Vec<u16> {
         let max = (1i64 << depth) - 1;
@@ -70,3 +75,20 @@ impl Random {
         plane
     }
 }
+
+/// A number made of a u64's low bits.
+pub trait Cut {
+    fn cut(v: u64) -> Self;
+}
+
+macro_rules! cut {
+    ($($number:ty)*) => {
+        $(impl Cut for $number {
+            fn cut(v: u64) -> Self {
+                v as $number
+            }
+        })*
+    };
+}
+
+cut!(u8 u16 u32 i64);

@@ -20,6 +20,10 @@ impl<C: 'static> Break<C> {
         Break { number, change }
     }
 
+    pub(crate) fn make(&self, c: &mut C) {
+        (self.change)(c);
+    }
+
     /// The same change of a case that has such a part.
     pub fn of_part<D: 'static>(self, part: fn(&mut D) -> &mut C) -> Break<D> {
         Break::new(self.number, move |c| (self.change)(part(c)))
@@ -35,20 +39,40 @@ impl<C: 'static> Break<C> {
     }
 }
 
+/// The same changes of a case that has such a part.
+pub(crate) fn of_parts<C: 'static, D: 'static>(
+    list: Vec<Break<C>>,
+    part: fn(&mut D) -> &mut C,
+) -> Vec<Break<D>> {
+    list.into_iter().map(|b| b.of_part(part)).collect()
+}
+
+/// Each change of a good case, alone.
+pub(crate) fn alone<C: Clone + 'static>(
+    good: &C,
+    changes: &[Break<C>],
+) -> impl Iterator<Item = Stated<C>> {
+    changes.iter().map(|b| {
+        let mut c = good.clone();
+        b.make(&mut c);
+        (b.number, c)
+    })
+}
+
 /// Each good case, each break of it, and each two breaks of different numbers.
-pub fn broken<C: Clone>(good: &[C], breaks: &[Break<C>]) -> Vec<Stated<C>> {
+pub fn broken<C: Clone + 'static>(good: &[C], breaks: &[Break<C>]) -> Vec<Stated<C>> {
     let mut list = Vec::new();
     for c in good {
         list.push((0, c.clone()));
         for one in breaks {
             let mut broken = c.clone();
-            (one.change)(&mut broken);
+            one.make(&mut broken);
             list.push((one.number, broken));
             for later in breaks.iter().filter(|b| b.number > one.number) {
                 // The later first: it goes by numbers that the other one changes.
                 let mut broken = c.clone();
-                (later.change)(&mut broken);
-                (one.change)(&mut broken);
+                later.make(&mut broken);
+                one.make(&mut broken);
                 list.push((one.number, broken));
             }
         }

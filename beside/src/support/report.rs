@@ -2,6 +2,7 @@
 
 use crate::{Answer, Case};
 use std::fmt::{Debug, Display};
+use std::ops::BitXorAssign;
 
 /// How many differences of a call are printed.
 const SHOWN: u64 = 5;
@@ -23,13 +24,6 @@ impl Value for i64 {
 }
 
 /// The last place is spoilt.
-impl Value for Vec<i64> {
-    fn spoil(&mut self) {
-        *self.last_mut().expect("an empty list can't be spoilt") += 1;
-    }
-}
-
-/// The last place is spoilt.
 impl Value for [i64; 2] {
     fn spoil(&mut self) {
         self[1] += 1;
@@ -37,11 +31,11 @@ impl Value for [i64; 2] {
 }
 
 /// The last place is spoilt, or one is added where there is none.
-impl Value for Vec<u16> {
+impl<T: Copy + PartialEq + Debug + BitXorAssign + From<u8>> Value for Vec<T> {
     fn spoil(&mut self) {
         match self.last_mut() {
-            Some(last) => *last ^= 1,
-            None => self.push(0),
+            Some(last) => *last ^= 1.into(),
+            None => self.push(0.into()),
         }
     }
 
@@ -51,8 +45,25 @@ impl Value for Vec<u16> {
         let mut places = self.iter().zip(expected).enumerate();
         let count = places.clone().filter(|(_, (a, b))| a != b).count();
         match places.find(|(_, (a, b))| a != b) {
-            Some((k, (a, b))) => format!("{count} of {got} places, at {k} got {a}, expected {b}"),
+            Some((k, (a, b))) => {
+                format!("{count} of {got} places, at {k} got {a:?}, expected {b:?}")
+            }
             None => format!("got {got} places, expected {due}"),
+        }
+    }
+}
+
+/// Two lists that a call leaves; the first is spoilt.
+impl<V: Value, W: Value> Value for (V, W) {
+    fn spoil(&mut self) {
+        self.0.spoil();
+    }
+
+    fn apart(&self, expected: &Self) -> String {
+        if self.0 == expected.0 {
+            format!("in the second list {}", self.1.apart(&expected.1))
+        } else {
+            self.0.apart(&expected.0)
         }
     }
 }

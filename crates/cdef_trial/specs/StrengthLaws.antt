@@ -1,40 +1,21 @@
 -- Laws of what the trials are filtered with.
 use mathlib.Core.Path.{_≡_}
-use mathlib.Core.Bool.{Bool, true, false, cond}
-use Prim.Native.Nat.{ℕ, _+_, _-_, _*_, _/_, _^_, _≤_, _<_, min, max}
-use native.Mathlib.Nat.{mul-le-mul}
+use Prim.Native.Nat.{ℕ, _-_, _≤_, _<_, max}
 use native.Mathlib.Omega.{arith}
-use lib.Dec.{eqb}
 use Rattle.cdef_spec.specs.declared.TrialWay.{TrialWay}
 use Rattle.cdef_spec.specs.declared.TrialWay.the-variants.{Luma, Chroma}
 use Rattle.cdef_spec.specs.declared.WorkingDamping.{WorkingDamping}
-use Rattle.cdef_spec.specs.Words.{_>>_, _<<_}
-use Rattle.cdef_spec.specs.Standard.{FloorLog2, adjustPri}
+use Rattle.cdef_spec.specs.Words.{_<<_}
 use Rattle.cdef_rows.specs.declared.Taps.{Taps}
 use Rattle.cdef_rows.specs.declared.Strength.{Strength}
 use Rattle.cdef_kernel.specs.Kernel.{tapsOf, priOf, secOf}
 use Rattle.cdef_kernel.specs.PlaceLaws.{taps-near}
-use Rattle.cdef_kernel.specs.ShapeLaws.{pri-in, sec-in, limit-low}
+use Rattle.cdef_kernel.specs.ShapeLaws.{pri-in, sec-in, limit-low, adjust-low}
 use Rattle.cdef_trial.specs.declared.Twelve.{Twelve}
 use Rattle.cdef_trial.specs.Trial.{Ready}
 use Rattle.cdef_trial.specs.Strengths.{adjustedBy, twelveOf}
 
 -- adjusting never raises a strength
-weighed : (s l : ℕ) → l ≤ 12 → (s * (4 + l) + 8) / 2 ^ 4 ≤ s
-weighed s l h = let k : 4 + l ≤ 16 = omega arith in let r : s ≤ s = omega arith in omega (arith, mul-le-mul r k)
-
-capped : (b : Bool) (n : ℕ) → cond b 0 (min n 12) ≤ 12
-capped true n = omega arith
-capped false n = omega arith
-
-adjust-low : (s v : ℕ) → adjustPri s v ≤ s
-unfolding adjustPri
-adjust-low s v = go (eqb v 0)
-  where
-    go : (b : Bool) → cond b 0 ((s * (4 + cond (eqb (v >> 6) 0) 0 (min (FloorLog2 (v >> 6)) 12)) + 8) >> 4) ≤ s
-    go true = omega arith
-    go false = weighed s (cond (eqb (v >> 6) 0) 0 (min (FloorLog2 (v >> 6)) 12)) (capped (eqb (v >> 6) 0) (FloorLog2 (v >> 6)))
-
 pub adjusted-low : (way : TrialWay) (s : ℕ) → adjustedBy way s ≤ s
 unfolding adjustedBy
 adjusted-low (Luma var) s = adjust-low s var

@@ -1,14 +1,13 @@
 // Replays the stored answers of the Rust through the public calls: one file a call, one case a line.
 // Prints for each call how many cases there were, how many differ, and the line of the first that does.
-mod block_cases; // block_cases.rt: one case of each call on a block
-mod block_parts; // block_parts.rt: what the calls on a block share
-mod cases; // cases.rt: one case of each call on numbers
-mod distance_cases; // distance_cases.rt: one case of each distance
 mod pieces; // pieces.rt: a file in pieces
-mod trial_cases; // trial_cases.rt: one case of a trial
 
 ghost use Prim.Native.Nat.{_≤_};
 ghost use lib.ListN.{length};
+use stored_cases::block_cases;
+use stored_cases::cases;
+use stored_cases::distance_cases;
+use stored_cases::trial_cases;
 
 // How many cases there were, how many differ, and the line of the first that does.
 pub struct Tally {

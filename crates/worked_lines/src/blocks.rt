@@ -1,6 +1,5 @@
 // The lines on one block: its direction, and the block filter.
 ghost use Prim.Native.Nat.{_<_};
-use crate::print;
 use cdef_spec::Answer;
 use cdef_spec::Block;
 use cdef_spec::DirectionAnswer;

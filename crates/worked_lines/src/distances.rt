@@ -1,19 +1,10 @@
 // The lines on the distance of two blocks.
-use crate::print;
 use cdef_spec::DistanceAnswer;
-
-// A distance, which is never below 0.
-fn whole(d: i64) {
-    if d < 0 {
-        return;
-    }
-    print::number(d as u64);
-}
 
 fn answer(a: DistanceAnswer) {
     match a {
         DistanceAnswer::Distance(d) => {
-            whole(d);
+            print::whole(d);
             print::text(b"\n");
         }
         DistanceAnswer::NoDistance(n) => print::refused(n),

@@ -3,7 +3,6 @@
 mod blocks; // blocks.rt: lines on one block
 mod distances; // distances.rt: lines on two blocks
 mod numbers; // numbers.rt: lines on single numbers
-mod print; // print.rt: what a line is printed with
 
 fn main() {
     numbers::constrain_lines();

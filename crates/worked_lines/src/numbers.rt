@@ -1,5 +1,4 @@
 // The lines on single numbers.
-use crate::print;
 use cdef_spec::DampingAnswer;
 use cdef_spec::DifferenceAnswer;
 use cdef_spec::StrengthAnswer;

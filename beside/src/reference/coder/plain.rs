@@ -4,10 +4,27 @@ use super::{CdefMetric, Pool};
 use crate::cdef::CdefDispatch;
 use crate::rd_sse::RdDispatch;
 
-/// What the frame functions share. Width and height are luma's, multiples of 8;
-/// the lists have one entry a luma block, in rows.
-#[derive(Clone, Copy)]
-pub struct Frame<'a> {
+/// Lists with one entry a luma block, in rows, of the types that the Rust takes.
+#[derive(Clone)]
+pub struct Lists {
+    pub skip: Vec<bool>,
+    pub directions: Vec<usize>,
+    pub variances: Vec<i32>,
+}
+
+impl Lists {
+    pub fn new(skip: &[u8], directions: &[u8], variances: &[u32]) -> Self {
+        Lists {
+            skip: skip.iter().map(|&s| s != 0).collect(),
+            directions: directions.iter().map(|&d| d as usize).collect(),
+            variances: variances.iter().map(|&v| v as i32).collect(),
+        }
+    }
+}
+
+/// What the frame functions share. Width and height are luma's, multiples of 8.
+#[derive(Clone)]
+pub struct Frame {
     pub width: usize,
     pub height: usize,
     pub visible_width: usize,
@@ -16,12 +33,10 @@ pub struct Frame<'a> {
     pub sub_y: usize,
     pub depth: u8,
     pub signalled_damping: u8,
-    pub skip: &'a [u8],
-    pub directions: &'a [u8],
-    pub variances: &'a [u32],
+    pub lists: Lists,
 }
 
-impl Frame<'_> {
+impl Frame {
     pub fn block_columns(&self) -> usize {
         self.width.div_ceil(8)
     }
@@ -64,18 +79,6 @@ impl Frame<'_> {
 
     fn chroma_directions(&self) -> [usize; 8] {
         chroma_direction_map(self.sub_x, self.sub_y).map(usize::from)
-    }
-
-    fn skip_flags(&self) -> Vec<bool> {
-        self.skip.iter().map(|&s| s != 0).collect()
-    }
-
-    fn direction_list(&self) -> Vec<usize> {
-        self.directions.iter().map(|&d| d as usize).collect()
-    }
-
-    fn variance_list(&self) -> Vec<i32> {
-        self.variances.iter().map(|&v| v as i32).collect()
     }
 }
 
@@ -121,9 +124,9 @@ pub fn cdef_luma_unit_dists_all(f: &Frame, recon: &[u16], src: &[u16]) -> Vec<[i
         f.height,
         f.visible_width,
         f.visible_height,
-        &f.direction_list(),
-        &f.variance_list(),
-        &f.skip_flags(),
+        &f.lists.directions,
+        &f.lists.variances,
+        &f.lists.skip,
         f.block_columns(),
         f.unit_columns(),
         f.damping(),
@@ -144,9 +147,9 @@ pub fn cdef_chroma_unit_sse_all(f: &Frame, recon: &[u16], src: &[u16]) -> Vec<[i
         f.chroma_width(),
         visible_width,
         visible_height,
-        &f.direction_list(),
+        &f.lists.directions,
         &f.chroma_directions(),
-        &f.skip_flags(),
+        &f.lists.skip,
         f.block_columns(),
         f.block_rows(),
         f.unit_columns(),
@@ -168,9 +171,9 @@ pub fn cdef_luma_unit_dists(f: &Frame, recon: &[u16], src: &[u16], pri: u8, sec:
         f.height,
         f.visible_width,
         f.visible_height,
-        &f.direction_list(),
-        &f.variance_list(),
-        &f.skip_flags(),
+        &f.lists.directions,
+        &f.lists.variances,
+        &f.lists.skip,
         f.block_columns(),
         f.unit_columns(),
         f.units(),
@@ -192,9 +195,9 @@ pub fn cdef_chroma_unit_sse(f: &Frame, recon: &[u16], src: &[u16], pri: u8, sec:
         f.chroma_height(),
         visible_width,
         visible_height,
-        &f.direction_list(),
+        &f.lists.directions,
         &f.chroma_directions(),
-        &f.skip_flags(),
+        &f.lists.skip,
         f.block_columns(),
         f.block_rows(),
         f.unit_columns(),
@@ -219,9 +222,9 @@ pub fn apply_cdef_plane(f: &Frame, plane: &mut [u16], snapshot: &[u16], pairs: &
         snapshot,
         f.width,
         f.height,
-        &f.direction_list(),
-        &f.variance_list(),
-        &f.skip_flags(),
+        &f.lists.directions,
+        &f.lists.variances,
+        &f.lists.skip,
         f.block_columns(),
         f.unit_columns(),
         &pair_list(pairs),
@@ -238,9 +241,9 @@ pub fn apply_cdef_chroma(f: &Frame, plane: &mut [u16], snapshot: &[u16], pairs: 
         snapshot,
         f.chroma_width(),
         f.chroma_height(),
-        &f.direction_list(),
+        &f.lists.directions,
         &f.chroma_directions(),
-        &f.skip_flags(),
+        &f.lists.skip,
         f.block_columns(),
         f.block_columns(),
         f.block_rows(),

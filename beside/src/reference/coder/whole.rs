@@ -19,13 +19,12 @@ pub fn frame_cdef(
     planes: &mut [Vec<u16>; 3],
     original: &[Vec<u16>; 3],
 ) -> Option<Picked> {
-    let skip: Vec<bool> = f.skip.iter().map(|&s| s != 0).collect();
     let decision = super::frame_cdef(
         &CdefDispatch::scalar(),
         &RdDispatch,
         planes,
         original,
-        &skip,
+        &f.lists.skip,
         f.block_columns(),
         f.width,
         f.height,

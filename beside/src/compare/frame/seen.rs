@@ -1,0 +1,81 @@
+//! Which pictures were among the cases.
+
+use crate::seen::Seen;
+use support::frame::Size;
+use support::frame::drawn::{PAIRS, pair};
+use support::frame::stated::FrameCase;
+use support::planes::SIDE_MAX;
+use support::report::Tally;
+
+pub struct PictureSeen {
+    depths: Seen,
+    pairs: Seen,
+    dampings: Seen,
+    sides: Seen,
+    /// Pairs and dampings, of the calls that take them.
+    taken: [bool; 2],
+    pictures: usize,
+    cut: usize,
+}
+
+impl PictureSeen {
+    /// Of so many planes a picture.
+    pub fn new(kinds: usize) -> Self {
+        PictureSeen {
+            depths: Seen::new("depths of each layout", 5 * kinds),
+            pairs: Seen::new("pairs at each depth of each layout", 5 * kinds * PAIRS),
+            dampings: Seen::new("dampings, told in two ways", 8),
+            sides: Seen::new("sides of 4,096", 2),
+            taken: [false; 2],
+            pictures: 0,
+            cut: 0,
+        }
+    }
+
+    /// A case of the k-th plane, where it was taken.
+    pub fn see<C: FrameCase>(&mut self, c: &C, k: usize, number: u32) {
+        if number != 0 {
+            return;
+        }
+        let Size {
+            width,
+            height,
+            depth,
+        } = c.size();
+        let of_depth = 5 * k + usize::from(depth) - 8;
+        self.depths.see(of_depth);
+        for used in c.pairs() {
+            self.taken[0] = true;
+            let number = (0..PAIRS).position(|n| pair(n) == used);
+            self.pairs
+                .see(of_depth * PAIRS + number.unwrap_or(usize::MAX / PAIRS));
+        }
+        if let Some(d) = c.damping() {
+            self.taken[1] = true;
+            let way = usize::from(d.from_quality != 0);
+            self.dampings.see(4 * way + usize::from(d.in_force()) - 3);
+        }
+        if width == SIDE_MAX {
+            self.sides.see(0);
+        }
+        if height == SIDE_MAX {
+            self.sides.see(1);
+        }
+        self.pictures += 1;
+        let cut = |side: usize| side > 64 && !side.is_multiple_of(64);
+        self.cut += usize::from(cut(width) && cut(height));
+    }
+
+    /// Each of them is wanted, and a quarter of the pictures over 64 in both sides and cut.
+    pub fn check(&self, tally: &mut Tally) {
+        self.depths.check(tally);
+        self.sides.check(tally);
+        for (seen, taken) in [&self.pairs, &self.dampings].into_iter().zip(self.taken) {
+            if taken {
+                seen.check(tally);
+            }
+        }
+        let quarter = 4 * self.cut >= self.pictures;
+        tally.number("a quarter of cut pictures", i64::from(quarter), 1);
+    }
+}

@@ -1,0 +1,179 @@
+//! What the calls on whole pictures share: the picture and how a call is told its
+//! damping.
+
+pub mod applying;
+mod breaks;
+pub mod comparing;
+pub mod direction_pass;
+pub mod drawn;
+pub mod measuring;
+mod questions;
+pub mod stated;
+pub mod trying;
+
+use crate::joined;
+use crate::random::Random;
+use reference::{Frame, Lists};
+use std::fmt::{Display, Formatter, Result};
+
+/// Luma's sides, and the bit depth.
+#[derive(Clone, Copy, PartialEq)]
+pub struct Size {
+    pub width: usize,
+    pub height: usize,
+    pub depth: u8,
+}
+
+impl Size {
+    /// Blocks of 8 by 8.
+    pub fn blocks(&self) -> usize {
+        self.width / 8 * (self.height / 8)
+    }
+
+    /// Units of 64 by 64, cut ones too.
+    pub fn units(&self) -> usize {
+        self.width.div_ceil(64) * self.height.div_ceil(64)
+    }
+}
+
+/// Luma, or a chroma plane with its halving flags, across and down.
+#[derive(Clone, Copy, PartialEq)]
+pub enum Kind {
+    Luma,
+    Chroma { sx: u8, sy: u8 },
+}
+
+pub const LUMA: [Kind; 1] = [Kind::Luma];
+
+/// 4:4:4, 4:2:2, 4:4:0 and 4:2:0.
+pub const CHROMA: [Kind; 4] = [
+    Kind::Chroma { sx: 0, sy: 0 },
+    Kind::Chroma { sx: 1, sy: 0 },
+    Kind::Chroma { sx: 0, sy: 1 },
+    Kind::Chroma { sx: 1, sy: 1 },
+];
+
+impl Kind {
+    fn flags(&self) -> (u8, u8) {
+        match *self {
+            Kind::Luma => (0, 0),
+            Kind::Chroma { sx, sy } => (sx, sy),
+        }
+    }
+
+    /// 0 for luma, then a number for each layout.
+    pub fn number(&self) -> usize {
+        CHROMA.iter().position(|k| k == self).map_or(0, |k| k + 1)
+    }
+
+    /// The sides of the plane; flags are 0 or 1.
+    pub fn sides(&self, size: &Size) -> (usize, usize) {
+        let (sx, sy) = self.flags();
+        (size.width >> sx, size.height >> sy)
+    }
+}
+
+/// How a call is told its damping: where `from_quality` is 0 by the signalled figure,
+/// else by the quality index. The other one is not looked at.
+#[derive(Clone, Copy, PartialEq)]
+pub struct DampingChoice {
+    pub signalled: u8,
+    pub quality: u32,
+    pub from_quality: u8,
+}
+
+impl DampingChoice {
+    /// A figure of 3 to 6, told one way or the other.
+    pub fn random(figure: u8, r: &mut Random) -> Self {
+        let mut choice = DampingChoice {
+            signalled: figure,
+            quality: u32::from(figure - 3) * 64 + r.below(64) as u32,
+            from_quality: r.pick(&[0, 1, 2, 255]),
+        };
+        match (choice.from_quality, r.below(2)) {
+            (0, 0) => choice.quality = r.next() as u32,
+            (1.., 0) => choice.signalled = r.next() as u8,
+            _ => {}
+        }
+        choice
+    }
+
+    /// Of a choice that is taken.
+    pub fn in_force(&self) -> u8 {
+        if self.from_quality == 0 {
+            self.signalled
+        } else {
+            reference::cdef_damping(self.quality as u8)
+        }
+    }
+}
+
+/// What trying, measuring and applying share. The lists have one entry a block.
+#[derive(Clone, PartialEq)]
+pub struct Picture {
+    pub kind: Kind,
+    pub size: Size,
+    pub skip: Vec<u8>,
+    pub dirs: Vec<u8>,
+    /// Luma's; the chroma calls take none.
+    pub vars: Vec<u32>,
+    pub damping: DampingChoice,
+}
+
+impl Picture {
+    /// The samples of the plane.
+    pub fn samples(&self) -> usize {
+        let (width, height) = self.kind.sides(&self.size);
+        width * height
+    }
+
+    /// The places of the scratch: plane width by block height.
+    pub fn scratch(&self) -> usize {
+        (8 >> self.kind.flags().1) * self.kind.sides(&self.size).0
+    }
+
+    /// The same for the Rust.
+    pub fn frame(&self, (visible_width, visible_height): (usize, usize)) -> Frame {
+        let (sx, sy) = self.kind.flags();
+        Frame {
+            width: self.size.width,
+            height: self.size.height,
+            visible_width,
+            visible_height,
+            sub_x: sx.into(),
+            sub_y: sy.into(),
+            depth: self.size.depth,
+            signalled_damping: self.damping.in_force(),
+            lists: Lists::new(&self.skip, &self.dirs, &self.vars),
+        }
+    }
+}
+
+impl Display for Size {
+    fn fmt(&self, f: &mut Formatter) -> Result {
+        write!(f, "{} by {}, depth {}", self.width, self.height, self.depth)
+    }
+}
+
+impl Display for Picture {
+    fn fmt(&self, f: &mut Formatter) -> Result {
+        match self.kind {
+            Kind::Luma => write!(f, "luma of {}", self.size)?,
+            Kind::Chroma { sx, sy } => write!(f, "chroma {sx} {sy} of {}", self.size)?,
+        }
+        let d = &self.damping;
+        let told = [d.signalled.into(), d.quality, d.from_quality.into()];
+        write!(f, ", damping {}", joined(told))?;
+        show(f, "skip", &self.skip)?;
+        show(f, "dirs", &self.dirs)?;
+        show(f, "vars", &self.vars)
+    }
+}
+
+/// Writes a short list, or the length of a longer one.
+fn show<T: Display>(f: &mut Formatter, name: &str, list: &[T]) -> Result {
+    match list.len() {
+        0..=64 => write!(f, ", {name} [{}]", joined(list)),
+        more => write!(f, ", {more} {name}"),
+    }
+}

@@ -1,0 +1,99 @@
+//! Good cases of the calls on pictures, and broken ones with the number stated beside
+//! each.
+
+use super::drawn::Drawn;
+use super::{DampingChoice, Kind, Size};
+use crate::Case;
+use crate::planes::SIDE_MAX;
+use crate::random::Random;
+use crate::refusals::{Break, Stated, alone, broken};
+use std::slice::from_ref;
+
+/// A case of a call on a picture.
+pub trait FrameCase: Case + Clone + PartialEq + 'static {
+    /// Of a plane of a drawn picture; it is taken.
+    fn drawn(d: &Drawn, kind: Kind) -> Self;
+
+    /// Luma pictures made for the call.
+    fn edges(_: &mut Random) -> Vec<Self> {
+        Vec::new()
+    }
+
+    fn size(&self) -> Size;
+
+    /// For the calls that take it.
+    fn damping(&self) -> Option<DampingChoice> {
+        None
+    }
+
+    /// The units' pairs, or the one for all units.
+    fn pairs(&self) -> Vec<(u8, u8)> {
+        Vec::new()
+    }
+
+    /// Each question's no, to be made alone and in twos.
+    fn breaks(kind: Kind) -> Vec<Break<Self>>;
+
+    /// Each place of each list, to be made alone; where it is taken the number is 0.
+    fn scans(&self) -> Vec<Break<Self>>;
+
+    /// One sample somewhere is out of range.
+    fn spoil_sample(&mut self, r: &mut Random);
+}
+
+/// Luma's sides and depth, of which good cases are made.
+const GOOD: [(usize, usize, u8); 4] = [(72, 8, 10), (8, 8, 8), (8, 72, 12), (24, 24, 9)];
+
+/// Sides at their limits, and an empty picture of depth 7.
+const LIMITS: [(u32, usize, usize, u8); 11] = [
+    (0, SIDE_MAX, 8, 8),
+    (0, 8, SIDE_MAX, 12),
+    (2, SIDE_MAX + 8, 8, 8),
+    (2, 8, SIDE_MAX + 8, 8),
+    (2, SIDE_MAX + 1, 8, 8),
+    (2, 12, 8, 8),
+    (2, 8, 9, 8),
+    (2, 0, 8, 8),
+    (2, 8, 0, 8),
+    (2, 0, 0, 8),
+    (1, 0, 0, 7),
+];
+
+/// A case of those sides, whose lists and planes fit.
+fn fitting<C: FrameCase>(k: usize, (width, height, depth): (usize, usize, u8), kind: Kind) -> C {
+    let size = Size {
+        width,
+        height,
+        depth,
+    };
+    let drawn = Drawn::new(k, size, k as u64).whole();
+    C::drawn(&drawn, kind)
+}
+
+/// The limits; good cases, broken ones, and scans of the lists and planes.
+pub fn stated<C: FrameCase>(kinds: &[Kind]) -> impl Iterator<Item = Stated<C>> {
+    let kind = |k: usize| kinds[k % kinds.len()];
+    let limits = LIMITS.iter().enumerate();
+    let limits = limits.map(move |(k, &(number, width, height, depth))| {
+        (number, fitting(k, (width, height, depth), kind(k)))
+    });
+    let asked = GOOD.iter().enumerate().flat_map(move |(k, &size)| {
+        let good: C = fitting(k, size, kind(k));
+        let mut list = broken(from_ref(&good), &C::breaks(kind(k)));
+        list.extend(alone(&good, &good.scans()));
+        list
+    });
+    limits.chain(asked)
+}
+
+/// A small picture on which up to three of the breaks were made, in any order.
+pub fn any<C: FrameCase>(r: &mut Random, number: usize, kind: Kind, breaks: &[Break<C>]) -> C {
+    let mut c = C::drawn(&Drawn::small(number, r), kind);
+    for _ in 0..r.below(4) {
+        breaks[r.below(breaks.len() as u64) as usize].make(&mut c);
+    }
+    if r.below(3) == 0 {
+        c.spoil_sample(r);
+    }
+    c
+}

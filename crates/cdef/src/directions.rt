@@ -1,0 +1,26 @@
+// The call for the direction pass.
+ghost use mathlib.Core.Path.{_≡_};
+ghost use Rattle.cdef_spec.specs.Answers.{readAnswer};
+ghost use Rattle.cdef_spec.specs.FrameCalls.{directionPassOutcome};
+use cdef_spec::Answer;
+
+// The direction and the variance of each 8 by 8 block of a luma plane.
+pub fn direction_pass(
+    dirs: &mut [u8],
+    vars: &mut [u32],
+    plane: &[u16],
+    width: usize,
+    height: usize,
+    depth: u8,
+) -> Answer
+    ensures { λ r. ⌜ readAnswer r ≡ (directionPassOutcome (record { samples = now (plane .entry); width = width; height = height }) depth (now (dirs .entry)) (now (vars .entry))) .answer ⌝ }
+    ensures { λ _. ⌜ now (dirs .exit) ≡ (directionPassOutcome (record { samples = now (plane .entry); width = width; height = height }) depth (now (dirs .entry)) (now (vars .entry))) .dirs ⌝ }
+    ensures { λ _. ⌜ now (vars .exit) ≡ (directionPassOutcome (record { samples = now (plane .entry); width = width; height = height }) depth (now (dirs .entry)) (now (vars .entry))) .vars ⌝ }
+{
+    let no = cdef_frame_asked::calls::direction_pass_no(plane, width, height, depth, dirs, vars);
+    if no != 0 {
+        return Answer::Refused(no);
+    }
+    cdef_pass::direction_pass(dirs, vars, plane, width, height, depth);
+    Answer::Done
+}

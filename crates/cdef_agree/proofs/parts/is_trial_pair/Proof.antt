@@ -1,0 +1,22 @@
+-- `cdef_agree::is_trial_pair` meets its contract.
+use mathlib.Core.Path.{_≡_, refl, sym, ap, _∙_}
+use Prim.Native.Nat.{ℕ, _+_, _-_, _*_, _≤_, _<_}
+use native.Mathlib.Omega.{arith}
+use borrow.Author.Needs.{needs}
+use Rattle.cdef_agree.specs.PartLaws.{no-secondary, primary-four, primary-low}
+use Rattle.cdef_agree.proofs.parts.is_trial_pair.Statement.{statement}
+use Rattle.cdef_agree.proofs.parts.is_trial_pair.Tie as tie
+use Rattle.cdef_agree.proofs.parts.is_trial_pair.Reads as reads
+use Rattle.cdef_agree.proofs.parts.is_trial_pair.Lts as lts
+
+returns : tie.Need-returns
+returns c = let a = c .before .args in no-secondary (a .primary) (a .secondary) (c .if1 .taken)
+
+returns-2 : tie.Need-returns-2
+returns-2 c = let a = c .before .before .args in primary-four (a .primary) (a .secondary) (omega (arith, c .before .if1 .left)) (c .if2 .taken)
+
+returns-3 : tie.Need-returns-3
+returns-3 c = let a = c .before .before .args in primary-low (a .primary) (a .secondary) (omega (arith, c .before .if1 .left)) (c .if2 .left)
+
+pub is-trial-pair-spec : {M : Type 1} → statement M
+is-trial-pair-spec = tie.close (tie.spec returns returns-2 returns-3)

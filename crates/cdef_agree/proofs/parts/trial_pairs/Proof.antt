@@ -1,0 +1,67 @@
+-- `cdef_agree::trial_pairs` meets its contract.
+use mathlib.Core.Path.{_≡_, refl, sym, ap, _∙_}
+use Prim.Native.Nat.{ℕ, _+_, _-_, _*_, _≤_, _<_}
+use native.Mathlib.Omega.{arith}
+use borrow.Author.Needs.{needs}
+use lib.ListN.{getD, length}
+use Rattle.cdef_spec.specs.Words.{every}
+use Rattle.cdef_spec.specs.Document01.{isTrialPair}
+use Rattle.cdef_agree.specs.Agree.{trialPairs}
+use Rattle.cdef_agree.specs.PartLaws.{every-none, every-more}
+use Rattle.cdef_agree.proofs.parts.trial_pairs.Statement.{statement}
+use Rattle.cdef_agree.proofs.parts.trial_pairs.Tie as tie
+use Rattle.cdef_agree.proofs.parts.trial_pairs.Reads as reads
+use Rattle.cdef_agree.proofs.parts.trial_pairs.Lts as lts
+use Rattle.cdef_agree.proofs.parts.at_or_zero.Reads as at-or-zero-reads
+use Rattle.cdef_agree.proofs.parts.both.Reads as both-reads
+use Rattle.cdef_agree.proofs.parts.is_trial_pair.Reads as is-trial-pair-reads
+
+abbrev Inv-loop : tie.InvT-loop
+Inv-loop pris secs all₀ u₀ u-end all u = (all ≡ every u (λ u. isTrialPair (record { primary = getD pris u 0; secondary = getD secs u 0 }))) × (u ≤ length pris) × (u-end ≡ length pris)
+
+abbrev μ-loop : tie.MeasureT-loop
+μ-loop pris secs all₀ u₀ u-end all u = length pris - u
+
+loop-holds : tie.Need-loop-holds Inv-loop μ-loop
+loop-holds c = (every-none _, omega arith, refl)
+
+shared-slice-read-is-trial-pair : tie.Need-shared-slice-read-is-trial-pair Inv-loop μ-loop
+shared-slice-read-is-trial-pair c = omega arith
+
+at-or-zero-requires : tie.Need-at-or-zero-requires Inv-loop μ-loop
+at-or-zero-requires c κs = search needs
+
+is-trial-pair-requires : tie.Need-is-trial-pair-requires Inv-loop μ-loop
+is-trial-pair-requires c κs = search needs
+
+both-requires : tie.Need-both-requires Inv-loop μ-loop
+both-requires c κs = search needs
+
+add-u : tie.Need-add-u Inv-loop μ-loop
+add-u c = omega arith
+
+loop-less : tie.Need-loop-less Inv-loop μ-loop
+loop-less c = omega arith
+
+loop-again : tie.Need-loop-again Inv-loop μ-loop
+loop-again c = let p = c .before .before .before .before .before in (every-more _ _ _ _ _ (p .loop .inv .0) (c .before .is-trial-pair .ensures ∙ rw (c .before .before .at-or-zero .ensures)) (c .both .ensures), omega arith, p .loop .inv .2)
+
+returns : tie.Need-returns Inv-loop μ-loop
+unfolding trialPairs
+returns c = let p = c .before in let a = p .before .before .before .args in let e : p .loop .u ≡ length (a .pris .now) = omega arith in p .loop .inv .0 ∙ ap (λ (n : ℕ). every n (λ u. isTrialPair (record { primary = getD (a .pris .now) u 0; secondary = getD (a .secs .now) u 0 }))) e
+
+pub trial-pairs-spec : {M : Type 1} → statement M
+trial-pairs-spec =
+    tie.close
+    (tie.spec
+    Inv-loop
+    μ-loop
+    loop-holds
+    shared-slice-read-is-trial-pair
+    at-or-zero-requires
+    is-trial-pair-requires
+    both-requires
+    add-u
+    loop-less
+    loop-again
+    returns)

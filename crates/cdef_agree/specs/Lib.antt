@@ -1,0 +1,7 @@
+-- What comes of the three calls.
+pub mod Agree
+-- The totals agree.
+pub mod AgreeLaws
+pub mod WayLaws
+-- Laws of the parts between the calls.
+pub mod PartLaws

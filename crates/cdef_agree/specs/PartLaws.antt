@@ -1,0 +1,73 @@
+-- Laws of what is done between the calls.
+use mathlib.Core.Path.{_≡_, refl, sym, ap, _∙_}
+use mathlib.Core.Bool.{Bool, true, false, cond, _&&_, _||_}
+use mathlib.Core.List.{List, [], _∷_}
+use Prim.Native.Nat.{ℕ, zero, suc, _+_, _≤_, _<_}
+use native.Mathlib.Numerals.{add-one}
+use native.Mathlib.Omega.{arith}
+use borrow.Author.Tests.{eq-eqb, ne-eqb, lt-leb}
+use lib.Dec.{leb, ltb, eqb}
+use lib.ListN.{getD, length}
+use lib.Seq.{ext-getD}
+use Rattle.cdef_spec.specs.Words.{every}
+use Rattle.cdef_spec.specs.Document01.{primaries, secondaries, oneOf, isTrialPair}
+use Rattle.cdef_sample.specs.Upto.{upto, length-upto, getD-upto}
+use Rattle.cdef_agree.specs.Agree.{copied}
+
+-- ---- a pair of the twelve
+
+and-off : (a : Bool) → a && false ≡ false
+and-off true = refl
+and-off false = refl
+
+module _ (p s : ℕ) where
+  abbrev test : Bool
+  test = isTrialPair (record { primary = p; secondary = s })
+
+  pub no-secondary : 2 < s → false ≡ test
+  unfolding isTrialPair oneOf secondaries
+  no-secondary h = rw (ne-eqb s 0 (λ e. omega arith), ne-eqb s 1 (λ e. omega arith), ne-eqb s 2 (λ e. omega arith)) (sym (and-off (oneOf p primaries)))
+
+  second-on : s ≤ 2 → oneOf s secondaries ≡ true
+  unfolding oneOf secondaries
+  second-on h = go s h
+    where
+      go : (n : ℕ) → n ≤ 2 → eqb n 0 || (eqb n 1 || (eqb n 2 || false)) ≡ true
+      go zero h = refl
+      go (suc zero) h = refl
+      go (suc (suc zero)) h = refl
+      go (suc (suc (suc n))) h = absurd (omega arith)
+
+  pub primary-four : s ≤ 2 → p ≡ 4 → true ≡ test
+  unfolding isTrialPair oneOf primaries
+  primary-four h e = rw (e, second-on h)
+
+  pub primary-low : s ≤ 2 → (p ≡ 4 → ⊥) → leb p 2 ≡ test
+  unfolding isTrialPair oneOf primaries
+  primary-low h n = rw (second-on h, ne-eqb p 4 n) (go p)
+    where
+      go : (k : ℕ) → leb k 2 ≡ (eqb k 0 || (eqb k 1 || (eqb k 2 || (false || false)))) && true
+      go zero = refl
+      go (suc zero) = refl
+      go (suc (suc zero)) = refl
+      go (suc (suc (suc k))) = rw (lt-leb (suc (suc (suc k))) 2 (omega arith), ne-eqb (suc (suc (suc k))) 0 (λ e. omega arith), ne-eqb (suc (suc (suc k))) 1 (λ e. omega arith), ne-eqb (suc (suc (suc k))) 2 (λ e. omega arith))
+
+-- ---- tests in a row
+
+pub every-none : (f : ℕ → Bool) → true ≡ every 0 f
+unfolding every
+every-none f = refl
+
+pub every-more : (f : ℕ → Bool) (n : ℕ) (a b r : Bool) → a ≡ every n f → b ≡ f n → r ≡ a && b → r ≡ every (n + 1) f
+unfolding every
+every-more f n a b r e g h = rw (add-one n, ← e, ← g) h
+
+-- ---- the copy
+
+pub not-copied : (s d : List ℕ) → (length d ≡ length s → ⊥) → d ≡ copied s d
+unfolding copied
+not-copied s d h = rw (ne-eqb (length d) (length s) h)
+
+pub copy-done : (s d l : List ℕ) → length d ≡ length s → l ≡ upto (λ (k : ℕ). getD s k 0) (length s) → l ≡ copied s d
+unfolding copied
+copy-done s d l e f = rw (eq-eqb (length d) (length s) e) (f ∙ ext-getD 0 _ _ (length-upto _ (length s)) (λ k h. getD-upto _ (length s) k 0 (omega (arith, length-upto (λ (k : ℕ). getD s k 0) (length s)))))

@@ -1,0 +1,13 @@
+// Trying, applying and measuring, one call after the other, and the agreement of their totals.
+pub mod chroma; // chroma.rt: in a chroma plane
+pub mod luma; // luma.rt: in luma
+pub mod parts; // parts.rt: the test of the pairs, the copy of the snapshot
+
+// What comes of it: the totals agree; or a pair is none of the twelve; or a call says no, and which question.
+pub enum Agreement {
+    Agreed,
+    NotTrialPairs,
+    TryingRefused(u8),
+    ApplyingRefused(u8),
+    MeasuringRefused(u8),
+}

@@ -1,0 +1,75 @@
+// What is done between the calls.
+ghost use mathlib.Core.Path.{_≡_};
+ghost use mathlib.Core.Bool.{_&&_};
+ghost use lib.ListN.{getD};
+ghost use Rattle.cdef_spec.specs.Document01.{isTrialPair};
+ghost use Rattle.cdef_spec.specs.Answers.{numberOf, readAnswer};
+ghost use Rattle.cdef_agree.specs.Agree.{trialPairs, copied};
+use cdef_spec::Answer;
+
+// Document 01's number of an answer.
+pub fn number(answer: Answer) -> u8
+    ensures { λ r. ⌜ r ≡ numberOf (readAnswer answer) ⌝ }
+{
+    match answer {
+        Answer::Done => 0,
+        Answer::Refused(n) => n,
+    }
+}
+
+// Is a pair one of the twelve?
+fn is_trial_pair(primary: u8, secondary: u8) -> bool
+    ensures { λ r. ⌜ r ≡ isTrialPair (record { primary = primary; secondary = secondary }) ⌝ }
+{
+    if 2 < secondary {
+        return false;
+    }
+    if primary == 4 {
+        return true;
+    }
+    primary <= 2
+}
+
+// A list's number at a place, 0 past its end.
+fn at_or_zero(list: &[u8], k: usize) -> u8
+    ensures { λ r. ⌜ r ≡ getD (now (list .entry)) k 0 ⌝ }
+{
+    if k < list.len() {
+        return list[k];
+    }
+    0
+}
+
+// Do both hold?
+fn both(a: bool, b: bool) -> bool
+    ensures { λ r. ⌜ r ≡ a && b ⌝ }
+{
+    if a {
+        return b;
+    }
+    false
+}
+
+// Is each unit's pair one of the twelve?
+pub fn trial_pairs(pris: &[u8], secs: &[u8]) -> bool
+    ensures { λ r. ⌜ r ≡ trialPairs (now (pris .entry)) (now (secs .entry)) ⌝ }
+{
+    let mut all = true;
+    for u in 0..pris.len() {
+        let this = is_trial_pair(pris[u], at_or_zero(secs, u));
+        all = both(all, this);
+    }
+    all
+}
+
+// Copies the snapshot into a destination of its length; one of another length is left as it is.
+pub fn copy(dst: &mut [u16], snapshot: &[u16])
+    ensures { λ _. ⌜ now (dst .exit) ≡ copied (now (snapshot .entry)) (now (dst .entry)) ⌝ }
+{
+    if dst.len() != snapshot.len() {
+        return;
+    }
+    for k in 0..dst.len() {
+        dst[k] = snapshot[k];
+    }
+}

@@ -1,0 +1,17 @@
+-- `cdef_apply::is_off` meets its contract.
+use native.Mathlib.Omega.{arith}
+use borrow.Author.Needs.{needs}
+use borrow.Author.Tests.{eq-eqb, ne-eqb}
+use Rattle.cdef_apply.proofs.block.is_off.Statement.{statement}
+use Rattle.cdef_apply.proofs.block.is_off.Tie as tie
+use Rattle.cdef_apply.proofs.block.is_off.Reads as reads
+use Rattle.cdef_apply.proofs.block.is_off.Lts as lts
+
+returns : tie.Need-returns
+returns c = rw (ne-eqb _ 0 (c .if1 .taken))
+
+returns-2 : tie.Need-returns-2
+returns-2 c = rw (eq-eqb _ 0 (c .before .if1 .left))
+
+pub is-off-spec : {M : Type 1} → statement M
+is-off-spec = tie.close (tie.spec returns returns-2)

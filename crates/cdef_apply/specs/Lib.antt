@@ -1,0 +1,4 @@
+-- What applying leaves block by block, and its laws.
+pub mod Apply
+pub mod ApplyLaws
+pub mod FilterLaws

@@ -1,0 +1,33 @@
+-- `cdef_c::quern_apply_chroma` meets its contract.
+use mathlib.Core.Path.{_≡_, refl, sym, ap, _∙_}
+use Prim.Native.Nat.{ℕ, _+_, _-_, _*_, _≤_, _<_}
+use native.Mathlib.Omega.{arith}
+use borrow.Author.Needs.{needs}
+use Rattle.cdef_spec.specs.Answers.{numberOf}
+use borrow.Author.Needs.{needs}
+use Rattle.cdef_c.proofs.applying.quern_apply_chroma.Statement.{statement}
+use Rattle.cdef_c.proofs.applying.quern_apply_chroma.Tie as tie
+use Rattle.cdef_c.proofs.applying.quern_apply_chroma.Reads as reads
+use Rattle.cdef_c.proofs.applying.quern_apply_chroma.Lts as lts
+use Rattle.cdef.proofs.applying.apply_chroma.Reads as apply-chroma-reads
+use Rattle.cdef_c.proofs.answer.number.Reads as number-reads
+use Rattle.cdef_c.proofs.choice.choice.Reads as choice-reads
+
+choice-requires : tie.Need-choice-requires
+choice-requires c κs = search needs
+
+apply-chroma-requires : tie.Need-apply-chroma-requires
+apply-chroma-requires c κs = search needs
+
+number-requires : tie.Need-number-requires
+number-requires c κs = search needs
+
+same-length : tie.Need-same-length
+same-length c = search needs
+
+returns : tie.Need-returns
+returns c = rw (← (c .before .before .before .before .before .choice .ensures)) (c .number .ensures ∙ ap numberOf (c .before .before .before .apply-chroma .ensures .0), c .before .before .before .apply-chroma .ensures .1)
+
+pub quern-apply-chroma-spec : {M : Type 1} → statement M
+quern-apply-chroma-spec =
+    tie.close (tie.spec choice-requires apply-chroma-requires number-requires same-length returns)

@@ -1,0 +1,82 @@
+// The calls for applying; bare numbers become a damping here alone.
+ghost use mathlib.Core.Path.{_≡_};
+ghost use Rattle.cdef_spec.specs.Answers.{numberOf};
+ghost use Rattle.cdef_spec.specs.Picture.{lumaPicture, chromaPicture};
+ghost use Rattle.cdef_spec.specs.FrameCalls.{applyingListsOutcome};
+ghost use Rattle.cdef_c.specs.Values.{choiceOf};
+use crate::answer;
+use crate::choice;
+
+// Applying in luma: a primary and a secondary strength a unit.
+#[no_mangle]
+pub extern "C" fn quern_apply_luma(
+    dst: &mut [u16],
+    snapshot: &[u16],
+    width: usize,
+    height: usize,
+    depth: u8,
+    skip: &[u8],
+    dirs: &[u8],
+    vars: &[u32],
+    pris: &[u8],
+    secs: &[u8],
+    damping: u8,
+    quality: u32,
+    from_quality: u8,
+) -> u32
+    ensures { λ r. ⌜ r ≡ numberOf ((applyingListsOutcome (lumaPicture depth width height (now (skip .entry)) (now (dirs .entry)) (now (vars .entry))) (choiceOf damping quality «from_quality») (now (snapshot .entry)) (now (pris .entry)) (now (secs .entry)) (now (dst .entry))) .answer) ⌝ }
+    ensures { λ _. ⌜ now (dst .exit) ≡ (applyingListsOutcome (lumaPicture depth width height (now (skip .entry)) (now (dirs .entry)) (now (vars .entry))) (choiceOf damping quality «from_quality») (now (snapshot .entry)) (now (pris .entry)) (now (secs .entry)) (now (dst .entry))) .plane ⌝ }
+{
+    let d = choice::choice(damping, quality, from_quality);
+    answer::number(cdef::applying::apply_luma(
+        dst,
+        snapshot,
+        width,
+        height,
+        depth,
+        skip,
+        dirs,
+        vars,
+        pris,
+        secs,
+        d,
+    ))
+}
+
+// Applying in a chroma plane: a primary and a secondary strength a unit.
+#[no_mangle]
+pub extern "C" fn quern_apply_chroma(
+    dst: &mut [u16],
+    snapshot: &[u16],
+    width: usize,
+    height: usize,
+    sx: u8,
+    sy: u8,
+    depth: u8,
+    skip: &[u8],
+    dirs: &[u8],
+    pris: &[u8],
+    secs: &[u8],
+    damping: u8,
+    quality: u32,
+    from_quality: u8,
+) -> u32
+    ensures { λ r. ⌜ r ≡ numberOf ((applyingListsOutcome (chromaPicture depth width height sx sy (now (skip .entry)) (now (dirs .entry))) (choiceOf damping quality «from_quality») (now (snapshot .entry)) (now (pris .entry)) (now (secs .entry)) (now (dst .entry))) .answer) ⌝ }
+    ensures { λ _. ⌜ now (dst .exit) ≡ (applyingListsOutcome (chromaPicture depth width height sx sy (now (skip .entry)) (now (dirs .entry))) (choiceOf damping quality «from_quality») (now (snapshot .entry)) (now (pris .entry)) (now (secs .entry)) (now (dst .entry))) .plane ⌝ }
+{
+    let d = choice::choice(damping, quality, from_quality);
+    answer::number(cdef::applying::apply_chroma(
+        dst,
+        snapshot,
+        width,
+        height,
+        sx,
+        sy,
+        depth,
+        skip,
+        dirs,
+        pris,
+        secs,
+        d,
+    ))
+}

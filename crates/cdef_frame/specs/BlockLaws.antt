@@ -1,0 +1,95 @@
+-- A block of a lent plane: where it lies, and what it and its window hold.
+use mathlib.Core.Path.{_≡_, refl, _∙_}
+use mathlib.Core.Bool.{Bool, true, false, cond, _&&_}
+use mathlib.Core.List.{List}
+use Prim.Native.Nat.{ℕ, _+_, _-_, _*_, _/_, _%_, _≤_, _<_}
+use native.Mathlib.Nat.{mul-le-mul-right, div-le-self}
+use native.Mathlib.Omega.{arith}
+use lib.Arith.{digits-lt}
+use lib.Dec.{leb, ltb}
+use lib.ListN.{getD}
+use lib.Pow.{pow-mono}
+use Rattle.cdef_spec.specs.declared.Block.{Block}
+use Rattle.cdef_spec.specs.Picture.{planeWidth, planeHeight, blockWidth, blockHeight}
+use Rattle.cdef_spec.specs.Document01.{Plane}
+use Rattle.cdef_spec.specs.CodeForm.{sampleAt}
+use Rattle.cdef_spec.specs.GeometryLaws.{sides-on}
+use Rattle.cdef_sample.specs.Bounds.{Held}
+use Rattle.cdef_sample.specs.Upto.{upto, upto-all-of}
+use Rattle.cdef_window.specs.Window.{planeOf, windowAt}
+use Rattle.cdef_window.specs.Spans.{InPlane}
+use Rattle.cdef_frame.specs.declared.Frame.{Frame}
+use Rattle.cdef_frame.specs.Frame.{Shaped, pictureOf, blockOf}
+use Rattle.cdef_frame.specs.FrameLaws.{side-facts, width-is, height-is, block-width-is, block-height-is, flags-taken, tiles}
+use Rattle.cdef_frame.specs.Lent.{blocksOf, Sampled}
+
+halves : (n s : ℕ) → n / (1 + s) ≤ n
+halves n s = div-le-self n (1 + s)
+
+module _ (f : Frame) (h : Shaped f) (s d vs : List ℕ) where
+  -- the plane's sides are at most 4,096, the block's at most 8 and not 0
+  pub plane-wide : planeWidth (pictureOf f s d vs) ≤ 4096
+  plane-wide = rw (width-is f h s d vs) (omega (arith, halves (f .width) (f .sx), side-facts (f .width) (h .wide) .1))
+
+  pub plane-high : planeHeight (pictureOf f s d vs) ≤ 4096
+  plane-high = rw (height-is f h s d vs) (omega (arith, halves (f .height) (f .sy), side-facts (f .height) (h .high) .1))
+
+  pub block-wide : (0 < blockWidth (pictureOf f s d vs)) × (blockWidth (pictureOf f s d vs) ≤ 8)
+  unfolding pictureOf
+  block-wide = (sides-on (pictureOf f s d vs) (flags-taken f h s d vs) .0, rw (block-width-is f h s d vs) (halves 8 (f .sx)))
+
+  pub block-high : (0 < blockHeight (pictureOf f s d vs)) × (blockHeight (pictureOf f s d vs) ≤ 8)
+  unfolding pictureOf
+  block-high = (sides-on (pictureOf f s d vs) (flags-taken f h s d vs) .1, rw (block-height-is f h s d vs) (halves 8 (f .sy)))
+
+  module _ (by bx : ℕ) (hy : by < f .height / 8) (hx : bx < f .width / 8) where
+    -- the block lies in the plane whole
+    pub cols-in : bx * blockWidth (pictureOf f s d vs) + blockWidth (pictureOf f s d vs) ≤ planeWidth (pictureOf f s d vs)
+    cols-in = rw (tiles f h s d vs .wide) (unfold pictureOf in omega (arith, mul-le-mul-right (blockWidth (pictureOf f s d vs)) hx))
+
+    pub rows-in : by * blockHeight (pictureOf f s d vs) + blockHeight (pictureOf f s d vs) ≤ planeHeight (pictureOf f s d vs)
+    rows-in = rw (tiles f h s d vs .high) (unfold pictureOf in omega (arith, mul-le-mul-right (blockHeight (pictureOf f s d vs)) hy))
+
+    -- its number, and the counts that loops run to
+    pub number-low : by * (f .width / 8) + bx < blocksOf f
+    number-low = digits-lt {q = by} {m = f .height / 8} {r = bx} {c = f .width / 8} hy hx
+
+    pub counts-low : (by ≤ 512) × (bx ≤ 512)
+    counts-low = (omega (arith, side-facts (f .height) (h .high) .1, hy), omega (arith, side-facts (f .width) (h .wide) .1, hx))
+
+    -- as the window and the filter ask it
+    pub block-in : (l : List ℕ) → Sampled f l → InPlane l (planeWidth (pictureOf f s d vs)) (planeHeight (pictureOf f s d vs)) (blockOf (pictureOf f s d vs) by bx)
+    unfolding blockOf
+    block-in l g = record {
+      full = g .long ∙ rw (width-is f h s d vs, height-is f h s d vs);
+      wide = plane-wide;
+      high = plane-high;
+      x-in = omega (arith, cols-in, block-wide .0);
+      y-in = omega (arith, rows-in, block-high .0);
+      bw = block-wide .1;
+      bh = block-high .1;
+    }
+
+-- a sample, or the mark
+module _ (f : Frame) (h : Shaped f) (l : List ℕ) (g : Sampled f l) where
+  pub sample-low : (k : ℕ) → getD l k 0 < 4096
+  sample-low k = omega (arith, g .low k, pow-mono {i = f .depth} {j = 12} (h .flat))
+
+  placed : (p : Plane) → p .samples ≡ l → (r c : ℕ) → sampleAt p r c ≤ 16384
+  unfolding sampleAt
+  placed p e r c = rw e (go (leb 2 r && (ltb r (p .height + 2) && (leb 2 c && ltb c (p .width + 2)))) ((r - 2) * p .width + (c - 2)))
+    where
+      go : (b : Bool) (k : ℕ) → cond b (getD l k 0) 16384 ≤ 16384
+      go true k = omega (arith, sample-low k)
+      go false k = omega arith
+
+  entry-low : (w m : ℕ) (b : Block) (k : ℕ) → windowAt (planeOf l w m) b k ≤ 16384
+  unfolding windowAt
+  entry-low w m b k = go (ltb (k / 12) (b .height + 4) && ltb (k % 12) (b .width + 4)) (sampleAt (planeOf l w m) (b .y + k / 12) (b .x + k % 12)) (placed (planeOf l w m) refl (b .y + k / 12) (b .x + k % 12))
+    where
+      go : (t : Bool) (n : ℕ) → n ≤ 16384 → cond t n 16384 ≤ 16384
+      go true n h = h
+      go false n h = omega arith
+
+  pub window-low : (w m : ℕ) (b : Block) → Held (upto (windowAt (planeOf l w m) b) 144)
+  window-low w m b = record { all = upto-all-of (λ (v : ℕ). v ≤ 16384) (windowAt (planeOf l w m) b) 144 0 (entry-low w m b) (omega arith) }

@@ -1,0 +1,8 @@
+-- A plane of a picture, as the cores are handed it.
+pub mod Frame
+-- What the cores require.
+pub mod Lent
+-- Laws of its picture.
+pub mod FrameLaws
+pub mod CountedLaws
+pub mod BlockLaws

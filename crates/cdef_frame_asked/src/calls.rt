@@ -1,0 +1,183 @@
+// The questions of each frame call, in order: the number of the first no, or 0.
+ghost use mathlib.Core.Path.{_≡_};
+ghost use mathlib.Core.Bool.{true, _&&_};
+ghost use mathlib.Core.List.{List};
+ghost use Prim.Native.Nat.{ℕ, _*_};
+ghost use lib.Dec.{eqb};
+ghost use lib.ListN.{length};
+ghost use Rattle.cdef_spec.specs.Picture.{units};
+ghost use Rattle.cdef_spec.specs.Questions.{visibleTaken, allTaken, primaryTaken, secondaryTaken};
+ghost use Rattle.cdef_spec.specs.FrameCalls.{directionPassNo, tryingNo, measuringNo, applyingListsNo, scratchLength};
+ghost use Rattle.cdef_frame.specs.Frame.{Shaped, pictureOf};
+use crate::lists;
+use crate::picture;
+use cdef_frame::Frame;
+use cdef_spec::DampingChoice;
+use cdef_spec::UnitPair;
+use cdef_spec::Visible;
+
+// The direction pass: 1, 2, 4, 7 and 9.
+pub fn direction_pass_no(
+    plane: &[u16],
+    width: usize,
+    height: usize,
+    depth: u8,
+    dirs: &[u8],
+    vars: &[u32],
+) -> u8
+    ensures { λ r. ⌜ r ≡ directionPassNo (record { samples = now (plane .entry); width = width; height = height }) depth (now (dirs .entry)) (now (vars .entry)) ⌝ }
+{
+    let no = picture::sides_no(depth, width, height);
+    if no != 0 {
+        return no;
+    }
+    if plane.len() != width * height {
+        return 4;
+    }
+    if dirs.len() != height / 8 * (width / 8) {
+        return 7;
+    }
+    if vars.len() != height / 8 * (width / 8) {
+        return 7;
+    }
+    if !lists::samples_below(plane, depth) {
+        return 9;
+    }
+    0
+}
+
+// Trying, 7: twelve totals a unit, and the visible size.
+fn trying_listed(f: Frame, v: Visible, totals: &[i64]) -> bool
+    requires { ⌜ Shaped f ⌝ }
+    ensures { λ r. ⌜ ((s d vs : List ℕ) → r ≡ eqb (length (now (totals .entry))) (12 * units (pictureOf f s d vs)) && visibleTaken (pictureOf f s d vs) v) ⌝ }
+{
+    if totals.len() != 12 * picture::units(f) {
+        return false;
+    }
+    picture::visible_taken(f, v)
+}
+
+// Trying, the questions of two planes.
+pub fn trying_no(
+    f: Frame,
+    damping: DampingChoice,
+    v: Visible,
+    snapshot: &[u16],
+    original: &[u16],
+    skip: &[u8],
+    dirs: &[u8],
+    vars: &[u32],
+    totals: &[i64],
+) -> u8
+    requires { ⌜ (f .luma ≡ true → (f .sx ≡ 0) × (f .sy ≡ 0)) ⌝ }
+    ensures { λ r. ⌜ r ≡ tryingNo (pictureOf f (now (skip .entry)) (now (dirs .entry)) (now (vars .entry))) damping v (now (snapshot .entry)) (now (original .entry)) (now (totals .entry)) ⌝ }
+{
+    let no = picture::shape_no(f);
+    if no != 0 {
+        return no;
+    }
+    let own = trying_listed(f, v, totals);
+    let d = cdef_leaf::damping::in_force(damping);
+    let no7 = picture::lent_no(f, d, snapshot, original, skip, dirs, vars, own, true);
+    if no7 != 0 {
+        return no7;
+    }
+    picture::planes_no(snapshot, original, f.depth)
+}
+
+// Measuring, 7: a total a unit, the scratch, and the visible size.
+fn measuring_listed(f: Frame, v: Visible, totals: &[i64], scratch: &[u16]) -> bool
+    requires { ⌜ Shaped f ⌝ }
+    ensures { λ r. ⌜ ((s d vs : List ℕ) → r ≡ (eqb (length (now (totals .entry))) (units (pictureOf f s d vs)) && eqb (length (now (scratch .entry))) (scratchLength (pictureOf f s d vs))) && visibleTaken (pictureOf f s d vs) v) ⌝ }
+{
+    if totals.len() != picture::units(f) {
+        return false;
+    }
+    let wide = cdef_frame::geometry::plane_width(f);
+    if scratch.len() != wide * (8 / (1 + f.sy as usize)) {
+        return false;
+    }
+    picture::visible_taken(f, v)
+}
+
+// Measuring, the questions of two planes and one pair.
+pub fn measuring_no(
+    f: Frame,
+    damping: DampingChoice,
+    v: Visible,
+    plane: &[u16],
+    original: &[u16],
+    skip: &[u8],
+    dirs: &[u8],
+    vars: &[u32],
+    p: UnitPair,
+    totals: &[i64],
+    scratch: &[u16],
+) -> u8
+    requires { ⌜ (f .luma ≡ true → (f .sx ≡ 0) × (f .sy ≡ 0)) ⌝ }
+    ensures { λ r. ⌜ r ≡ measuringNo (pictureOf f (now (skip .entry)) (now (dirs .entry)) (now (vars .entry))) damping v (now (plane .entry)) (now (original .entry)) p (now (totals .entry)) (now (scratch .entry)) ⌝ }
+{
+    let no = picture::shape_no(f);
+    if no != 0 {
+        return no;
+    }
+    let own = measuring_listed(f, v, totals, scratch);
+    let vals = picture::pair_taken(p);
+    let d = cdef_leaf::damping::in_force(damping);
+    let no7 = picture::lent_no(f, d, plane, original, skip, dirs, vars, own, vals);
+    if no7 != 0 {
+        return no7;
+    }
+    picture::planes_no(plane, original, f.depth)
+}
+
+// Applying, 7: a primary and a secondary a unit.
+fn applying_listed(f: Frame, pris: &[u8], secs: &[u8]) -> bool
+    requires { ⌜ Shaped f ⌝ }
+    ensures { λ r. ⌜ ((s d vs : List ℕ) → r ≡ eqb (length (now (pris .entry))) (units (pictureOf f s d vs)) && eqb (length (now (secs .entry))) (units (pictureOf f s d vs))) ⌝ }
+{
+    let n = picture::units(f);
+    if pris.len() != n {
+        return false;
+    }
+    secs.len() == n
+}
+
+// Applying, 8: the strengths of all units.
+fn applying_taken(pris: &[u8], secs: &[u8]) -> bool
+    ensures { λ r. ⌜ r ≡ allTaken primaryTaken (now (pris .entry)) && allTaken secondaryTaken (now (secs .entry)) ⌝ }
+{
+    if !lists::all_primary(pris) {
+        return false;
+    }
+    lists::all_secondary(secs)
+}
+
+// Applying: the destination's length is asked, its contents are not looked at.
+pub fn applying_no(
+    f: Frame,
+    damping: DampingChoice,
+    snapshot: &[u16],
+    dst: &[u16],
+    skip: &[u8],
+    dirs: &[u8],
+    vars: &[u32],
+    pris: &[u8],
+    secs: &[u8],
+) -> u8
+    requires { ⌜ (f .luma ≡ true → (f .sx ≡ 0) × (f .sy ≡ 0)) ⌝ }
+    ensures { λ r. ⌜ r ≡ applyingListsNo (pictureOf f (now (skip .entry)) (now (dirs .entry)) (now (vars .entry))) damping (now (snapshot .entry)) (now (pris .entry)) (now (secs .entry)) (now (dst .entry)) ⌝ }
+{
+    let no = picture::shape_no(f);
+    if no != 0 {
+        return no;
+    }
+    let own = applying_listed(f, pris, secs);
+    let vals = applying_taken(pris, secs);
+    let d = cdef_leaf::damping::in_force(damping);
+    let no7 = picture::lent_no(f, d, snapshot, dst, skip, dirs, vars, own, vals);
+    if no7 != 0 {
+        return no7;
+    }
+    picture::plane_no(snapshot, f.depth)
+}

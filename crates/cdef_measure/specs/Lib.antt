@@ -1,0 +1,13 @@
+-- What measuring adds up.
+pub mod Measure
+-- Its laws: lists set to zero, the rows of a block.
+pub mod ZeroLaws
+pub mod RowLaws
+-- A block in the scratch.
+pub mod UsableLaws
+pub mod FilledLaws
+-- Its distance.
+pub mod CodeLaws
+pub mod DistanceLaws
+-- The totals.
+pub mod AddLaws

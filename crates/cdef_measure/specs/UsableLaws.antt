@@ -1,0 +1,72 @@
+-- The filter takes what a pair gives.
+use mathlib.Core.Path.{refl}
+use mathlib.Core.Bool.{Bool, true, false, cond, _&&_}
+use mathlib.Core.List.{List, []}
+use Prim.Native.Nat.{ℕ, _+_, _-_, _*_, _/_, _^_, _≤_, _<_, min}
+use native.Mathlib.Nat.{mul-le-mul}
+use native.Mathlib.Omega.{arith}
+use borrow.Author.Tests.{ltb-true}
+use lib.Dec.{eqb, ltb}
+use lib.ListN.{getD}
+use Rattle.cdef_spec.specs.declared.SignalledDamping.{SignalledDamping}
+use Rattle.cdef_spec.specs.declared.UnitPair.{UnitPair}
+use Rattle.cdef_spec.specs.Words.{_>>_, _<<_, every}
+use Rattle.cdef_spec.specs.WordsLaws.{every-at}
+use Rattle.cdef_spec.specs.Standard.{FloorLog2, adjustPri, Cdef-Uv-Dir}
+use Rattle.cdef_spec.specs.Document01.{chromaDirection, lumaDamping, chromaDamping, lumaParams, chromaParams}
+use Rattle.cdef_spec.specs.Picture.{PlaneKind, luma, chroma, paramsFor}
+use Rattle.cdef_kernel.specs.ShapeLaws.{limit-low}
+use Rattle.cdef_filter.specs.Store.{Usable}
+use Rattle.cdef_frame.specs.Lent.{InForce}
+
+-- adjusting never raises a strength
+weighed : (s l : ℕ) → l ≤ 12 → (s * (4 + l) + 8) / 2 ^ 4 ≤ s
+weighed s l h = let k : 4 + l ≤ 16 = omega arith in let r : s ≤ s = omega arith in omega (arith, mul-le-mul r k)
+
+capped : (b : Bool) (n : ℕ) → cond b 0 (min n 12) ≤ 12
+capped true n = omega arith
+capped false n = omega arith
+
+adjust-low : (s v : ℕ) → adjustPri s v ≤ s
+unfolding adjustPri
+adjust-low s v = go (eqb v 0)
+  where
+    go : (b : Bool) → cond b 0 ((s * (4 + cond (eqb (v >> 6) 0) 0 (min (FloorLog2 (v >> 6)) 12)) + 8) >> 4) ≤ s
+    go true = omega arith
+    go false = weighed s (cond (eqb (v >> 6) 0) 0 (min (FloorLog2 (v >> 6)) 12)) (capped (eqb (v >> 6) 0) (FloorLog2 (v >> 6)))
+
+-- a direction stays one
+mapped-low : (i : ℕ) → i < 8 → getD (getD (getD Cdef-Uv-Dir 1 []) 0 []) i 0 < 8
+unfolding Cdef-Uv-Dir every
+mapped-low i h = ltb-true _ 8 (every-at 8 (λ k. ltb (getD (getD (getD Cdef-Uv-Dir 1 []) 0 []) k 0) 8) refl i h)
+
+chroma-low : (sx sy i : ℕ) → i < 8 → chromaDirection sx sy i < 8
+unfolding chromaDirection
+chroma-low sx sy i h = go (eqb sx 1 && eqb sy 0)
+  where
+    go : (b : Bool) → cond b (getD (getD (getD Cdef-Uv-Dir 1 []) 0 []) i 0) i < 8
+    go true = mapped-low i h
+    go false = h
+
+or-zero : (b : Bool) (i : ℕ) → i < 8 → cond b 0 i < 8
+or-zero true i h = omega arith
+or-zero false i h = h
+
+pub usable : (k : PlaneKind) (depth : ℕ) (dirs : List ℕ) (d : SignalledDamping) (p : UnitPair) (b : ℕ) → 8 ≤ depth → depth ≤ 12 → p .primary ≤ 15 → p .secondary ≤ 4 → InForce d → getD dirs b 0 < 8 → Usable (paramsFor k depth dirs d p b)
+unfolding paramsFor lumaParams chromaParams lumaDamping chromaDamping
+usable (luma vars) depth dirs d p b deep flat hp hs hd h = record {
+  pri = omega (arith, adjust-low (p .primary << (depth - 8)) (getD vars b 0), limit-low (p .primary) depth hp flat);
+  sec = limit-low (p .secondary) depth (omega arith) flat;
+  dir = or-zero (eqb (p .primary) 0) (getD dirs b 0) h;
+  damping = omega (arith, hd .most);
+  deep = deep;
+  flat = flat;
+}
+usable (chroma sx sy) depth dirs d p b deep flat hp hs hd h = record {
+  pri = limit-low (p .primary) depth hp flat;
+  sec = limit-low (p .secondary) depth (omega arith) flat;
+  dir = or-zero (eqb (p .primary) 0) (chromaDirection sx sy (getD dirs b 0)) (chroma-low sx sy (getD dirs b 0) h);
+  damping = omega (arith, hd .most);
+  deep = deep;
+  flat = flat;
+}

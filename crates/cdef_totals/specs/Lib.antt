@@ -1,0 +1,3 @@
+-- Laws of the frame loops' folds: their turns, and how large a unit's total may become.
+pub mod FoldLaws
+pub mod TotalBounds

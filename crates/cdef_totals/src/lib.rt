@@ -1,0 +1,1 @@
+// Nothing but specs: laws of the totals that the frame loops build up.

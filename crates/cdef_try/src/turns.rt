@@ -1,0 +1,95 @@
+// Totals: cleared, and twelve distances added.
+ghost use mathlib.Core.Path.{_≡_};
+ghost use Prim.Native.Nat.{ℕ, _+_, _*_, _^_, _≤_, _<_};
+ghost use lib.IntN.{pos};
+ghost use lib.ListN.{length, replicate};
+ghost use Rattle.cdef_spec.specs.LoopForm.{signed, addTurns};
+ghost use Rattle.cdef_distance.specs.Weighing.{OfDepth};
+ghost use Rattle.cdef_distance.specs.Blocks.{Within};
+ghost use Rattle.cdef_try.specs.Totals.{plainOf, Low, trialDistances};
+use crate::whole;
+use cdef_spec::DistanceConstants;
+
+// All totals are 0.
+pub fn clear(totals: &mut [i64])
+    ensures { λ _. ⌜ now (totals .exit) ≡ replicate (length (now (totals .entry))) (pos 0) ⌝ }
+{
+    for i in 0..totals.len() {
+        totals[i] = 0;
+    }
+}
+
+// Adds to twelve totals, from `base` on, the distances between a block of the original and the trial blocks, one by one.
+fn add_cut(
+    totals: &mut [i64],
+    base: usize,
+    original: &[u16],
+    at: usize,
+    pitch: usize,
+    blocks: &[u16],
+    step: usize,
+    rows: usize,
+    cols: usize,
+    luma: bool,
+    c: DistanceConstants,
+)
+    requires { ⌜ (base + 12 ≤ length (now totals)) × Low (now totals) × (rows ≤ 8) × (cols ≤ 8) ⌝ }
+    requires { ⌜ ((depth : ℕ) × OfDepth c depth × Within (now original) at pitch rows cols (2 ^ depth) × ((t : ℕ) → t < 12 → Within (now blocks) (t * 64) step rows cols (2 ^ depth))) ⌝ }
+    ensures { λ _. ⌜ now (totals .exit) ≡ signed (addTurns (plainOf (now (totals .entry))) base (trialDistances luma c rows cols (now (original .entry)) at pitch (now (blocks .entry)) step) 12) ⌝ }
+{
+    for t in 0..12usize {
+        let n = cdef_cut::distance_cut(
+            original,
+            at,
+            pitch,
+            blocks,
+            t * 64,
+            step,
+            rows,
+            cols,
+            luma,
+            c,
+        );
+        totals[base + t] = totals[base + t] + n as i64;
+    }
+}
+
+// Adds to twelve totals, from `base` on, the distances between a block of the original and the trial blocks. A whole luma block's own sums are taken once.
+pub fn add_trials(
+    totals: &mut [i64],
+    base: usize,
+    original: &[u16],
+    at: usize,
+    pitch: usize,
+    blocks: &[u16],
+    step: usize,
+    rows: usize,
+    cols: usize,
+    luma: bool,
+    c: DistanceConstants,
+)
+    requires { ⌜ (base + 12 ≤ length (now totals)) × Low (now totals) × (rows ≤ 8) × (cols ≤ 8) × (cols ≤ step) × (step ≤ 8) ⌝ }
+    requires { ⌜ ((depth : ℕ) × OfDepth c depth × Within (now original) at pitch rows cols (2 ^ depth) × ((t : ℕ) → t < 12 → Within (now blocks) (t * 64) step rows cols (2 ^ depth))) ⌝ }
+    ensures { λ _. ⌜ now (totals .exit) ≡ signed (addTurns (plainOf (now (totals .entry))) base (trialDistances luma c rows cols (now (original .entry)) at pitch (now (blocks .entry)) step) 12) ⌝ }
+{
+    if luma {
+        if rows + cols == 16 {
+            let a = cdef_distance::sums::block_of(original, at, pitch);
+            whole::add_whole(totals, base, &a, blocks, c);
+            return;
+        }
+    }
+    add_cut(
+        totals,
+        base,
+        original,
+        at,
+        pitch,
+        blocks,
+        step,
+        rows,
+        cols,
+        luma,
+        c,
+    );
+}

@@ -1,0 +1,35 @@
+// What the lines of a program are printed with.
+
+pub fn text(s: &[u8]) {
+    io::write_all(1, s);
+}
+
+pub fn number(n: u64) {
+    io::print_decimal(1, n);
+}
+
+// A signed number by its sign and size.
+pub fn signed(n: i32) {
+    let wide = n as i64;
+    if wide < 0 {
+        text(b"-");
+        number((0 - wide) as u64);
+        return;
+    }
+    number(wide as u64);
+}
+
+// A distance or a total, which is never below 0.
+pub fn whole(d: i64) {
+    if d < 0 {
+        return;
+    }
+    number(d as u64);
+}
+
+// A refusal, by the number of the first question that says no, and the line's end.
+pub fn refused(n: u8) {
+    text(b"refused, ");
+    number(n as u64);
+    text(b"\n");
+}

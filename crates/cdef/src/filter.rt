@@ -1,6 +1,5 @@
 // The call for the block filter.
 ghost use mathlib.Core.Path.{_≡_};
-ghost use Rattle.cdef_spec.specs.Document01.{Plane};
 ghost use Rattle.cdef_spec.specs.Answers.{readAnswer};
 ghost use Rattle.cdef_spec.specs.BlockCalls.{filterOutcome};
 use cdef_asked::block_questions;

@@ -1,6 +1,5 @@
 // The call for the trial of a block.
 ghost use mathlib.Core.Path.{_≡_};
-ghost use Rattle.cdef_spec.specs.Document01.{Plane};
 ghost use Rattle.cdef_spec.specs.Answers.{readAnswer};
 ghost use Rattle.cdef_spec.specs.BlockCalls.{trialOutcome};
 use cdef_asked::trial_questions;

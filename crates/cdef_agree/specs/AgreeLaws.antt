@@ -1,7 +1,7 @@
 -- Each way through the three calls, and the agreement at its end.
-use mathlib.Core.Path.{_≡_, refl, sym, ap, subst, _∙_}
-use mathlib.Core.Bool.{Bool, true, false, cond, _&&_}
-use mathlib.Core.List.{List, [], _∷_}
+use mathlib.Core.Path.{_≡_, refl, sym, subst, _∙_}
+use mathlib.Core.Bool.{Bool, true, false, cond}
+use mathlib.Core.List.{List}
 use Prim.Native.Nat.{ℕ, _*_, _<_}
 use native.Mathlib.Omega.{arith}
 use borrow.Author.Tests.{eq-eqb, ne-eqb, eqb-true}
@@ -9,18 +9,17 @@ use lib.Dec.{eqb}
 use lib.IntN.{ℤ}
 use lib.ListN.{getD, length}
 use Rattle.cdef_spec.specs.declared.DampingChoice.{DampingChoice}
-use Rattle.cdef_spec.specs.declared.UnitPair.{UnitPair}
 use Rattle.cdef_spec.specs.declared.Visible.{Visible}
 use Rattle.cdef_spec.specs.WordsLaws.{every-at, and-both}
-use Rattle.cdef_spec.specs.Document01.{inForce, isTrialPair}
+use Rattle.cdef_spec.specs.Document01.{isTrialPair}
 use Rattle.cdef_spec.specs.Picture.{Picture, planeWidth, planeHeight, units, pairAt}
 use Rattle.cdef_spec.specs.Answers.{taken, refused, nothing, numberOf, resultOf}
 use Rattle.cdef_spec.specs.Questions.{fullPlanes, pictureListed}
-use Rattle.cdef_spec.specs.QuestionLaws.{Taken, questions-yes}
-use Rattle.cdef_spec.specs.FrameCalls.{tryingNo, tryingOutcome, applyingNo, applyingOutcome, pairsOf, applyingListsNo, applyingListsOutcome, measuringNo, measuringOutcome}
+use Rattle.cdef_spec.specs.QuestionLaws.{questions-yes}
+use Rattle.cdef_spec.specs.FrameCalls.{tryingNo, tryingOutcome, applyingOutcome, pairsOf, applyingListsNo, applyingListsOutcome, measuringNo, measuringOutcome}
 use Rattle.cdef_spec.specs.OutcomeLaws.{pair-of, twin-is}
 use Rattle.cdef_spec.specs.Demand3.{off, withDirections, Agrees}
-use Rattle.cdef_spec.specs.Agreement.{agreement, result-zero}
+use Rattle.cdef_spec.specs.Agreement.{agreement}
 use Rattle.cdef_agree.specs.declared.Agreement.{Agreement}
 use Rattle.cdef_agree.specs.declared.Agreement.the-variants.{Agreed, NotTrialPairs, TryingRefused, ApplyingRefused, MeasuringRefused}
 use Rattle.cdef_agree.specs.Agree.{trialPairs, copied, AgreeOutcome, agreeOutcome}

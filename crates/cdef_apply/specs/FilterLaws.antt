@@ -1,71 +1,25 @@
 -- Filtering a block of a frame: the filter takes what its pair gives, and stores what Picture says.
 use mathlib.Core.Path.{_≡_, refl, sym, _∙_}
-use mathlib.Core.Bool.{Bool, true, false, cond, _&&_}
-use mathlib.Core.List.{List, []}
+use mathlib.Core.List.{List}
 use Prim.Native.Nat.{ℕ, _+_, _-_, _*_, _/_, _^_, _≤_, _<_, min}
 use native.Mathlib.Nat.{mul-le-mul, mul-le-mul-right, mul-comm}
 use native.Mathlib.Omega.{arith}
-use borrow.Author.Tests.{ltb-true}
-use lib.Dec.{eqb, ltb}
-use lib.ListN.{getD}
 use Rattle.cdef_spec.specs.declared.Block.{Block}
 use Rattle.cdef_spec.specs.declared.FilterParams.{FilterParams}
 use Rattle.cdef_spec.specs.declared.SignalledDamping.{SignalledDamping}
 use Rattle.cdef_spec.specs.declared.UnitPair.{UnitPair}
-use Rattle.cdef_spec.specs.Words.{_<<_, every}
-use Rattle.cdef_spec.specs.WordsLaws.{every-at}
-use Rattle.cdef_spec.specs.Standard.{Cdef-Uv-Dir}
-use Rattle.cdef_spec.specs.Document01.{filtered, chromaDirection, lumaDamping, chromaDamping, lumaParams, chromaParams}
-use Rattle.cdef_spec.specs.Picture.{PlaneKind, luma, chroma, blockWidth, blockHeight, planeWidth, planeHeight, blockAt, paramsFor, filteredBy}
+use Rattle.cdef_spec.specs.Document01.{filtered}
+use Rattle.cdef_spec.specs.Picture.{blockWidth, blockHeight, planeWidth, planeHeight, blockAt, paramsFor, filteredBy}
 use Rattle.cdef_spec.specs.LoopForm.{putBlock}
 use Rattle.cdef_spec.specs.PlaneLaws.{block-same}
-use Rattle.cdef_kernel.specs.ShapeLaws.{limit-low, adjust-low}
 use Rattle.cdef_window.specs.Window.{planeOf}
 use Rattle.cdef_window.specs.Spans.{InPlane}
-use Rattle.cdef_filter.specs.Store.{Usable}
 use Rattle.cdef_frame.specs.declared.Frame.{Frame}
 use Rattle.cdef_frame.specs.Frame.{Shaped, kindOf, pictureOf, blockOf}
 use Rattle.cdef_frame.specs.FrameLaws.{side-facts, width-is, height-is}
-use Rattle.cdef_frame.specs.Lent.{InForce, Sampled, samplesOf}
+use Rattle.cdef_frame.specs.Lent.{Sampled, samplesOf}
 use Rattle.cdef_frame.specs.BlockLaws.{cols-in, rows-in, number-low, block-in}
 use Rattle.cdef_apply.specs.Apply.{blockFiltered}
-
--- ---- what the filter takes
-
-mapped-low : (i : ℕ) → i < 8 → getD (getD (getD Cdef-Uv-Dir 1 []) 0 []) i 0 < 8
-unfolding Cdef-Uv-Dir every
-mapped-low i h = ltb-true _ 8 (every-at 8 (λ k. ltb (getD (getD (getD Cdef-Uv-Dir 1 []) 0 []) k 0) 8) refl i h)
-
-chroma-low : (sx sy i : ℕ) → i < 8 → chromaDirection sx sy i < 8
-unfolding chromaDirection
-chroma-low sx sy i h = go (eqb sx 1 && eqb sy 0)
-  where
-    go : (b : Bool) → cond b (getD (getD (getD Cdef-Uv-Dir 1 []) 0 []) i 0) i < 8
-    go true = mapped-low i h
-    go false = h
-
-or-zero : (b : Bool) (i : ℕ) → i < 8 → cond b 0 i < 8
-or-zero true i h = omega arith
-or-zero false i h = h
-
-pub usable : (k : PlaneKind) (depth : ℕ) (dirs : List ℕ) (d : SignalledDamping) (p : UnitPair) (b : ℕ) → 8 ≤ depth → depth ≤ 12 → p .primary ≤ 15 → p .secondary ≤ 4 → InForce d → getD dirs b 0 < 8 → Usable (paramsFor k depth dirs d p b)
-unfolding paramsFor lumaParams chromaParams lumaDamping chromaDamping
-usable (luma vars) depth dirs d p b deep flat hp hs hd h = record {
-  pri = omega (arith, adjust-low (p .primary << (depth - 8)) (getD vars b 0), limit-low (p .primary) depth hp flat);
-  sec = limit-low (p .secondary) depth (omega arith) flat;
-  dir = or-zero (eqb (p .primary) 0) (getD dirs b 0) h;
-  damping = omega (arith, hd .most);
-  deep = deep;
-  flat = flat;
-}
-usable (chroma sx sy) depth dirs d p b deep flat hp hs hd h = record {
-  pri = limit-low (p .primary) depth hp flat;
-  sec = limit-low (p .secondary) depth (omega arith) flat;
-  dir = or-zero (eqb (p .primary) 0) (chromaDirection sx sy (getD dirs b 0)) (chroma-low sx sy (getD dirs b 0) h);
-  damping = omega (arith, hd .most);
-  deep = deep;
-  flat = flat;
-}
 
 -- ---- the block (by, bx)
 

@@ -1,6 +1,5 @@
 // The call for the block filter; bare numbers become a block and parameters here alone.
 ghost use mathlib.Core.Path.{_≡_};
-ghost use Rattle.cdef_spec.specs.Document01.{Plane};
 ghost use Rattle.cdef_spec.specs.Answers.{numberOf};
 ghost use Rattle.cdef_spec.specs.BlockCalls.{filterOutcome};
 use crate::answer;

@@ -1,7 +1,6 @@
 // The calls for the trial of a block, one for each way of asking; bare numbers become a block and a damping here alone.
 ghost use mathlib.Core.Path.{_≡_};
 ghost use Rattle.cdef_spec.specs.declared.TrialWay.the-variants.{Luma, Chroma};
-ghost use Rattle.cdef_spec.specs.Document01.{Plane};
 ghost use Rattle.cdef_spec.specs.Answers.{numberOf};
 ghost use Rattle.cdef_spec.specs.BlockCalls.{trialOutcome};
 use crate::answer;

@@ -6,3 +6,4 @@ pub mod Lent
 pub mod FrameLaws
 pub mod CountedLaws
 pub mod BlockLaws
+pub mod UsableLaws

@@ -1,9 +1,8 @@
 -- What a frame call leaves, from the number of its first no.
-use mathlib.Core.Path.{_≡_, refl, sym, ap, _∙_}
+use mathlib.Core.Path.{_≡_, refl}
 use mathlib.Core.List.{List}
 use Prim.Native.Nat.{ℕ, _*_, _/_, _%_}
 use borrow.Author.Tests.{eq-eqb, ne-eqb}
-use lib.Dec.{eqb}
 use lib.IntN.{ℤ, pos}
 use lib.ListN.{replicate}
 use Rattle.cdef_spec.specs.declared.DampingChoice.{DampingChoice}

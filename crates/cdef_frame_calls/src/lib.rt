@@ -1,7 +1,6 @@
 // The frame calls for luma and chroma at once: the questions, then the core. Each gives the number of the first no, or 0 where the work is done.
 ghost use mathlib.Core.Path.{_≡_};
 ghost use mathlib.Core.Bool.{true};
-ghost use Prim.Native.Nat.{ℕ};
 ghost use Rattle.cdef_spec.specs.FrameCalls.{tryingNo, tryingOutcome, measuringNo, measuringOutcome, applyingListsNo, applyingListsOutcome};
 ghost use Rattle.cdef_frame.specs.Frame.{pictureOf};
 use cdef_frame::Frame;

@@ -4,7 +4,6 @@ pub mod Measure
 pub mod ZeroLaws
 pub mod RowLaws
 -- A block in the scratch.
-pub mod UsableLaws
 pub mod FilledLaws
 -- Its distance.
 pub mod CodeLaws

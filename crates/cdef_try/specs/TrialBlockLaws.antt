@@ -1,20 +1,18 @@
 -- The trial blocks of a block hold the filtered samples, and their distances are those that the totals take.
 use mathlib.Core.Path.{_≡_, refl, ap, _∙_}
-use mathlib.Core.Bool.{Bool, true, false, cond, _&&_}
+use mathlib.Core.Bool.{cond}
 use mathlib.Core.List.{List}
-use Prim.Native.Nat.{ℕ, zero, suc, _+_, _-_, _*_, _/_, _^_, _≤_, _<_, min}
+use Prim.Native.Nat.{ℕ, _+_, _-_, _*_, _/_, _^_, _≤_, _<_, min}
 use native.Mathlib.Nat.{mul-le-mul, mul-le-mul-right, mul-comm}
 use native.Mathlib.Omega.{arith}
 use lib.Arith.{digits-lt}
-use lib.Dec.{eqb}
 use lib.ListN.{getD, length}
 use Rattle.cdef_spec.specs.declared.Block.{Block}
 use Rattle.cdef_spec.specs.declared.SignalledDamping.{SignalledDamping}
 use Rattle.cdef_spec.specs.declared.Visible.{Visible}
 use Rattle.cdef_spec.specs.Words.{table}
 use Rattle.cdef_spec.specs.WordsLaws.{length-table, getD-table}
-use Rattle.cdef_spec.specs.Standard.{Cdef-Uv-Dir}
-use Rattle.cdef_spec.specs.Document01.{mark, orElse, filtered, trialPair, chromaDirection, lumaDamping, chromaDamping}
+use Rattle.cdef_spec.specs.Document01.{mark, orElse, filtered, trialPair, lumaDamping, chromaDamping}
 use Rattle.cdef_spec.specs.Distance.{constantsOf}
 use Rattle.cdef_spec.specs.declared.TrialWay.{TrialWay}
 use Rattle.cdef_spec.specs.declared.WorkingDamping.{WorkingDamping}
@@ -29,36 +27,17 @@ use Rattle.cdef_frame.specs.declared.Frame.{Frame}
 use Rattle.cdef_frame.specs.Frame.{Shaped, kindOf, pictureOf, blockOf, wayOf, dirOf, dampingOf}
 use Rattle.cdef_frame.specs.FrameLaws.{tried-with, width-is, height-is}
 use Rattle.cdef_frame.specs.BlockLaws.{plane-wide, plane-high, block-wide, block-high, cols-in, rows-in, sample-low}
+use Rattle.cdef_frame.specs.UsableLaws.{chroma-low}
 use Rattle.cdef_frame.specs.Lent.{Sampled, InForce}
 use Rattle.cdef_try.specs.Totals.{trialDistances}
 use Rattle.cdef_try.specs.Trying.{trialBlocks, visiblePart, triedDistance}
 
 -- ---- a direction in the plane, and a working damping
 
-mapped-low : (d : ℕ) → d < 8 → chromaDirection 1 0 d < 8
-unfolding chromaDirection Cdef-Uv-Dir
-mapped-low zero h = omega arith
-mapped-low (suc zero) h = omega arith
-mapped-low (suc (suc zero)) h = omega arith
-mapped-low (suc (suc (suc zero))) h = omega arith
-mapped-low (suc (suc (suc (suc zero)))) h = omega arith
-mapped-low (suc (suc (suc (suc (suc zero))))) h = omega arith
-mapped-low (suc (suc (suc (suc (suc (suc zero)))))) h = omega arith
-mapped-low (suc (suc (suc (suc (suc (suc (suc zero))))))) h = omega arith
-mapped-low (suc (suc (suc (suc (suc (suc (suc (suc d)))))))) h = absurd (omega arith)
-
-direction-low : (sx sy d : ℕ) → d < 8 → chromaDirection sx sy d < 8
-unfolding chromaDirection
-direction-low sx sy d h = go (eqb sx 1 && eqb sy 0)
-  where
-    go : (b : Bool) → cond b (chromaDirection 1 0 d) d < 8
-    go true = mapped-low d h
-    go false = h
-
 pub dir-low : (k : PlaneKind) (dirs : List ℕ) (b : ℕ) → getD dirs b 0 < 8 → dirOf k dirs b < 8
 unfolding dirOf
 dir-low (luma vars) dirs b h = h
-dir-low (chroma sx sy) dirs b h = direction-low sx sy (getD dirs b 0) h
+dir-low (chroma sx sy) dirs b h = chroma-low sx sy (getD dirs b 0) h
 
 pub damping-low : (k : PlaneKind) (d : SignalledDamping) (depth : ℕ) → InForce d → depth ≤ 12 → dampingOf k d depth .0 ≤ 31
 unfolding dampingOf lumaDamping chromaDamping

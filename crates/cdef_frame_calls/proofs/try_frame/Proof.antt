@@ -1,9 +1,7 @@
 -- `cdef_frame_calls::try_frame` meets its contract.
-use mathlib.Core.Path.{_≡_, refl, sym, ap, _∙_}
-use Prim.Native.Nat.{ℕ, _+_, _-_, _*_, _≤_, _<_}
+use mathlib.Core.Path.{_≡_, sym, _∙_}
 use native.Mathlib.Omega.{arith}
 use borrow.Author.Needs.{needs}
-use Rattle.cdef_spec.specs.Document01.{inForce}
 use Rattle.cdef_spec.specs.FrameCalls.{tryingNo}
 use Rattle.cdef_spec.specs.OutcomeLaws.{trying-refused}
 use Rattle.cdef_frame.specs.Frame.{pictureOf}

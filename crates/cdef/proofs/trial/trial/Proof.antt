@@ -1,7 +1,6 @@
 -- `cdef::trial` meets its contract.
 use mathlib.Core.Path.{_≡_, sym, _∙_}
-use mathlib.Core.Bool.{true, false}
-use Prim.Native.Nat.{ℕ, _≤_, _<_}
+use mathlib.Core.Bool.{true}
 use Rattle.cdef_spec.specs.Answers.{readAnswer}
 use Rattle.cdef_spec.specs.Document01.{Plane}
 use Rattle.cdef_spec.specs.Questions.{firstNo, widenedTaken}

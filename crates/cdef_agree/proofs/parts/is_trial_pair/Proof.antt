@@ -1,6 +1,4 @@
 -- `cdef_agree::is_trial_pair` meets its contract.
-use mathlib.Core.Path.{_≡_, refl, sym, ap, _∙_}
-use Prim.Native.Nat.{ℕ, _+_, _-_, _*_, _≤_, _<_}
 use native.Mathlib.Omega.{arith}
 use borrow.Author.Needs.{needs}
 use Rattle.cdef_agree.specs.PartLaws.{no-secondary, primary-four, primary-low}

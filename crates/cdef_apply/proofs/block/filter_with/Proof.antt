@@ -6,7 +6,8 @@ use mathlib.Core.List.{[]}
 use Prim.Native.Nat.{_/_, _^_}
 use Rattle.cdef_frame.specs.Lent.{blocksOf}
 use Rattle.cdef_frame.specs.BlockLaws.{number-low, counts-low, window-low}
-use Rattle.cdef_apply.specs.FilterLaws.{usable, number-small, in-plane, room, filtered-is}
+use Rattle.cdef_frame.specs.UsableLaws.{usable}
+use Rattle.cdef_apply.specs.FilterLaws.{number-small, in-plane, room, filtered-is}
 use borrow.Author.Needs.{needs}
 use Rattle.cdef_apply.proofs.block.filter_with.Statement.{statement}
 use Rattle.cdef_apply.proofs.block.filter_with.Tie as tie

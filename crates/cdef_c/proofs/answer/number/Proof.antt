@@ -1,5 +1,5 @@
 -- `cdef_c::number` meets its contract.
-use mathlib.Core.Path.{_≡_, ap, sym}
+use mathlib.Core.Path.{ap, sym}
 use Rattle.cdef_spec.specs.declared.Answer.{Answer}
 use Rattle.cdef_spec.specs.Answers.{numberOf, readAnswer}
 use borrow.Author.Needs.{needs}

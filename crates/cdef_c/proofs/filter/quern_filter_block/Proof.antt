@@ -1,5 +1,5 @@
 -- `cdef_c::quern_filter_block` meets its contract.
-use mathlib.Core.Path.{_≡_, ap, _∙_}
+use mathlib.Core.Path.{ap, _∙_}
 use Rattle.cdef_spec.specs.Answers.{numberOf}
 use borrow.Author.Needs.{needs}
 use Rattle.cdef_c.proofs.filter.quern_filter_block.Statement.{statement}

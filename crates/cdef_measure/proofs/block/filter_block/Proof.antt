@@ -5,7 +5,7 @@ use borrow.Author.Needs.{needs}
 use mathlib.Core.List.{[]}
 use Rattle.cdef_frame.specs.FrameLaws.{width-is}
 use Rattle.cdef_frame.specs.BlockLaws.{counts-low, number-low, window-low}
-use Rattle.cdef_measure.specs.UsableLaws.{usable}
+use Rattle.cdef_frame.specs.UsableLaws.{usable}
 use Rattle.cdef_measure.specs.FilledLaws.{number-small, fits-plane, has-room, stored-is, filled}
 use borrow.Author.Needs.{needs}
 use Rattle.cdef_measure.proofs.block.filter_block.Statement.{statement}

@@ -2,45 +2,28 @@
 use mathlib.Core.Path.{refl}
 use mathlib.Core.Bool.{Bool, true, false, cond, _&&_}
 use mathlib.Core.List.{List, []}
-use Prim.Native.Nat.{ℕ, _+_, _-_, _*_, _/_, _^_, _≤_, _<_, min}
-use native.Mathlib.Nat.{mul-le-mul}
+use Prim.Native.Nat.{ℕ, _-_, _≤_, _<_}
 use native.Mathlib.Omega.{arith}
 use borrow.Author.Tests.{ltb-true}
 use lib.Dec.{eqb, ltb}
 use lib.ListN.{getD}
 use Rattle.cdef_spec.specs.declared.SignalledDamping.{SignalledDamping}
 use Rattle.cdef_spec.specs.declared.UnitPair.{UnitPair}
-use Rattle.cdef_spec.specs.Words.{_>>_, _<<_, every}
+use Rattle.cdef_spec.specs.Words.{_<<_, every}
 use Rattle.cdef_spec.specs.WordsLaws.{every-at}
-use Rattle.cdef_spec.specs.Standard.{FloorLog2, adjustPri, Cdef-Uv-Dir}
+use Rattle.cdef_spec.specs.Standard.{Cdef-Uv-Dir}
 use Rattle.cdef_spec.specs.Document01.{chromaDirection, lumaDamping, chromaDamping, lumaParams, chromaParams}
 use Rattle.cdef_spec.specs.Picture.{PlaneKind, luma, chroma, paramsFor}
-use Rattle.cdef_kernel.specs.ShapeLaws.{limit-low}
+use Rattle.cdef_kernel.specs.ShapeLaws.{limit-low, adjust-low}
 use Rattle.cdef_filter.specs.Store.{Usable}
 use Rattle.cdef_frame.specs.Lent.{InForce}
-
--- adjusting never raises a strength
-weighed : (s l : ℕ) → l ≤ 12 → (s * (4 + l) + 8) / 2 ^ 4 ≤ s
-weighed s l h = let k : 4 + l ≤ 16 = omega arith in let r : s ≤ s = omega arith in omega (arith, mul-le-mul r k)
-
-capped : (b : Bool) (n : ℕ) → cond b 0 (min n 12) ≤ 12
-capped true n = omega arith
-capped false n = omega arith
-
-adjust-low : (s v : ℕ) → adjustPri s v ≤ s
-unfolding adjustPri
-adjust-low s v = go (eqb v 0)
-  where
-    go : (b : Bool) → cond b 0 ((s * (4 + cond (eqb (v >> 6) 0) 0 (min (FloorLog2 (v >> 6)) 12)) + 8) >> 4) ≤ s
-    go true = omega arith
-    go false = weighed s (cond (eqb (v >> 6) 0) 0 (min (FloorLog2 (v >> 6)) 12)) (capped (eqb (v >> 6) 0) (FloorLog2 (v >> 6)))
 
 -- a direction stays one
 mapped-low : (i : ℕ) → i < 8 → getD (getD (getD Cdef-Uv-Dir 1 []) 0 []) i 0 < 8
 unfolding Cdef-Uv-Dir every
 mapped-low i h = ltb-true _ 8 (every-at 8 (λ k. ltb (getD (getD (getD Cdef-Uv-Dir 1 []) 0 []) k 0) 8) refl i h)
 
-chroma-low : (sx sy i : ℕ) → i < 8 → chromaDirection sx sy i < 8
+pub chroma-low : (sx sy i : ℕ) → i < 8 → chromaDirection sx sy i < 8
 unfolding chromaDirection
 chroma-low sx sy i h = go (eqb sx 1 && eqb sy 0)
   where

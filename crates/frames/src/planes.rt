@@ -87,60 +87,31 @@ fn all_planes(
 {
     let skipped = units::read_skips(file, n.units, skip);
     lines::frame(h, skipped, n.blocks);
-    sized(
-        file,
-        h,
-        n,
-        0,
-        n.luma,
-        before,
-        after,
-        skip,
-        dirs,
-        vars,
-        pris,
-        secs,
-    );
+    sized(file, h, n, 0, before, after, skip, dirs, vars, pris, secs);
     if h.mono != 0 {
         return;
     }
-    sized(
-        file,
-        h,
-        n,
-        1,
-        n.chroma,
-        before,
-        after,
-        skip,
-        dirs,
-        vars,
-        pris,
-        secs,
-    );
-    sized(
-        file,
-        h,
-        n,
-        2,
-        n.chroma,
-        before,
-        after,
-        skip,
-        dirs,
-        vars,
-        pris,
-        secs,
-    );
+    sized(file, h, n, 1, before, after, skip, dirs, vars, pris, secs);
+    sized(file, h, n, 2, before, after, skip, dirs, vars, pris, secs);
 }
 
-// Lends planes of so many samples.
+// The samples of a plane.
+fn samples_of(n: Counts, plane: u8) -> usize
+    requires { ⌜ (n .luma ≤ 307200) × (n .chroma ≤ 307200) ⌝ }
+    ensures { λ r. ⌜ r ≤ 307200 ⌝ }
+{
+    if plane == 0 {
+        return n.luma;
+    }
+    n.chroma
+}
+
+// Lends planes of their size.
 fn sized(
     file: &[u8],
     h: Header,
     n: Counts,
     plane: u8,
-    samples: usize,
     before: &mut [u16],
     after: &mut [u16],
     skip: &[u8],
@@ -150,9 +121,10 @@ fn sized(
     secs: &mut [u8],
 )
     requires { ⌜ (n .luma ≤ 307200) × (n .chroma ≤ 307200) × (n .blocks ≤ 4800) × (n .units ≤ 80) ⌝ }
-    requires { ⌜ (length (now before) ≡ 307200) × (length (now after) ≡ 307200) × (samples ≤ 307200) ⌝ }
+    requires { ⌜ (length (now before) ≡ 307200) × (length (now after) ≡ 307200) ⌝ }
     requires { ⌜ (length (now pris) ≤ 80) × (length (now secs) ≡ length (now pris)) ⌝ }
 {
+    let samples = samples_of(n, plane);
     one_plane(
         file,
         h,
@@ -253,22 +225,48 @@ fn applied(
     if let Answer::Refused(n) = found {
         return Answer::Refused(n);
     }
-    let damping = DampingChoice::Given(SignalledDamping(h.damping));
     if plane == 0 {
-        return cdef::applying::apply_luma(
-            after,
-            before,
-            h.width,
-            h.height,
-            h.depth,
-            skip,
-            dirs,
-            vars,
-            pris,
-            secs,
-            damping,
-        );
+        return luma(h, after, before, skip, dirs, vars, pris, secs);
     }
+    chroma(h, after, before, skip, dirs, pris, secs)
+}
+
+fn luma(
+    h: Header,
+    after: &mut [u16],
+    before: &[u16],
+    skip: &[u8],
+    dirs: &[u8],
+    vars: &[u32],
+    pris: &[u8],
+    secs: &[u8],
+) -> Answer {
+    let damping = DampingChoice::Given(SignalledDamping(h.damping));
+    cdef::applying::apply_luma(
+        after,
+        before,
+        h.width,
+        h.height,
+        h.depth,
+        skip,
+        dirs,
+        vars,
+        pris,
+        secs,
+        damping,
+    )
+}
+
+fn chroma(
+    h: Header,
+    after: &mut [u16],
+    before: &[u16],
+    skip: &[u8],
+    dirs: &[u8],
+    pris: &[u8],
+    secs: &[u8],
+) -> Answer {
+    let damping = DampingChoice::Given(SignalledDamping(h.damping));
     cdef::applying::apply_chroma(
         after,
         before,

@@ -5,7 +5,7 @@ ghost use mathlib.Core.List.{List};
 ghost use Prim.Native.Nat.{ℕ, _/_, _+_, _*_, _≤_, _<_};
 ghost use lib.ListN.{getD, length};
 ghost use Rattle.cdef_spec.specs.FrameCalls.{pairsOf};
-ghost use Rattle.cdef_spec.specs.Picture.{pairAt, isOff};
+ghost use Rattle.cdef_spec.specs.Picture.{pairAt};
 ghost use Rattle.cdef_frame.specs.Frame.{Shaped, pictureOf};
 ghost use Rattle.cdef_frame.specs.Lent.{Listed, Sampled, Paired, InForce, blocksOf, samplesOf};
 ghost use Rattle.cdef_apply.specs.Apply.{blockFiltered, blockApplied};
@@ -22,16 +22,6 @@ fn pair_of(pris: &[u8], secs: &[u8], u: usize) -> UnitPair
         primary: pris[u],
         secondary: secs[u],
     }
-}
-
-// Is it the pair 0, 0?
-fn is_off(p: UnitPair) -> bool
-    ensures { λ r. ⌜ r ≡ isOff p ⌝ }
-{
-    if p.primary != 0 {
-        return false;
-    }
-    p.secondary == 0
 }
 
 // Filters a block of the snapshot, w by h, with a pair.
@@ -82,7 +72,7 @@ pub fn apply_block(
         return;
     }
     let p = pair_of(pris, secs, cdef_frame::geometry::unit_at(f, by, bx));
-    if is_off(p) {
+    if cdef_frame::params::is_off(p) {
         return;
     }
     filter_with(dst, snapshot, f, w, h, dirs, vars, p, d, by, bx);

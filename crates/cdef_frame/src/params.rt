@@ -5,7 +5,7 @@ ghost use mathlib.Core.List.{List};
 ghost use Prim.Native.Nat.{ℕ, _≤_, _<_};
 ghost use lib.Dec.{eqb};
 ghost use lib.ListN.{getD, length};
-ghost use Rattle.cdef_spec.specs.Picture.{paramsFor};
+ghost use Rattle.cdef_spec.specs.Picture.{paramsFor, isOff};
 ghost use Rattle.cdef_frame.specs.Frame.{Shaped, kindOf, wayOf, dirOf, dampingOf, primaryOf};
 use crate::Frame;
 use cdef_spec::FilterParams;
@@ -90,4 +90,14 @@ pub fn params_for(
         damping: damping_of(f, d),
         depth: f.depth,
     }
+}
+
+// Is it the pair 0, 0?
+pub fn is_off(p: UnitPair) -> bool
+    ensures { λ r. ⌜ r ≡ isOff p ⌝ }
+{
+    if p.primary != 0 {
+        return false;
+    }
+    p.secondary == 0
 }

@@ -1,7 +1,6 @@
 -- What measuring adds up.
 pub mod Measure
--- Its laws: lists set to zero, the rows of a block.
-pub mod ZeroLaws
+-- Its laws: the rows of a block.
 pub mod RowLaws
 -- A block in the scratch.
 pub mod FilledLaws

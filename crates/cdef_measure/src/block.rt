@@ -19,10 +19,7 @@ use cdef_spec::Visible;
 fn filters(p: UnitPair) -> bool
     ensures { λ r. ⌜ r ≡ not (isOff p) ⌝ }
 {
-    if p.primary != 0 {
-        return true;
-    }
-    p.secondary != 0
+    !cdef_frame::params::is_off(p)
 }
 
 // Filters a block of the plane, w wide, into the scratch, whose first row is the block's.

@@ -36,7 +36,7 @@ pub fn measure_plane(
     ensures { λ _. ⌜ now (totals .exit) ≡ table (unitsIn (pictureOf f (now (skip .entry)) (now (dirs .entry)) (now (vars .entry)))) (λ u. pos (measuredTotal (pictureOf f (now (skip .entry)) (now (dirs .entry)) (now (vars .entry))) d v (now (plane .entry)) (now (original .entry)) p u)) ⌝ }
     ensures { λ _. ⌜ now (scratch .exit) ≡ replicate (scratchLength (pictureOf f (now (skip .entry)) (now (dirs .entry)) (now (vars .entry)))) 0 ⌝ }
 {
-    rows::clear_totals(totals);
+    cdef_totals::clear_totals(totals);
     let c = cdef_distance::weight::constants_of(f.depth);
     for by in 0..f.height / 8 {
         totals::measure_row(

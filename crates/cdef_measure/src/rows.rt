@@ -1,7 +1,6 @@
 // The rows of a block, and lent slices set to zero.
 ghost use mathlib.Core.Path.{_≡_};
 ghost use Prim.Native.Nat.{_+_, _≤_};
-ghost use lib.IntN.{pos};
 ghost use lib.ListN.{length, replicate};
 ghost use Rattle.cdef_measure.specs.Measure.{rowsOf};
 
@@ -15,15 +14,6 @@ pub fn rows_of<'a>(scratch: &'a [u16], plane: &'a [u16], filters: bool, start: u
     }
     let end = start + scratch.len();
     &plane[start..end]
-}
-
-// Sets totals to zero.
-pub fn clear_totals(totals: &mut [i64])
-    ensures { λ _. ⌜ now (totals .exit) ≡ replicate (length (now (totals .entry))) (pos 0) ⌝ }
-{
-    for k in 0..totals.len() {
-        totals[k] = 0;
-    }
 }
 
 // Sets the scratch to zero.

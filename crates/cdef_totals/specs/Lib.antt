@@ -1,3 +1,5 @@
 -- Laws of the frame loops' folds: their turns, and how large a unit's total may become.
 pub mod FoldLaws
 pub mod TotalBounds
+-- A list set to zero.
+pub mod ZeroLaws

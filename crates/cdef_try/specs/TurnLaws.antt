@@ -1,15 +1,13 @@
--- Laws of totals: signs, zeros, and twelve additions.
+-- Laws of totals: signs, and twelve additions.
 use mathlib.Core.Path.{_≡_, refl, sym, ap, _∙_}
 use mathlib.Core.List.{List, [], _∷_}
 use Prim.Native.Nat.{ℕ, _+_, _*_, _^_, _≤_, _<_}
-use native.Mathlib.Decide.{ℕ-discrete}
 use native.Mathlib.Omega.{arith}
 use mir.Syntax.{w64}
 use mir.Val.{toZ, ofZ, SFits}
 use mir.ValLaws.{toZ-ofZ, toZ-pos}
 use lib.IntN.{ℤ, pos, _+ℤ_}
-use lib.ListN.{getD, set, length, replicate, length-replicate, getD-replicate}
-use lib.Seq.{getD-set-same, getD-set-other, ext-getD}
+use lib.ListN.{getD, set, length}
 use Rattle.cdef_spec.specs.LoopForm.{signed, addTurns}
 use Rattle.cdef_spec.specs.TotalLaws.{length-signed, getD-signed, add-signed, length-turns}
 use Rattle.cdef_totals.specs.FoldLaws.{turns-none, turns-more}
@@ -25,25 +23,6 @@ plain-signed (n ∷ ns) = ap (λ (l : List ℕ). n ∷ l) (plain-signed ns)
 
 pub low-signed : (t : List ℕ) → ((i : ℕ) → getD t i 0 ≤ 64 * 2 ^ 53) → Low (signed t)
 low-signed t h = record { is = rw (plain-signed t); each = λ i. rw (plain-signed t) (h i) }
-
--- ---- zeros
-
--- the first i are 0
-pub record Zeros (l : List ℤ) (i : ℕ) : Type 0 where
-  pub each : (k : ℕ) → k < i → getD l k (pos 0) ≡ pos 0
-
-pub zeros-none : (l : List ℤ) → Zeros l 0
-zeros-none l = record { each = λ k h. absurd (omega arith) }
-
-pub zeros-more : (l : List ℤ) (i : ℕ) → i < length l → Zeros l i → Zeros (set l i (pos 0)) (i + 1)
-zeros-more l i b z = record { each = λ k h. go k h (ℕ-discrete k i) }
-  where
-    go : (k : ℕ) → k < i + 1 → Dec (k ≡ i) → getD (set l i (pos 0)) k (pos 0) ≡ pos 0
-    go k h (yes e) = rw e (getD-set-same l i (pos 0) (pos 0) b)
-    go k h (no g) = getD-set-other l i k (pos 0) (pos 0) g ∙ z .each k (omega arith)
-
-pub zeros-all : (l : List ℤ) (n : ℕ) → length l ≡ n → Zeros l n → l ≡ replicate n (pos 0)
-zeros-all l n e z = ext-getD (pos 0) l (replicate n (pos 0)) (e ∙ sym (length-replicate {A = ℤ} n (pos 0))) (λ k h. z .each k (omega arith) ∙ sym (getD-replicate {A = ℤ} n k (pos 0) (pos 0) (omega arith)))
 
 -- ---- additions
 

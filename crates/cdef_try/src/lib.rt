@@ -116,7 +116,7 @@ pub fn try_plane(
     requires { ⌜ Shaped f × Listed f (now skip) (now dirs) (now vars) × Sampled f (now snapshot) × Sampled f (now original) × Seen f v × InForce d × (length (now totals) ≡ 12 * unitsOf f) ⌝ }
     ensures { λ _. ⌜ now (totals .exit) ≡ table (12 * units (pictureOf f (now (skip .entry)) (now (dirs .entry)) (now (vars .entry)))) (λ k. pos (triedTotal (pictureOf f (now (skip .entry)) (now (dirs .entry)) (now (vars .entry))) d v (now (snapshot .entry)) (now (original .entry)) (k / 12) (k % 12))) ⌝ }
 {
-    turns::clear(totals);
+    cdef_totals::clear_totals(totals);
     let mut blocks = block::room();
     let c = cdef_distance::weight::constants_of(f.depth);
     for by in 0..f.height / 8 {

@@ -1,23 +1,13 @@
 // Totals: cleared, and twelve distances added.
 ghost use mathlib.Core.Path.{_≡_};
 ghost use Prim.Native.Nat.{ℕ, _+_, _*_, _^_, _≤_, _<_};
-ghost use lib.IntN.{pos};
-ghost use lib.ListN.{length, replicate};
+ghost use lib.ListN.{length};
 ghost use Rattle.cdef_spec.specs.LoopForm.{signed, addTurns};
 ghost use Rattle.cdef_distance.specs.Weighing.{OfDepth};
 ghost use Rattle.cdef_distance.specs.Blocks.{Within};
 ghost use Rattle.cdef_try.specs.Totals.{plainOf, Low, trialDistances};
 use crate::whole;
 use cdef_spec::DistanceConstants;
-
-// All totals are 0.
-pub fn clear(totals: &mut [i64])
-    ensures { λ _. ⌜ now (totals .exit) ≡ replicate (length (now (totals .entry))) (pos 0) ⌝ }
-{
-    for i in 0..totals.len() {
-        totals[i] = 0;
-    }
-}
 
 // Adds to twelve totals, from `base` on, the distances between a block of the original and the trial blocks, one by one.
 fn add_cut(

@@ -22,8 +22,8 @@ abbrev μ-loop : tie.MeasureT-loop
 ready : (s : tie.Start Inv-loop μ-loop) → let a = s .args in Ready (a .f) (a .v) (a .d) (a .snapshot .now) (a .original .now) (a .skip .now) (a .dirs .now) (a .vars .now)
 ready s = let p = s .pre in record { shaped = p .0; listed = p .1; source = p .2; target = p .3; seen = p .4; force = p .5 }
 
-clear-requires : tie.Need-clear-requires Inv-loop μ-loop
-clear-requires c κs = tt
+clear-totals-requires : tie.Need-clear-totals-requires Inv-loop μ-loop
+clear-totals-requires c κs = tt
 
 room-requires : tie.Need-room-requires Inv-loop μ-loop
 room-requires c κs = tt
@@ -32,7 +32,7 @@ constants-of-requires : tie.Need-constants-of-requires Inv-loop μ-loop
 constants-of-requires c κs = let h = c .before .before .before .before .before .before .before .before .before .pre .0 in (h .deep, h .flat)
 
 loop-holds : tie.Need-loop-holds Inv-loop μ-loop
-loop-holds c = let s = c .before .before .before .before .before .before .before .before .before .before .before in (c .before .before .before .before .clear .ensures ∙ plane-none _ _ _ _ _ _ _ _ _ (s .pre .6), c .before .before .room .ensures, omega arith, refl)
+loop-holds c = let s = c .before .before .before .before .before .before .before .before .before .before .before in (c .before .before .before .before .clear-totals .ensures ∙ plane-none _ _ _ _ _ _ _ _ _ (s .pre .6), c .before .before .room .ensures, omega arith, refl)
 
 slice-aggregate-try-row : tie.Need-slice-aggregate-try-row Inv-loop μ-loop
 slice-aggregate-try-row c = sym (c .before .before .before .loop .inv .1)
@@ -54,7 +54,7 @@ loop-again c = let b = c .before .before .try-row in
     (b .ensures, kept ∙ i .1, omega (arith, c .before .before .before .before .before .loop-test .taken), b .kept .0 ∙ i .3)
 
 same-length : tie.Need-same-length Inv-loop μ-loop
-same-length c = c .before .loop .inv .3 ∙ c .before .before .before .before .before .before .clear .kept .0
+same-length c = c .before .loop .inv .3 ∙ c .before .before .before .before .before .before .clear-totals .kept .0
 
 returns : tie.Need-returns Inv-loop μ-loop
 returns c = let p = c .before in
@@ -67,7 +67,7 @@ try-plane-spec =
     (tie.spec
     Inv-loop
     μ-loop
-    clear-requires
+    clear-totals-requires
     room-requires
     constants-of-requires
     loop-holds

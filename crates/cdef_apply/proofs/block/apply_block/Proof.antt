@@ -15,7 +15,7 @@ use Rattle.cdef_apply.proofs.block.apply_block.Tie as tie
 use Rattle.cdef_apply.proofs.block.apply_block.Reads as reads
 use Rattle.cdef_apply.proofs.block.apply_block.Lts as lts
 use Rattle.cdef_apply.proofs.block.filter_with.Reads as filter-with-reads
-use Rattle.cdef_apply.proofs.block.is_off.Reads as is-off-reads
+use Rattle.cdef_frame.proofs.params.is_off.Reads as is-off-reads
 use Rattle.cdef_apply.proofs.block.pair_of.Reads as pair-of-reads
 use Rattle.cdef_frame.proofs.geometry.unit_at.Reads as unit-at-reads
 

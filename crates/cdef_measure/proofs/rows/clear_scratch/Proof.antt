@@ -4,7 +4,7 @@ use Prim.Native.Nat.{ℕ, _-_, _≤_, _<_}
 use native.Mathlib.Omega.{arith}
 use borrow.Author.Needs.{needs}
 use lib.ListN.{getD, length, length-set}
-use Rattle.cdef_measure.specs.ZeroLaws.{zero-more, zero-all}
+use Rattle.cdef_totals.specs.ZeroLaws.{zero-more, zero-all}
 use Rattle.cdef_measure.proofs.rows.clear_scratch.Statement.{statement}
 use Rattle.cdef_measure.proofs.rows.clear_scratch.Tie as tie
 use Rattle.cdef_measure.proofs.rows.clear_scratch.Reads as reads

@@ -1,15 +1,15 @@
--- `cdef_measure::clear_totals` meets its contract.
+-- `cdef_totals::clear_totals` meets its contract.
 use mathlib.Core.Path.{_≡_, refl}
 use Prim.Native.Nat.{ℕ, _-_, _≤_, _<_}
 use native.Mathlib.Omega.{arith}
 use borrow.Author.Needs.{needs}
 use lib.IntN.{pos}
 use lib.ListN.{getD, length, length-set}
-use Rattle.cdef_measure.specs.ZeroLaws.{zero-more, zero-all}
-use Rattle.cdef_measure.proofs.rows.clear_totals.Statement.{statement}
-use Rattle.cdef_measure.proofs.rows.clear_totals.Tie as tie
-use Rattle.cdef_measure.proofs.rows.clear_totals.Reads as reads
-use Rattle.cdef_measure.proofs.rows.clear_totals.Lts as lts
+use Rattle.cdef_totals.specs.ZeroLaws.{zero-more, zero-all}
+use Rattle.cdef_totals.proofs.clear_totals.Statement.{statement}
+use Rattle.cdef_totals.proofs.clear_totals.Tie as tie
+use Rattle.cdef_totals.proofs.clear_totals.Reads as reads
+use Rattle.cdef_totals.proofs.clear_totals.Lts as lts
 
 abbrev Inv-loop : tie.InvT-loop
 Inv-loop totals₀ k₀ k-end totals k = ((i : ℕ) → i < k → getD totals i (pos 0) ≡ (pos 0)) × (length totals ≡ length totals₀) × (k ≤ k-end)

@@ -1,11 +1,11 @@
--- `cdef_apply::is_off` meets its contract.
+-- `cdef_frame::is_off` meets its contract.
 use native.Mathlib.Omega.{arith}
 use borrow.Author.Needs.{needs}
 use borrow.Author.Tests.{eq-eqb, ne-eqb}
-use Rattle.cdef_apply.proofs.block.is_off.Statement.{statement}
-use Rattle.cdef_apply.proofs.block.is_off.Tie as tie
-use Rattle.cdef_apply.proofs.block.is_off.Reads as reads
-use Rattle.cdef_apply.proofs.block.is_off.Lts as lts
+use Rattle.cdef_frame.proofs.params.is_off.Statement.{statement}
+use Rattle.cdef_frame.proofs.params.is_off.Tie as tie
+use Rattle.cdef_frame.proofs.params.is_off.Reads as reads
+use Rattle.cdef_frame.proofs.params.is_off.Lts as lts
 
 returns : tie.Need-returns
 returns c = rw (ne-eqb _ 0 (c .if1 .taken))

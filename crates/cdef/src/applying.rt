@@ -1,14 +1,90 @@
-// The calls for applying: the snapshot filtered into a destination, each unit with its own pair.
+// The calls for applying: the snapshot filtered into a destination, each unit with its own pair of a lent slice.
+// What is lent structs is proved by hand, and does no more than gather them for the covered function beside it.
 ghost use mathlib.Core.Path.{_≡_};
 ghost use Rattle.cdef_spec.specs.Answers.{readAnswer};
 ghost use Rattle.cdef_spec.specs.Picture.{lumaPicture, chromaPicture};
-ghost use Rattle.cdef_spec.specs.FrameCalls.{applyingListsOutcome};
-use crate::answer;
-use cdef_frame::Frame;
+ghost use Rattle.cdef_spec.specs.FrameCalls.{applyingOutcome};
+ghost use Rattle.cdef_pairs.specs.Gather.{listed};
+use crate::applying_lists;
 use cdef_spec::Answer;
 use cdef_spec::DampingChoice;
+use cdef_spec::UnitPair;
 
-// Applying in luma, a primary and a secondary strength a unit. The destination's length is asked; its old contents are not looked at.
+// Applying in luma with the first n pairs of an array. More than 4,096 are refused, since no picture has so many units.
+fn apply_luma_of(
+    dst: &mut [u16],
+    snapshot: &[u16],
+    width: usize,
+    height: usize,
+    depth: u8,
+    skip: &[u8],
+    dirs: &[u8],
+    vars: &[u32],
+    n: usize,
+    a: [UnitPair; 4096],
+    damping: DampingChoice,
+) -> Answer
+    ensures { λ r. ⌜ applyingOutcome (lumaPicture depth width height (now (skip .entry)) (now (dirs .entry)) (now (vars .entry))) damping (now (snapshot .entry)) (listed n a) (now (dst .entry)) ≡ record { answer = readAnswer r; plane = now (dst .exit) } ⌝ }
+{
+    let lists = cdef_pairs::lists_of(a);
+    let pris = lists.pris;
+    let secs = lists.secs;
+    let m = cdef_pairs::or_none(n);
+    let k = cdef_pairs::at_most(n);
+    applying_lists::apply_luma(
+        dst,
+        snapshot,
+        width,
+        height,
+        depth,
+        skip,
+        dirs,
+        vars,
+        &pris[..m],
+        &secs[..k],
+        damping,
+    )
+}
+
+// The same in a chroma plane. Sizes are luma's; sx and sy are the halving flags.
+fn apply_chroma_of(
+    dst: &mut [u16],
+    snapshot: &[u16],
+    width: usize,
+    height: usize,
+    sx: u8,
+    sy: u8,
+    depth: u8,
+    skip: &[u8],
+    dirs: &[u8],
+    n: usize,
+    a: [UnitPair; 4096],
+    damping: DampingChoice,
+) -> Answer
+    ensures { λ r. ⌜ applyingOutcome (chromaPicture depth width height sx sy (now (skip .entry)) (now (dirs .entry))) damping (now (snapshot .entry)) (listed n a) (now (dst .entry)) ≡ record { answer = readAnswer r; plane = now (dst .exit) } ⌝ }
+{
+    let lists = cdef_pairs::lists_of(a);
+    let pris = lists.pris;
+    let secs = lists.secs;
+    let m = cdef_pairs::or_none(n);
+    let k = cdef_pairs::at_most(n);
+    applying_lists::apply_chroma(
+        dst,
+        snapshot,
+        width,
+        height,
+        sx,
+        sy,
+        depth,
+        skip,
+        dirs,
+        &pris[..m],
+        &secs[..k],
+        damping,
+    )
+}
+
+// Applying in luma, a pair a unit. The destination's length is asked; its old contents are not looked at.
 pub fn apply_luma(
     dst: &mut [u16],
     snapshot: &[u16],
@@ -18,23 +94,24 @@ pub fn apply_luma(
     skip: &[u8],
     dirs: &[u8],
     vars: &[u32],
-    pris: &[u8],
-    secs: &[u8],
+    pairs: &[UnitPair],
     damping: DampingChoice,
 ) -> Answer
-    ensures { λ r. ⌜ readAnswer r ≡ (applyingListsOutcome (lumaPicture depth width height (now (skip .entry)) (now (dirs .entry)) (now (vars .entry))) damping (now (snapshot .entry)) (now (pris .entry)) (now (secs .entry)) (now (dst .entry))) .answer ⌝ }
-    ensures { λ _. ⌜ now (dst .exit) ≡ (applyingListsOutcome (lumaPicture depth width height (now (skip .entry)) (now (dirs .entry)) (now (vars .entry))) damping (now (snapshot .entry)) (now (pris .entry)) (now (secs .entry)) (now (dst .entry))) .plane ⌝ }
+    ensures { λ r. ⌜ applyingOutcome (lumaPicture depth width height (now (skip .entry)) (now (dirs .entry)) (now (vars .entry))) damping (now (snapshot .entry)) (now (pairs .entry)) (now (dst .entry)) ≡ record { answer = readAnswer r; plane = now (dst .exit) } ⌝ }
 {
-    let f = Frame {
-        luma: true,
-        sx: 0,
-        sy: 0,
-        depth: depth,
-        width: width,
-        height: height,
-    };
-    let no = cdef_frame_calls::apply_frame(dst, snapshot, f, skip, dirs, vars, pris, secs, damping);
-    answer::answer_of(no)
+    apply_luma_of(
+        dst,
+        snapshot,
+        width,
+        height,
+        depth,
+        skip,
+        dirs,
+        vars,
+        pairs.len(),
+        cdef_pairs::gather(pairs),
+        damping,
+    )
 }
 
 // Applying in a chroma plane. Sizes are luma's; sx and sy are the halving flags.
@@ -48,32 +125,23 @@ pub fn apply_chroma(
     depth: u8,
     skip: &[u8],
     dirs: &[u8],
-    pris: &[u8],
-    secs: &[u8],
+    pairs: &[UnitPair],
     damping: DampingChoice,
 ) -> Answer
-    ensures { λ r. ⌜ readAnswer r ≡ (applyingListsOutcome (chromaPicture depth width height sx sy (now (skip .entry)) (now (dirs .entry))) damping (now (snapshot .entry)) (now (pris .entry)) (now (secs .entry)) (now (dst .entry))) .answer ⌝ }
-    ensures { λ _. ⌜ now (dst .exit) ≡ (applyingListsOutcome (chromaPicture depth width height sx sy (now (skip .entry)) (now (dirs .entry))) damping (now (snapshot .entry)) (now (pris .entry)) (now (secs .entry)) (now (dst .entry))) .plane ⌝ }
+    ensures { λ r. ⌜ applyingOutcome (chromaPicture depth width height sx sy (now (skip .entry)) (now (dirs .entry))) damping (now (snapshot .entry)) (now (pairs .entry)) (now (dst .entry)) ≡ record { answer = readAnswer r; plane = now (dst .exit) } ⌝ }
 {
-    let f = Frame {
-        luma: false,
-        sx: sx,
-        sy: sy,
-        depth: depth,
-        width: width,
-        height: height,
-    };
-    let none = [0u32; 1];
-    let no = cdef_frame_calls::apply_frame(
+    apply_chroma_of(
         dst,
         snapshot,
-        f,
+        width,
+        height,
+        sx,
+        sy,
+        depth,
         skip,
         dirs,
-        &none,
-        pris,
-        secs,
+        pairs.len(),
+        cdef_pairs::gather(pairs),
         damping,
-    );
-    answer::answer_of(no)
+    )
 }

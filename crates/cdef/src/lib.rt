@@ -1,6 +1,7 @@
 // The public calls. Each asks document 01's questions in order, then works; no function here requires anything.
 mod answer; // answer.rt: an answer from a number
 pub mod applying; // applying.rt: a plane filtered
+pub mod applying_lists; // applying_lists.rt: a plane filtered, the pairs as two lists
 pub mod direction; // direction.rt: the direction of a block
 pub mod directions; // directions.rt: the direction pass
 pub mod distance; // distance.rt: the distance of two blocks

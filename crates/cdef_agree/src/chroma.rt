@@ -61,7 +61,7 @@ pub fn agree_chroma(
         return Agreement::NotTrialPairs;
     }
     parts::copy(dst, snapshot);
-    let a = cdef::applying::apply_chroma(
+    let a = cdef::applying_lists::apply_chroma(
         dst,
         snapshot,
         width,

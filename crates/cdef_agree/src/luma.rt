@@ -59,7 +59,7 @@ pub fn agree_luma(
         return Agreement::NotTrialPairs;
     }
     parts::copy(dst, snapshot);
-    let a = cdef::applying::apply_luma(
+    let a = cdef::applying_lists::apply_luma(
         dst,
         snapshot,
         width,

@@ -28,7 +28,7 @@ pub extern "C" fn quern_apply_luma(
     ensures { λ _. ⌜ now (dst .exit) ≡ (applyingListsOutcome (lumaPicture depth width height (now (skip .entry)) (now (dirs .entry)) (now (vars .entry))) (choiceOf damping quality «from_quality») (now (snapshot .entry)) (now (pris .entry)) (now (secs .entry)) (now (dst .entry))) .plane ⌝ }
 {
     let d = choice::choice(damping, quality, from_quality);
-    answer::number(cdef::applying::apply_luma(
+    answer::number(cdef::applying_lists::apply_luma(
         dst,
         snapshot,
         width,
@@ -65,7 +65,7 @@ pub extern "C" fn quern_apply_chroma(
     ensures { λ _. ⌜ now (dst .exit) ≡ (applyingListsOutcome (chromaPicture depth width height sx sy (now (skip .entry)) (now (dirs .entry))) (choiceOf damping quality «from_quality») (now (snapshot .entry)) (now (pris .entry)) (now (secs .entry)) (now (dst .entry))) .plane ⌝ }
 {
     let d = choice::choice(damping, quality, from_quality);
-    answer::number(cdef::applying::apply_chroma(
+    answer::number(cdef::applying_lists::apply_chroma(
         dst,
         snapshot,
         width,

@@ -242,7 +242,7 @@ fn luma(
     secs: &[u8],
 ) -> Answer {
     let damping = DampingChoice::Given(SignalledDamping(h.damping));
-    cdef::applying::apply_luma(
+    cdef::applying_lists::apply_luma(
         after,
         before,
         h.width,
@@ -267,7 +267,7 @@ fn chroma(
     secs: &[u8],
 ) -> Answer {
     let damping = DampingChoice::Given(SignalledDamping(h.damping));
-    cdef::applying::apply_chroma(
+    cdef::applying_lists::apply_chroma(
         after,
         before,
         h.width,

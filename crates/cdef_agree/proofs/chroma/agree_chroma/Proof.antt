@@ -14,7 +14,7 @@ use Rattle.cdef_agree.proofs.chroma.agree_chroma.Statement.{statement}
 use Rattle.cdef_agree.proofs.chroma.agree_chroma.Tie as tie
 use Rattle.cdef_agree.proofs.chroma.agree_chroma.Reads as reads
 use Rattle.cdef_agree.proofs.chroma.agree_chroma.Lts as lts
-use Rattle.cdef.proofs.applying.apply_chroma.Reads as apply-chroma-reads
+use Rattle.cdef.proofs.applying_lists.apply_chroma.Reads as apply-chroma-reads
 use Rattle.cdef.proofs.measuring.measure_chroma.Reads as measure-chroma-reads
 use Rattle.cdef.proofs.trying.try_chroma.Reads as try-chroma-reads
 use Rattle.cdef_agree.proofs.parts.copy.Reads as copy-reads

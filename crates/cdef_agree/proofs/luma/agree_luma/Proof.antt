@@ -14,7 +14,7 @@ use Rattle.cdef_agree.proofs.luma.agree_luma.Statement.{statement}
 use Rattle.cdef_agree.proofs.luma.agree_luma.Tie as tie
 use Rattle.cdef_agree.proofs.luma.agree_luma.Reads as reads
 use Rattle.cdef_agree.proofs.luma.agree_luma.Lts as lts
-use Rattle.cdef.proofs.applying.apply_luma.Reads as apply-luma-reads
+use Rattle.cdef.proofs.applying_lists.apply_luma.Reads as apply-luma-reads
 use Rattle.cdef.proofs.measuring.measure_luma.Reads as measure-luma-reads
 use Rattle.cdef.proofs.trying.try_luma.Reads as try-luma-reads
 use Rattle.cdef_agree.proofs.parts.copy.Reads as copy-reads

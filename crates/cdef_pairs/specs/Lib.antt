@@ -1,0 +1,5 @@
+pub mod Gather
+pub mod GatherLaws
+pub mod PairLaws
+pub mod LentLaws
+pub mod Truths

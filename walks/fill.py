@@ -1,61 +1,107 @@
-"""The text of a public call's walk: the template's places filled."""
+"""The text of a walk: a template's places filled, and the names that it brings in but does not use left out."""
+import re
+
 from script import items_of, low, tuple_of
 
 
-def dashed(name):
-    return name.replace('_', '-').replace('::', '·')
+def dashed(path):
+    return path.replace('_', '-').replace('::', '·')
 
 
-def promise(c):
+class Cited:
+    """A contract that a walk cites: its name in the walk (gather or callee), and the function's path."""
+
+    def __init__(self, name, path, inside):
+        self.name, self.path, self.inside = name, path, inside
+
+    def uses(self):
+        crate, *rest = self.path.split('::')
+        module = '.'.join([f'Rattle.{crate}.proofs' if self.inside else f'Rattle.{crate}.proofs'] + rest)
+        return [f'use {module} as {self.name}', f'use {module}.Symbol as {self.name}-def',
+                f'use {module}.Symbol.{{name as #{self.name}}}', f'use {module}.Met as {self.name}-thm']
+
+    def contract(self):
+        return self.name.capitalize()
+
+    def known(self, table):
+        return f'(known-{self.name} : Triple 𝓤 ({table} #{self.name}) ({self.contract()} 𝓤 H A mem run))'
+
+    def citing(self):
+        return f'(cited 𝓤 H ({self.contract()} 𝓤 H (𝓖 .A) (𝓜 .mem) (𝓡 .run)) 𝓜 𝓡 code.env #{self.name} {self.name}-def.routine code.calls-{dashed(self.path)} ({self.name}-thm.met 𝓤 H 𝓜 𝓖 𝓡))'
+
+
+def promise(w):
     """The places that speak of the promise alone."""
-    f, mutable = c.function, c.function.mutable()
+    mutable = w.function.mutable()
     return {
-        'PURE': ' '.join(f'({p.name} : {p.pure})' for p in c.params),
-        'RESULT': f.result,
+        'PURE': ' '.join(f'({p.name} : {p.pure})' for p in w.params),
+        'RESULT': w.function.result,
         'LASTS': ''.join(f' ({p.name}′ : {p.pure})' for p in mutable),
         'LAST-NAMES': ''.join(f' {p.name}′' for p in mutable),
-        'CLAIM': c.core.claim([('n', '(length pairs)')]),
-        'SAID': f.claim(),
-        'VALUES': ' '.join(p.value for p in c.params),
+        'VALUES': ' '.join(p.value for p in w.params),
         'LONGS': ''.join(f' → length {p.name}′ ≡ length ({p.name} .now)' for p in mutable),
         'LONG-NAMES': ''.join(f' {p.name}-long' for p in mutable),
-        'ENDS': tuple_of([f'{p.name}′' if p.kind == 'mutable' else 'tt' for p in c.params]),
-        'FITS': tuple_of([f'{p.name}-long' if p.kind == 'mutable' else 'tt' for p in c.params]),
+        'ENDS': tuple_of([f'{p.name}′' if p.kind == 'mutable' else 'tt' for p in w.params]),
+        'FITS': tuple_of([f'{p.name}-long' if p.kind == 'mutable' else 'tt' for p in w.params]),
     }
 
 
-def calls(c):
-    """The places that speak of the two calls."""
-    life = low(c.pairs.life)
-    return {
-        'KAPPA': f'κ{life}', 'SHARE': f'q{life}', 'PAIRS': c.pairs.machine, 'TOKEN': c.token(c.pairs.life), 'OWN': c.owns(c.pairs),
-        'CORE-KAPPAS': c.core_lives('κ'), 'CORE-SHARES': c.core_lives('q'),
-        'CORE-VALUES': c.core_values('a'), 'CORE-MACHINES': c.core_machines('a-val'),
-        'HANDED': items_of(c.handed_items()), 'INTO-CORE': c.into_core(),
-    }
-
-
-def entry(c):
+def entry(w):
     """The places that speak of what is passed."""
-    numbers = range(c.lives)
-    down = [' .1' * i + ' .0' for i in range(len(c.params))]
-    facts = [f'(are{d} .0 .1)' if p.lent else f'(are{d})' for p, d in zip(c.params, down)]
+    numbers = range(w.lives)
+    down = [' .1' * i + ' .0' for i in range(len(w.params))]
+    passed = [f'(args{d})' + (' _' if p.kind == 'array' else '') for p, d in zip(w.params, down)]
+    facts = [f'(are{d} .0 .1)' if p.lent else f'(are{d})' for p, d in zip(w.params, down)]
+    bound = [f'({p.name} : {p.bound})' + (f' ({p.name}-val : Val)' if p.kind == 'array' else '') for p in w.params]
+    kappas, shares = (' '.join(f'{letter}{low(i)}' for i in numbers) for letter in 'κq')
     return {
-        'KAPPAS': ' '.join(f'κ{low(i)}' for i in numbers), 'SHARES': ' '.join(f'q{low(i)}' for i in numbers),
-        'BOUND': ' '.join(f'({p.name} : {p.bound})' for p in c.params), 'FACTS': ' '.join(p.fact() for p in c.params),
-        'AT': c.bound(), 'LIVES': c.lives_of('κ'), 'LIFE-SHARES': c.lives_of('q'),
-        'PARAMS': c.values(), 'MACHINES': c.machines(), 'PASSED': items_of([p.machine for p in c.params]),
-        'TOKENS': c.tokens(list(numbers)), 'TYPES': items_of([p.type(p.life, f'κ{low(p.life)}') for p in c.params]),
-        'STAYS': c.stays(), 'GOES': c.goes(), 'SPELLS': c.spells(), 'TELLS': c.tells(),
-        'WALK-ARGS': ' '.join([f'(κs{" .1" * i} .0)' for i in numbers] + [f'(qs{" .1" * i} .0)' for i in numbers] + [f'(args{d})' for d in down] + facts),
-        'KEPT': items_of(c.kept_items()), 'OUT': c.out(),
+        'GIVEN': ' '.join([f'({kappas} : Lft) ({shares} : Share)'] + bound + [p.fact() for p in w.params]),
+        'AT': w.bound(), 'LIVES': w.lives_of('κ'), 'LIFE-SHARES': w.lives_of('q'),
+        'PARAMS': w.values(), 'MACHINES': w.machines(), 'PASSED': items_of([p.machine for p in w.params]),
+        'TOKENS': w.tokens([w.token(i) for i in numbers]), 'TYPES': items_of([p.type(p.life, f'κ{low(p.life)}') for p in w.params]),
+        'STAYS': w.stays(), 'GOES': w.goes(), 'SPELLS': w.spells(), 'TELLS': w.tells(),
+        'WALK-ARGS': ' '.join([f'(κs{" .1" * i} .0)' for i in numbers] + [f'(qs{" .1" * i} .0)' for i in numbers] + passed + facts + w.also()),
+        'KEPT': items_of(w.kept_items()), 'OUT': w.out(),
+        'HANDED': items_of(w.handed_items()), 'INTO-CALLEE': w.into_callee(),
+        'REQUIRED': w.required(), 'UNFOLDING': w.unfolding(), 'ALLOCS': w.allocs(), 'WALK': w.walk(),
     }
 
 
-def text(template, c, crate, module, uses, answer):
-    allocs, walk = c.walk()
-    places = {'CRATE': crate, 'MODULE': module, 'FN': c.function.name, 'CORE': c.core.name, 'USES': '\n'.join(uses), 'ANSWER': answer,
-              'SPEC': dashed(c.function.name), 'CALLED': dashed(f'{crate}::{module}::{c.core.name}'), 'ALLOCS': allocs, 'WALK': walk}
-    for name, value in {**places, **promise(c), **calls(c), **entry(c)}.items():
-        template = template.replace(f'@{name}@', value)
-    return template
+def of_function(crate, module, name):
+    here = f'Rattle.{crate}.proofs.{module}.{name}'
+    return [f'use {here}.Key.{{name as #call}}', f'use {here} as fun', f'use {here}.Statement as stated', f'use {here}.Code as code']
+
+
+def text(templates, w, crate, module, uses, answer, cited):
+    """templates: the shared names, the body and its ending."""
+    lines = [templates['uses'].rstrip()] + uses + [line for c in cited for line in c.uses()] + of_function(crate, module, w.function.name)
+    places = {
+        'ENDING': templates['ending'].rstrip(), 'CRATE': crate, 'MODULE': module, 'FN': w.function.name, 'SPEC': dashed(w.function.name), 'ANSWER': answer,
+        'KNOWN-IN-C': ' '.join(c.known('C') for c in cited), 'KNOWN': ' '.join(c.known('𝓣 .C') for c in cited),
+        'KNOWN-NAMES': ' '.join(f'known-{c.name}' for c in cited), 'CITED': '\n    '.join(c.citing() for c in cited),
+    }
+    body = templates['body']
+    for name, value in {**places, **promise(w), **entry(w), **w.places()}.items():
+        body = body.replace(f'@{name}@', value)
+    return body.replace('@USES@', '\n'.join(used(lines, body)))
+
+
+def used(lines, body):
+    """The `use` lines that the body needs, with the names that it says."""
+    words = set(re.split(r'[\s(){};,]+', body))
+    spoken = words | {word.split('.')[0] for word in words}
+    kept = []
+    for line in '\n'.join(lines).split('\n'):
+        listed = re.match(r'use (.*)\.\{(.*)\}$', line)
+        if not listed:
+            if line.split(' as ')[1] in spoken:
+                kept.append(line)
+            continue
+        names = [n for n in listed.group(2).split(', ') if says(n.split(' as ')[-1], spoken)]
+        if names:
+            kept.append(f'use {listed.group(1)}.{{{", ".join(names)}}}')
+    return kept
+
+
+def says(name, spoken):
+    return name.strip('_') in spoken if len(name) > 2 and name[0] == '_' and name[-1] == '_' else name in spoken

@@ -8,8 +8,8 @@ SIGNED = ('i64',)
 class Param:
     """kind: number, declared (a struct or an enum by value), array (of pairs), shared or mutable (a slice)."""
 
-    def __init__(self, name, kind, of):
-        self.name, self.kind, self.of = name, kind, of
+    def __init__(self, name, kind, of, count=None):
+        self.name, self.kind, self.of, self.count = name, kind, of, count
         self.life = None
 
     @property
@@ -23,6 +23,8 @@ class Param:
     @property
     def row(self):
         """The type by value, or of a slice's elements."""
+        if self.kind == 'array':
+            return f'(Array the{self.of}.the-row {self.count})'
         return self.of if self.of in WIDTH else f'the{self.of}.the-row'
 
     @property
@@ -66,7 +68,10 @@ class Param:
     def typed(self):
         if self.lent:
             return f'(tt, (tt, (record {{ fits = {self.name}-room .0 }}, tt)))'
-        return f'({lawful(self.of)} .typed {self.name} ({self.machine} ∷ []) {self.name}-is .0)'
+        law = lawful(self.of)
+        if self.kind == 'array':
+            law = f'array-lawful 𝓤 H A W the{self.of}.the-row ({law}) {self.count}'
+        return f'({law} .typed {self.name} ({self.machine} ∷ []) {self.name}-is .0)'
 
     def makes(self):
         """What it owns, had for nothing."""
@@ -92,6 +97,18 @@ def lawful(name):
     return f'{laws(name)}.lawful the{name}.the-type the{name}′.the-laws 𝓤 H A W{few}'
 
 
+def vals(p, which):
+    """The machine values of what is passed by value (vals), and that its relation tells them (tells)."""
+    if p.kind == 'number':
+        return f'uint-{which} w{WIDTH[p.of]}'
+    if p.kind != 'array':
+        return f'{laws(p.of)}.{which} the{p.of}.the-type the{p.of}′.the-laws'
+    spelt = f'(StructLaws.vals the{p.of}.the-type the{p.of}′.the-laws)'
+    if which == 'vals':
+        return f'array-vals {spelt}'
+    return f'array-tells the{p.of}.the-row {spelt} (StructLaws.tells the{p.of}.the-type the{p.of}′.the-laws) {p.count}'
+
+
 def param(text):
     name, of = (part.strip() for part in text.split(':', 1))
     if of.startswith('&mut ['):
@@ -99,7 +116,8 @@ def param(text):
     if of.startswith('&['):
         return Param(name, 'shared', of[2:-1])
     if of.startswith('['):
-        return Param(name, 'array', of[1:].split(';')[0])
+        element, count = of[1:-1].split(';')
+        return Param(name, 'array', element, count.strip())
     return Param(name, 'number' if of in WIDTH else 'declared', of)
 
 

@@ -2,15 +2,16 @@
 use mathlib.Core.Bool.{Bool, true, false, cond, _&&_}
 use mathlib.Core.List.{List}
 use Prim.Native.Nat.{ℕ}
-use lib.Dec.{eqb}
+use lib.Dec.{leb, eqb}
 use lib.IntN.{ℤ}
-use lib.ListN.{getD, length}
+use lib.ListN.{length}
 use Rattle.cdef_spec.specs.declared.DampingChoice.{DampingChoice}
+use Rattle.cdef_spec.specs.declared.UnitPair.{UnitPair}
 use Rattle.cdef_spec.specs.declared.Visible.{Visible}
 use Rattle.cdef_spec.specs.Words.{every}
 use Rattle.cdef_spec.specs.Document01.{isTrialPair}
-use Rattle.cdef_spec.specs.Picture.{Picture}
-use Rattle.cdef_spec.specs.FrameCalls.{tryingNo, TryingOutcome, tryingOutcome, applyingListsNo, ApplyingOutcome, applyingListsOutcome, measuringNo, MeasuringOutcome, measuringOutcome}
+use Rattle.cdef_spec.specs.Picture.{Picture, pairAt}
+use Rattle.cdef_spec.specs.FrameCalls.{tryingNo, TryingOutcome, tryingOutcome, ApplyingOutcome, applyingNo, applyingOutcome, applyingListsNo, pairsOf, applyingListsOutcome, measuringNo, MeasuringOutcome, measuringOutcome}
 use Rattle.cdef_spec.specs.Demand3.{off}
 use Rattle.cdef_agree.specs.declared.Agreement.{Agreement}
 use Rattle.cdef_agree.specs.declared.Agreement.the-variants.{Agreed, NotTrialPairs, TryingRefused, ApplyingRefused, MeasuringRefused}
@@ -23,9 +24,9 @@ isAgreed (TryingRefused n) = false
 isAgreed (ApplyingRefused n) = false
 isAgreed (MeasuringRefused n) = false
 
--- each unit's pair is one of the twelve
-unfoldable pub trialPairs : List ℕ → List ℕ → Bool
-trialPairs pris secs = every (length pris) (λ u. isTrialPair (record { primary = getD pris u 0; secondary = getD secs u 0 }))
+-- each unit's pair is one of the twelve; a list of more than 4,096 pairs is not looked at and is left for applying to refuse
+unfoldable pub trialPairs : List UnitPair → Bool
+trialPairs ps = cond (leb (length ps) 4096) (every (length ps) (λ u. isTrialPair (pairAt ps u))) true
 
 -- the destination once the snapshot is copied into it; one of another length is left for applying to refuse
 unfoldable pub copied : List ℕ → List ℕ → List ℕ
@@ -39,22 +40,33 @@ pub record AgreeOutcome : Type 0 where
   pub measured : List ℤ
   pub scratch : List ℕ
 
--- trying; then, with pairs of the twelve, applying to a copy of the snapshot; then measuring what applying left, with pair 0, 0
-unfoldable pub agreeOutcome : Picture → DampingChoice → Visible → List ℕ → List ℕ → List ℕ → List ℕ → List ℤ → List ℕ → List ℤ → List ℕ → AgreeOutcome
-agreeOutcome q damping v snapshot original pris secs tried dst measured scratch =
+-- trying; then, with pairs of the twelve, applying to a copy of the snapshot; then measuring what applying left, with pair 0, 0.
+-- trial: is each pair one of the twelve; asked and applied: applying's first no and its outcome, by its destination
+unfoldable pub agreeWith : Bool → (List ℕ → ℕ) → (List ℕ → ApplyingOutcome) → Picture → DampingChoice → Visible → List ℕ → List ℕ → List ℤ → List ℕ → List ℤ → List ℕ → AgreeOutcome
+agreeWith trial asked applied q damping v snapshot original tried dst measured scratch =
     let first = eqb (tryingNo q damping v snapshot original tried) 0 in
     let t : TryingOutcome = tryingOutcome q damping v snapshot original tried in
     let copy = copied snapshot dst in
-    let no = applyingListsNo q damping snapshot pris secs copy in
-    let a : ApplyingOutcome = applyingListsOutcome q damping snapshot pris secs copy in
-    let second = first && trialPairs pris secs in
+    let no = asked copy in
+    let a : ApplyingOutcome = applied copy in
+    let second = first && trial in
     let third = second && eqb no 0 in
     let m : MeasuringOutcome = measuringOutcome q damping v (a .plane) original off measured scratch in
     let last = measuringNo q damping v (a .plane) original off measured scratch in
     record {
-      answer = cond first (cond (trialPairs pris secs) (cond (eqb no 0) (cond (eqb last 0) Agreed (MeasuringRefused last)) (ApplyingRefused no)) NotTrialPairs) (TryingRefused (tryingNo q damping v snapshot original tried));
+      answer = cond first (cond trial (cond (eqb no 0) (cond (eqb last 0) Agreed (MeasuringRefused last)) (ApplyingRefused no)) NotTrialPairs) (TryingRefused (tryingNo q damping v snapshot original tried));
       tried = t .totals;
       dst = cond second (a .plane) dst;
       measured = cond third (m .totals) measured;
       scratch = cond third (m .scratch) scratch;
     }
+
+-- one pair a unit
+unfoldable pub agreeOutcome : Picture → DampingChoice → Visible → List ℕ → List ℕ → List UnitPair → List ℤ → List ℕ → List ℤ → List ℕ → AgreeOutcome
+agreeOutcome q damping v snapshot original ps tried dst measured scratch =
+    agreeWith (trialPairs ps) (applyingNo q damping snapshot ps) (applyingOutcome q damping snapshot ps) q damping v snapshot original tried dst measured scratch
+
+-- the twin with two plain lists, a primary and a secondary a unit
+unfoldable pub agreeListsOutcome : Picture → DampingChoice → Visible → List ℕ → List ℕ → List ℕ → List ℕ → List ℤ → List ℕ → List ℤ → List ℕ → AgreeOutcome
+agreeListsOutcome q damping v snapshot original pris secs tried dst measured scratch =
+    agreeWith (trialPairs (pairsOf pris secs)) (applyingListsNo q damping snapshot pris secs) (applyingListsOutcome q damping snapshot pris secs) q damping v snapshot original tried dst measured scratch

@@ -2,17 +2,64 @@
 ghost use mathlib.Core.Path.{_≡_};
 ghost use mathlib.Core.Bool.{true};
 ghost use Rattle.cdef_spec.specs.Picture.{chromaPicture};
-ghost use Rattle.cdef_spec.specs.FrameCalls.{pairsOf};
+ghost use Rattle.cdef_pairs.specs.Gather.{listed};
 ghost use Rattle.cdef_spec.specs.Demand3.{Agrees};
 ghost use Rattle.cdef_agree.specs.Agree.{isAgreed, agreeOutcome};
 use crate::Agreement;
-use crate::parts;
+use crate::chroma_lists;
 use cdef_spec::DampingChoice;
 use cdef_spec::UnitPair;
 use cdef_spec::Visible;
 
-// Tries; with pairs that are each one of the twelve, copies the snapshot into the destination and applies them; measures what that left, with pair 0, 0.
-// Where all three calls are taken, each unit's measured total is its tried total at its pair's trial number.
+// The three calls with the first n pairs of an array. Applying refuses more than 4,096, since no picture has so many units.
+fn agree_chroma_of(
+    tried: &mut [i64],
+    dst: &mut [u16],
+    measured: &mut [i64],
+    scratch: &mut [u16],
+    snapshot: &[u16],
+    original: &[u16],
+    width: usize,
+    height: usize,
+    sx: u8,
+    sy: u8,
+    visible: Visible,
+    depth: u8,
+    skip: &[u8],
+    dirs: &[u8],
+    n: usize,
+    a: [UnitPair; 4096],
+    damping: DampingChoice,
+) -> Agreement
+    ensures { λ r. ⌜ agreeOutcome (chromaPicture depth width height sx sy (now (skip .entry)) (now (dirs .entry))) damping visible (now (snapshot .entry)) (now (original .entry)) (listed n a) (now (tried .entry)) (now (dst .entry)) (now (measured .entry)) (now (scratch .entry)) ≡ record { answer = r; tried = now (tried .exit); dst = now (dst .exit); measured = now (measured .exit); scratch = now (scratch .exit) } ⌝ }
+{
+    let lists = cdef_pairs::lists_of(a);
+    let pris = lists.pris;
+    let secs = lists.secs;
+    let m = cdef_pairs::or_none(n);
+    let k = cdef_pairs::at_most(n);
+    chroma_lists::agree_chroma(
+        tried,
+        dst,
+        measured,
+        scratch,
+        snapshot,
+        original,
+        width,
+        height,
+        sx,
+        sy,
+        visible,
+        depth,
+        skip,
+        dirs,
+        &pris[..m],
+        &secs[..k],
+        damping,
+    )
+}
+
+// The same in a chroma plane. Sizes are luma's; sx and sy are the halving flags.
 pub fn agree_chroma(
     tried: &mut [i64],
     dst: &mut [u16],
@@ -28,65 +75,17 @@ pub fn agree_chroma(
     depth: u8,
     skip: &[u8],
     dirs: &[u8],
-    pris: &[u8],
-    secs: &[u8],
+    pairs: &[UnitPair],
     damping: DampingChoice,
 ) -> Agreement
-    ensures { λ r. ⌜ r ≡ (agreeOutcome (chromaPicture depth width height sx sy (now (skip .entry)) (now (dirs .entry))) damping visible (now (snapshot .entry)) (now (original .entry)) (now (pris .entry)) (now (secs .entry)) (now (tried .entry)) (now (dst .entry)) (now (measured .entry)) (now (scratch .entry))) .answer ⌝ }
-    ensures { λ _. ⌜ now (tried .exit) ≡ (agreeOutcome (chromaPicture depth width height sx sy (now (skip .entry)) (now (dirs .entry))) damping visible (now (snapshot .entry)) (now (original .entry)) (now (pris .entry)) (now (secs .entry)) (now (tried .entry)) (now (dst .entry)) (now (measured .entry)) (now (scratch .entry))) .tried ⌝ }
-    ensures { λ _. ⌜ now (dst .exit) ≡ (agreeOutcome (chromaPicture depth width height sx sy (now (skip .entry)) (now (dirs .entry))) damping visible (now (snapshot .entry)) (now (original .entry)) (now (pris .entry)) (now (secs .entry)) (now (tried .entry)) (now (dst .entry)) (now (measured .entry)) (now (scratch .entry))) .dst ⌝ }
-    ensures { λ _. ⌜ now (measured .exit) ≡ (agreeOutcome (chromaPicture depth width height sx sy (now (skip .entry)) (now (dirs .entry))) damping visible (now (snapshot .entry)) (now (original .entry)) (now (pris .entry)) (now (secs .entry)) (now (tried .entry)) (now (dst .entry)) (now (measured .entry)) (now (scratch .entry))) .measured ⌝ }
-    ensures { λ _. ⌜ now (scratch .exit) ≡ (agreeOutcome (chromaPicture depth width height sx sy (now (skip .entry)) (now (dirs .entry))) damping visible (now (snapshot .entry)) (now (original .entry)) (now (pris .entry)) (now (secs .entry)) (now (tried .entry)) (now (dst .entry)) (now (measured .entry)) (now (scratch .entry))) .scratch ⌝ }
-    ensures { λ r. ⌜ (isAgreed r ≡ true → Agrees (chromaPicture depth width height sx sy (now (skip .entry)) (now (dirs .entry))) (pairsOf (now (pris .entry)) (now (secs .entry))) (now (tried .exit)) (now (measured .exit))) ⌝ }
+    ensures { λ r. ⌜ (agreeOutcome (chromaPicture depth width height sx sy (now (skip .entry)) (now (dirs .entry))) damping visible (now (snapshot .entry)) (now (original .entry)) (now (pairs .entry)) (now (tried .entry)) (now (dst .entry)) (now (measured .entry)) (now (scratch .entry)) ≡ record { answer = r; tried = now (tried .exit); dst = now (dst .exit); measured = now (measured .exit); scratch = now (scratch .exit) }) × (isAgreed r ≡ true → Agrees (chromaPicture depth width height sx sy (now (skip .entry)) (now (dirs .entry))) (now (pairs .entry)) (now (tried .exit)) (now (measured .exit))) ⌝ }
 {
-    let t = cdef::trying::try_chroma(
+    agree_chroma_of(
         tried,
-        snapshot,
-        original,
-        width,
-        height,
-        sx,
-        sy,
-        visible,
-        depth,
-        skip,
-        dirs,
-        damping,
-    );
-    let no = parts::number(t);
-    if no != 0 {
-        return Agreement::TryingRefused(no);
-    }
-    if !parts::trial_pairs(pris, secs) {
-        return Agreement::NotTrialPairs;
-    }
-    parts::copy(dst, snapshot);
-    let a = cdef::applying_lists::apply_chroma(
         dst,
-        snapshot,
-        width,
-        height,
-        sx,
-        sy,
-        depth,
-        skip,
-        dirs,
-        pris,
-        secs,
-        damping,
-    );
-    let no = parts::number(a);
-    if no != 0 {
-        return Agreement::ApplyingRefused(no);
-    }
-    let off = UnitPair {
-        primary: 0,
-        secondary: 0,
-    };
-    let m = cdef::measuring::measure_chroma(
         measured,
         scratch,
-        dst,
+        snapshot,
         original,
         width,
         height,
@@ -96,12 +95,8 @@ pub fn agree_chroma(
         depth,
         skip,
         dirs,
-        off,
+        pairs.len(),
+        cdef_pairs::gather(pairs),
         damping,
-    );
-    let no = parts::number(m);
-    if no != 0 {
-        return Agreement::MeasuringRefused(no);
-    }
-    Agreement::Agreed
+    )
 }

@@ -1,4 +1,4 @@
-// Applying with the first n pairs of an array.
+// Applying with the first n pairs of an array of 128, enough for 640 by 480.
 ghost use mathlib.Core.Path.{_≡_};
 ghost use Prim.Native.Nat.{_≤_};
 ghost use lib.ListN.{take};
@@ -19,10 +19,10 @@ pub fn apply_luma(
     dirs: &[u8],
     vars: &[u32],
     n: usize,
-    a: [UnitPair; 4100],
+    a: [UnitPair; 128],
     damping: DampingChoice,
 ) -> Answer
-    requires { ⌜ n ≤ 4100 ⌝ }
+    requires { ⌜ n ≤ 128 ⌝ }
     ensures { λ r. ⌜ applyingOutcome (lumaPicture depth width height (now (skip .entry)) (now (dirs .entry)) (now (vars .entry))) damping (now (snapshot .entry)) (take n a) (now (dst .entry)) ≡ record { answer = readAnswer r; plane = now (dst .exit) } ⌝ }
 {
     cdef::applying::apply_luma(
@@ -50,10 +50,10 @@ pub fn apply_chroma(
     skip: &[u8],
     dirs: &[u8],
     n: usize,
-    a: [UnitPair; 4100],
+    a: [UnitPair; 128],
     damping: DampingChoice,
 ) -> Answer
-    requires { ⌜ n ≤ 4100 ⌝ }
+    requires { ⌜ n ≤ 128 ⌝ }
     ensures { λ r. ⌜ applyingOutcome (chromaPicture depth width height sx sy (now (skip .entry)) (now (dirs .entry))) damping (now (snapshot .entry)) (take n a) (now (dst .entry)) ≡ record { answer = readAnswer r; plane = now (dst .exit) } ⌝ }
 {
     cdef::applying::apply_chroma(

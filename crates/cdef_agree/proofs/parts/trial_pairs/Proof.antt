@@ -1,13 +1,12 @@
 -- `cdef_agree::trial_pairs` meets its contract.
-use mathlib.Core.Path.{_≡_, refl, ap, _∙_}
-use Prim.Native.Nat.{ℕ, _-_, _≤_}
+use mathlib.Core.Path.{_≡_, refl, _∙_}
+use Prim.Native.Nat.{_-_, _≤_}
 use native.Mathlib.Omega.{arith}
 use borrow.Author.Needs.{needs}
 use lib.ListN.{getD, length}
 use Rattle.cdef_spec.specs.Words.{every}
 use Rattle.cdef_spec.specs.Document01.{isTrialPair}
-use Rattle.cdef_agree.specs.Agree.{trialPairs}
-use Rattle.cdef_agree.specs.PartLaws.{every-none, every-more}
+use Rattle.cdef_agree.specs.PartLaws.{every-none, every-more, many-pairs, few-pairs}
 use Rattle.cdef_agree.proofs.parts.trial_pairs.Statement.{statement}
 use Rattle.cdef_agree.proofs.parts.trial_pairs.Tie as tie
 use Rattle.cdef_agree.proofs.parts.trial_pairs.Reads as reads
@@ -21,6 +20,9 @@ Inv-loop pris secs all₀ u₀ u-end all u = (all ≡ every u (λ u. isTrialPair
 
 abbrev μ-loop : tie.MeasureT-loop
 μ-loop pris secs all₀ u₀ u-end all u = length pris - u
+
+returns : tie.Need-returns Inv-loop μ-loop
+returns c = many-pairs _ _ (c .if1 .taken)
 
 loop-holds : tie.Need-loop-holds Inv-loop μ-loop
 loop-holds c = (every-none _, omega arith, refl)
@@ -46,9 +48,8 @@ loop-less c = omega arith
 loop-again : tie.Need-loop-again Inv-loop μ-loop
 loop-again c = let p = c .before .before .before .before .before in (every-more _ _ _ _ _ (p .loop .inv .0) (c .before .is-trial-pair .ensures ∙ rw (c .before .before .at-or-zero .ensures)) (c .both .ensures), omega arith, p .loop .inv .2)
 
-returns : tie.Need-returns Inv-loop μ-loop
-unfolding trialPairs
-returns c = let p = c .before in let a = p .before .before .before .args in let e : p .loop .u ≡ length (a .pris .now) = omega arith in p .loop .inv .0 ∙ ap (λ (n : ℕ). every n (λ u. isTrialPair (record { primary = getD (a .pris .now) u 0; secondary = getD (a .secs .now) u 0 }))) e
+returns-2 : tie.Need-returns-2 Inv-loop μ-loop
+returns-2 c = let p = c .before in few-pairs _ _ _ _ (omega arith) (omega arith) (p .loop .inv .0)
 
 pub trial-pairs-spec : {M : Type 1} → statement M
 trial-pairs-spec =
@@ -56,6 +57,7 @@ trial-pairs-spec =
     (tie.spec
     Inv-loop
     μ-loop
+    returns
     loop-holds
     shared-slice-read-is-trial-pair
     at-or-zero-requires
@@ -64,4 +66,4 @@ trial-pairs-spec =
     add-u
     loop-less
     loop-again
-    returns)
+    returns-2)

@@ -1,0 +1,59 @@
+// What applying answers to a list of one pair n times, for a flat luma picture of 64 by 128: two units.
+ghost use Prim.Native.Nat.{_≤_};
+use cdef_spec::Answer;
+use cdef_spec::DampingChoice;
+use cdef_spec::SignalledDamping;
+use cdef_spec::UnitPair;
+
+pub fn few(n: usize, pair: UnitPair)
+    requires { ⌜ n ≤ 128 ⌝ }
+{
+    let answer = lend_pairs::apply::apply_luma(
+        &mut [0u16; 8192],
+        &[100u16; 8192],
+        64,
+        128,
+        8,
+        &[0u8; 128],
+        &[0u8; 128],
+        &[0u32; 128],
+        n,
+        [pair; 128],
+        DampingChoice::Given(SignalledDamping(5)),
+    );
+    line(n, pair, answer);
+}
+
+// More pairs than any picture has units.
+pub fn many(n: usize, pair: UnitPair)
+    requires { ⌜ n ≤ 4100 ⌝ }
+{
+    let answer = lend_pairs::long::apply_luma(
+        &mut [0u16; 8192],
+        &[100u16; 8192],
+        64,
+        128,
+        8,
+        &[0u8; 128],
+        &[0u8; 128],
+        &[0u32; 128],
+        n,
+        [pair; 4100],
+        DampingChoice::Given(SignalledDamping(5)),
+    );
+    line(n, pair, answer);
+}
+
+fn line(n: usize, pair: UnitPair, answer: Answer) {
+    print::text(b"pair ");
+    print::number(pair.primary as u64);
+    print::text(b", ");
+    print::number(pair.secondary as u64);
+    print::text(b", times ");
+    print::number(n as u64);
+    print::text(b": ");
+    match answer {
+        Answer::Done => print::text(b"done\n"),
+        Answer::Refused(q) => print::refused(q),
+    }
+}

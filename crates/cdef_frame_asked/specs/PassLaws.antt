@@ -15,8 +15,8 @@ use Rattle.cdef_spec.specs.Questions.{Question, ask, firstNo, allBelow, lumaSid
 use Rattle.cdef_spec.specs.QuestionLaws.{below-get, first-yes, depth-high}
 use Rattle.cdef_spec.specs.FrameCalls.{directionPassNo}
 use Rattle.cdef_frame.specs.FrameLaws.{side-facts}
-use Rattle.cdef_frame_asked.specs.Parts.{sidesFirst}
-use Rattle.cdef_frame_asked.specs.PartLaws.{sides-stop, sides-passed}
+use Rattle.cdef_frame_picture.specs.Parts.{sidesFirst}
+use Rattle.cdef_frame_picture.specs.PartLaws.{sides-stop, sides-passed}
 use Rattle.cdef_frame_asked.specs.Facts.{PassFacts}
 
 -- 1 and 2

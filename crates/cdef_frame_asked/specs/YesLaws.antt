@@ -22,7 +22,7 @@ use Rattle.cdef_frame.specs.declared.Frame.{Frame}
 use Rattle.cdef_frame.specs.Frame.{Shaped, kindOf, pictureOf}
 use Rattle.cdef_frame.specs.FrameLaws.{width-is, height-is, kind-luma}
 use Rattle.cdef_frame.specs.Lent.{Listed, Seen, InForce, blocksOf, unitsOf, samplesOf}
-use Rattle.cdef_frame_asked.specs.Parts.{shapeFirst}
+use Rattle.cdef_frame_picture.specs.Parts.{shapeFirst}
 use Rattle.cdef_frame_asked.specs.Facts.{TryingFacts, MeasuringFacts, ApplyingFacts}
 
 -- ---- tests as bounds

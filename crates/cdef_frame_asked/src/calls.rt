@@ -9,8 +9,6 @@ ghost use Rattle.cdef_spec.specs.Picture.{units};
 ghost use Rattle.cdef_spec.specs.Questions.{visibleTaken, allTaken, primaryTaken, secondaryTaken};
 ghost use Rattle.cdef_spec.specs.FrameCalls.{directionPassNo, tryingNo, measuringNo, applyingListsNo, scratchLength};
 ghost use Rattle.cdef_frame.specs.Frame.{Shaped, pictureOf};
-use crate::lists;
-use crate::picture;
 use cdef_frame::Frame;
 use cdef_spec::DampingChoice;
 use cdef_spec::UnitPair;
@@ -27,7 +25,7 @@ pub fn direction_pass_no(
 ) -> u8
     ensures { λ r. ⌜ r ≡ directionPassNo (record { samples = now (plane .entry); width = width; height = height }) depth (now (dirs .entry)) (now (vars .entry)) ⌝ }
 {
-    let no = picture::sides_no(depth, width, height);
+    let no = cdef_frame_picture::sides_no(depth, width, height);
     if no != 0 {
         return no;
     }
@@ -40,7 +38,7 @@ pub fn direction_pass_no(
     if vars.len() != height / 8 * (width / 8) {
         return 7;
     }
-    if !lists::samples_below(plane, depth) {
+    if !cdef_frame_lists::samples_below(plane, depth) {
         return 9;
     }
     0
@@ -51,10 +49,10 @@ fn trying_listed(f: Frame, v: Visible, totals: &[i64]) -> bool
     requires { ⌜ Shaped f ⌝ }
     ensures { λ r. ⌜ ((s d vs : List ℕ) → r ≡ eqb (length (now (totals .entry))) (12 * units (pictureOf f s d vs)) && visibleTaken (pictureOf f s d vs) v) ⌝ }
 {
-    if totals.len() != 12 * picture::units(f) {
+    if totals.len() != 12 * cdef_frame_picture::units(f) {
         return false;
     }
-    picture::visible_taken(f, v)
+    cdef_frame_picture::visible_taken(f, v)
 }
 
 // Trying, the questions of two planes.
@@ -72,17 +70,17 @@ pub fn trying_no(
     requires { ⌜ (f .luma ≡ true → (f .sx ≡ 0) × (f .sy ≡ 0)) ⌝ }
     ensures { λ r. ⌜ r ≡ tryingNo (pictureOf f (now (skip .entry)) (now (dirs .entry)) (now (vars .entry))) damping v (now (snapshot .entry)) (now (original .entry)) (now (totals .entry)) ⌝ }
 {
-    let no = picture::shape_no(f);
+    let no = cdef_frame_picture::shape_no(f);
     if no != 0 {
         return no;
     }
     let own = trying_listed(f, v, totals);
     let d = cdef_leaf::damping::in_force(damping);
-    let no7 = picture::lent_no(f, d, snapshot, original, skip, dirs, vars, own, true);
+    let no7 = cdef_frame_picture::lent_no(f, d, snapshot, original, skip, dirs, vars, own, true);
     if no7 != 0 {
         return no7;
     }
-    picture::planes_no(snapshot, original, f.depth)
+    cdef_frame_picture::planes_no(snapshot, original, f.depth)
 }
 
 // Measuring, 7: a total a unit, the scratch, and the visible size.
@@ -90,14 +88,14 @@ fn measuring_listed(f: Frame, v: Visible, totals: &[i64], scratch: &[u16]) -> bo
     requires { ⌜ Shaped f ⌝ }
     ensures { λ r. ⌜ ((s d vs : List ℕ) → r ≡ (eqb (length (now (totals .entry))) (units (pictureOf f s d vs)) && eqb (length (now (scratch .entry))) (scratchLength (pictureOf f s d vs))) && visibleTaken (pictureOf f s d vs) v) ⌝ }
 {
-    if totals.len() != picture::units(f) {
+    if totals.len() != cdef_frame_picture::units(f) {
         return false;
     }
     let wide = cdef_frame::geometry::plane_width(f);
     if scratch.len() != wide * (8 / (1 + f.sy as usize)) {
         return false;
     }
-    picture::visible_taken(f, v)
+    cdef_frame_picture::visible_taken(f, v)
 }
 
 // Measuring, the questions of two planes and one pair.
@@ -117,18 +115,18 @@ pub fn measuring_no(
     requires { ⌜ (f .luma ≡ true → (f .sx ≡ 0) × (f .sy ≡ 0)) ⌝ }
     ensures { λ r. ⌜ r ≡ measuringNo (pictureOf f (now (skip .entry)) (now (dirs .entry)) (now (vars .entry))) damping v (now (plane .entry)) (now (original .entry)) p (now (totals .entry)) (now (scratch .entry)) ⌝ }
 {
-    let no = picture::shape_no(f);
+    let no = cdef_frame_picture::shape_no(f);
     if no != 0 {
         return no;
     }
     let own = measuring_listed(f, v, totals, scratch);
-    let vals = picture::pair_taken(p);
+    let vals = cdef_frame_picture::pair_taken(p);
     let d = cdef_leaf::damping::in_force(damping);
-    let no7 = picture::lent_no(f, d, plane, original, skip, dirs, vars, own, vals);
+    let no7 = cdef_frame_picture::lent_no(f, d, plane, original, skip, dirs, vars, own, vals);
     if no7 != 0 {
         return no7;
     }
-    picture::planes_no(plane, original, f.depth)
+    cdef_frame_picture::planes_no(plane, original, f.depth)
 }
 
 // Applying, 7: a primary and a secondary a unit.
@@ -136,7 +134,7 @@ fn applying_listed(f: Frame, pris: &[u8], secs: &[u8]) -> bool
     requires { ⌜ Shaped f ⌝ }
     ensures { λ r. ⌜ ((s d vs : List ℕ) → r ≡ eqb (length (now (pris .entry))) (units (pictureOf f s d vs)) && eqb (length (now (secs .entry))) (units (pictureOf f s d vs))) ⌝ }
 {
-    let n = picture::units(f);
+    let n = cdef_frame_picture::units(f);
     if pris.len() != n {
         return false;
     }
@@ -147,10 +145,10 @@ fn applying_listed(f: Frame, pris: &[u8], secs: &[u8]) -> bool
 fn applying_taken(pris: &[u8], secs: &[u8]) -> bool
     ensures { λ r. ⌜ r ≡ allTaken primaryTaken (now (pris .entry)) && allTaken secondaryTaken (now (secs .entry)) ⌝ }
 {
-    if !lists::all_primary(pris) {
+    if !cdef_frame_lists::all_primary(pris) {
         return false;
     }
-    lists::all_secondary(secs)
+    cdef_frame_lists::all_secondary(secs)
 }
 
 // Applying: the destination's length is asked, its contents are not looked at.
@@ -168,16 +166,16 @@ pub fn applying_no(
     requires { ⌜ (f .luma ≡ true → (f .sx ≡ 0) × (f .sy ≡ 0)) ⌝ }
     ensures { λ r. ⌜ r ≡ applyingListsNo (pictureOf f (now (skip .entry)) (now (dirs .entry)) (now (vars .entry))) damping (now (snapshot .entry)) (now (pris .entry)) (now (secs .entry)) (now (dst .entry)) ⌝ }
 {
-    let no = picture::shape_no(f);
+    let no = cdef_frame_picture::shape_no(f);
     if no != 0 {
         return no;
     }
     let own = applying_listed(f, pris, secs);
     let vals = applying_taken(pris, secs);
     let d = cdef_leaf::damping::in_force(damping);
-    let no7 = picture::lent_no(f, d, snapshot, dst, skip, dirs, vars, own, vals);
+    let no7 = cdef_frame_picture::lent_no(f, d, snapshot, dst, skip, dirs, vars, own, vals);
     if no7 != 0 {
         return no7;
     }
-    picture::plane_no(snapshot, f.depth)
+    cdef_frame_picture::plane_no(snapshot, f.depth)
 }

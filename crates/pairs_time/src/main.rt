@@ -1,4 +1,4 @@
-// Times applying with the pairs lent as one slice of structs and as two lists, by turns: 25 lines a size, in microseconds of processor time.
+// Times applying with the pairs lent as one slice of structs and as two lists, by turns: 25 lines a size, the processor time in microseconds before, between and after.
 // It needs an argument, any, to run; without one it says so.
 mod timed; // timed.rt: calls, timed
 
@@ -15,21 +15,24 @@ fn main() {
 
 // One block: the calls' own cost.
 fn small() {
-    for _k in 0..25 {
-        print::text(b"8 by 8:");
-        let mut dst = [0u16; 64];
-        timed::both(
-            20000,
-            &mut dst,
-            &[100u16; 64],
-            8,
-            8,
-            &[0u8; 1],
-            &[0u8; 1],
-            &[0u32; 1],
-            1,
-        );
+    for k in 0..25usize {
+        one_block();
     }
+}
+
+fn one_block() {
+    print::text(b"8 by 8:");
+    timed::both(
+        20000,
+        &mut [0u16; 64],
+        &[100u16; 64],
+        8,
+        8,
+        &[0u8; 1],
+        &[0u8; 1],
+        &[0u32; 1],
+        1,
+    );
 }
 
 // 80 units.
@@ -39,7 +42,7 @@ fn whole() {
     let mut dirs = [0u8; 4800];
     let mut vars = [0u32; 4800];
     cdef::directions::direction_pass(&mut dirs, &mut vars, &snapshot, 640, 480, 8);
-    for _k in 0..25 {
+    for k in 0..25usize {
         print::text(b"640 by 480:");
         timed::both(
             20,

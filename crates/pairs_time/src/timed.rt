@@ -14,7 +14,7 @@ pub fn picture() -> [u16; 307200] {
     samples
 }
 
-// The processor time of so many calls with a slice of structs, then with two lists.
+// Prints the processor time before so many calls with a slice of structs, between them and as many with two lists, and after those.
 pub fn both(
     calls: u32,
     dst: &mut [u16],
@@ -33,24 +33,15 @@ pub fn both(
     let between = libc::clock();
     as_lists(calls, dst, snapshot, width, height, skip, dirs, vars, n);
     let after = libc::clock();
-    print::text(b" pairs ");
-    print::whole(passed(before, between));
-    print::text(b" lists ");
-    print::whole(passed(between, after));
+    print::text(b" ");
+    print::whole(before);
+    print::text(b" ");
+    print::whole(between);
+    print::text(b" ");
+    print::whole(after);
     print::text(b" calls ");
     print::number(calls as u64);
     print::text(b"\n");
-}
-
-// From one time to a later one; 0 where there is none.
-fn passed(from: i64, to: i64) -> i64 {
-    if from < 0 {
-        return 0;
-    }
-    if to < from {
-        return 0;
-    }
-    to - from
 }
 
 fn as_pairs(
@@ -70,7 +61,7 @@ fn as_pairs(
         primary: 4,
         secondary: 2,
     }; 128];
-    for _k in 0..calls {
+    for k in 0..calls {
         let answer = lend_pairs::apply::apply_luma(
             dst,
             snapshot,
@@ -103,7 +94,7 @@ fn as_lists(
 {
     let pris = [4u8; 128];
     let secs = [2u8; 128];
-    for _k in 0..calls {
+    for k in 0..calls {
         let answer = cdef::applying_lists::apply_luma(
             dst,
             snapshot,

@@ -1,6 +1,6 @@
 -- `cdef_frame_asked::calls::applying_taken` meets its contract.
 use borrow.Author.Needs.{needs}
-use Rattle.cdef_frame_asked.proofs.Said.{no-so, yes-so}
+use Rattle.cdef_frame_lists.specs.Said.{no-so, yes-so}
 use Rattle.cdef_frame_asked.proofs.calls.applying_taken.Statement.{statement}
 use Rattle.cdef_frame_asked.proofs.calls.applying_taken.Tie as tie
 

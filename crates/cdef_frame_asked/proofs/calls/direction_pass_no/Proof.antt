@@ -4,9 +4,9 @@ use native.Mathlib.Omega.{arith}
 use borrow.Author.Needs.{needs}
 use Rattle.cdef_spec.specs.Document01.{Plane}
 use Rattle.cdef_spec.specs.Questions.{firstNo}
-use Rattle.cdef_frame_asked.specs.Parts.{sidesFirst}
+use Rattle.cdef_frame_picture.specs.Parts.{sidesFirst}
 use Rattle.cdef_frame_asked.specs.PassLaws.{SidesFacts, sides-facts, product-low, blocks-low, pass-sides, pass-full, pass-dirs, pass-vars, pass-samples, pass-yes}
-use Rattle.cdef_frame_asked.proofs.Said.{no-so, yes-so}
+use Rattle.cdef_frame_lists.specs.Said.{no-so, yes-so}
 use Rattle.cdef_frame_asked.proofs.calls.direction_pass_no.Statement.{statement}
 use Rattle.cdef_frame_asked.proofs.calls.direction_pass_no.Tie as tie
 

@@ -10,8 +10,8 @@ use Rattle.cdef_spec.specs.Picture.{Picture, units}
 use Rattle.cdef_spec.specs.Questions.{firstNo, visibleTaken, pairTaken}
 use Rattle.cdef_spec.specs.FrameCalls.{measuringNo, scratchLength}
 use Rattle.cdef_frame.specs.Frame.{Shaped, pictureOf}
-use Rattle.cdef_frame_asked.specs.Parts.{shapeFirst, lentFirst}
-use Rattle.cdef_frame_asked.specs.PartLaws.{lent-as, at-shape, at-lent, at-samples}
+use Rattle.cdef_frame_picture.specs.Parts.{shapeFirst, lentFirst}
+use Rattle.cdef_frame_picture.specs.PartLaws.{lent-as, at-shape, at-lent, at-samples}
 use Rattle.cdef_frame_asked.specs.YesLaws.{shape-facts}
 use Rattle.cdef_frame_asked.proofs.calls.measuring_no.Statement.{statement}
 use Rattle.cdef_frame_asked.proofs.calls.measuring_no.Tie as tie

@@ -12,7 +12,7 @@ use Rattle.made_pictures.proofs.run.lent.Lts as lts
 use Rattle.made_pictures.proofs.lists.skips.Reads as skips-reads
 use Rattle.made_pictures.proofs.run.area.Reads as area-reads
 use Rattle.made_pictures.proofs.run.visible.Reads as visible-reads
-use Rattle.cdef_agree.proofs.chroma.agree_chroma.Reads as agree-chroma-reads
+use Rattle.made_pictures.proofs.agreed.agree_chroma.Reads as agree-chroma-reads
 
 area-requires : tie.Need-area-requires
 area-requires c κs = search needs

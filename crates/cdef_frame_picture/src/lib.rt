@@ -1,0 +1,230 @@
+// The questions that the frame calls share. 1, 2 and 3 come first; what follows them requires a yes to these.
+ghost use mathlib.Core.Path.{_≡_};
+ghost use mathlib.Core.Bool.{true};
+ghost use mathlib.Core.List.{List, [], _∷_};
+ghost use Prim.Native.Nat.{ℕ, _*_, _≤_};
+ghost use lib.Dec.{eqb};
+ghost use lib.ListN.{length};
+ghost use Rattle.cdef_spec.specs.Picture.{planeWidth, planeHeight, units as unitsIn};
+ghost use Rattle.cdef_spec.specs.Questions.{firstNo, lumaSideTaken, flagsTaken, pictureListed, visibleTaken, signalledTaken, variancesTaken, pictureTaken, pairTaken};
+ghost use Rattle.cdef_frame.specs.Frame.{Shaped, kindOf, pictureOf};
+ghost use Rattle.cdef_frame_picture.specs.Parts.{sidesFirst, shapeFirst, lentFirst, sampleLast};
+use cdef_frame::Frame;
+use cdef_spec::SignalledDamping;
+use cdef_spec::UnitPair;
+use cdef_spec::Visible;
+
+// 2: a side of luma, 1 to 4,096 and a multiple of 8.
+fn luma_side_taken(n: usize) -> bool
+    ensures { λ r. ⌜ r ≡ lumaSideTaken n ⌝ }
+{
+    if n == 0 {
+        return false;
+    }
+    if 4096 < n {
+        return false;
+    }
+    n % 8 == 0
+}
+
+// 1 and 2: the depth and the sides.
+pub fn sides_no(depth: u8, width: usize, height: usize) -> u8
+    ensures { λ r. ⌜ r ≡ firstNo (sidesFirst depth width height) ⌝ }
+{
+    if depth < 8 {
+        return 1;
+    }
+    if 12 < depth {
+        return 1;
+    }
+    if !luma_side_taken(width) {
+        return 2;
+    }
+    if !luma_side_taken(height) {
+        return 2;
+    }
+    0
+}
+
+// 3: the halving flags of chroma.
+fn flags_taken(f: Frame) -> bool
+    ensures { λ r. ⌜ ((vs : List ℕ) → r ≡ flagsTaken (kindOf f vs)) ⌝ }
+{
+    if f.luma {
+        return true;
+    }
+    if 1 < f.sx {
+        return false;
+    }
+    f.sy < 2
+}
+
+// 1, 2 and 3.
+pub fn shape_no(f: Frame) -> u8
+    ensures { λ r. ⌜ ((s d vs : List ℕ) → r ≡ firstNo (shapeFirst (pictureOf f s d vs))) ⌝ }
+{
+    let no = sides_no(f.depth, f.width, f.height);
+    if no != 0 {
+        return no;
+    }
+    if !flags_taken(f) {
+        return 3;
+    }
+    0
+}
+
+// 4: a plane holds exactly its own sides' product of samples.
+fn full(f: Frame, plane: &[u16]) -> bool
+    requires { ⌜ Shaped f ⌝ }
+    ensures { λ r. ⌜ ((s d vs : List ℕ) → r ≡ eqb (length (now (plane .entry))) (planeWidth (pictureOf f s d vs) * planeHeight (pictureOf f s d vs))) ⌝ }
+{
+    plane.len() == cdef_frame::geometry::plane_width(f) * cdef_frame::geometry::plane_height(f)
+}
+
+// 7: a flag, a direction and, in luma, a variance a block.
+fn picture_listed(f: Frame, skip: &[u8], dirs: &[u8], vars: &[u32]) -> bool
+    requires { ⌜ Shaped f ⌝ }
+    ensures { λ r. ⌜ r ≡ pictureListed (pictureOf f (now (skip .entry)) (now (dirs .entry)) (now (vars .entry))) ⌝ }
+{
+    let n = f.height / 8 * (f.width / 8);
+    if skip.len() != n {
+        return false;
+    }
+    if dirs.len() != n {
+        return false;
+    }
+    if f.luma {
+        return vars.len() == n;
+    }
+    true
+}
+
+// 7: how many units, for the lists that have an entry a unit.
+pub fn units(f: Frame) -> usize
+    requires { ⌜ Shaped f ⌝ }
+    ensures { λ r. ⌜ ((s d vs : List ℕ) → r ≡ unitsIn (pictureOf f s d vs)) × (r ≤ 4096) ⌝ }
+{
+    (f.height + 63) / 64 * ((f.width + 63) / 64)
+}
+
+// 7: the visible size is 1 to the luma sides.
+pub fn visible_taken(f: Frame, v: Visible) -> bool
+    ensures { λ r. ⌜ ((s d vs : List ℕ) → r ≡ visibleTaken (pictureOf f s d vs) v) ⌝ }
+{
+    if v.width == 0 {
+        return false;
+    }
+    if f.width < v.width {
+        return false;
+    }
+    if v.height == 0 {
+        return false;
+    }
+    v.height <= f.height
+}
+
+// 8: the variances, which only luma has.
+fn variances_taken(f: Frame, vars: &[u32]) -> bool
+    ensures { λ r. ⌜ r ≡ variancesTaken (kindOf f (now (vars .entry))) ⌝ }
+{
+    if f.luma {
+        return cdef_frame_lists::all_below_u32(vars, 860161);
+    }
+    true
+}
+
+// 8: the figure in force, 3 to 6.
+fn signalled_taken(d: SignalledDamping) -> bool
+    ensures { λ r. ⌜ r ≡ signalledTaken d ⌝ }
+{
+    if d.0 < 3 {
+        return false;
+    }
+    d.0 <= 6
+}
+
+// 8: flags, directions, variances and the figure in force.
+fn picture_taken(f: Frame, skip: &[u8], dirs: &[u8], vars: &[u32], d: SignalledDamping) -> bool
+    ensures { λ r. ⌜ r ≡ pictureTaken (pictureOf f (now (skip .entry)) (now (dirs .entry)) (now (vars .entry))) d ⌝ }
+{
+    if !cdef_frame_lists::all_below_u8(skip, 2) {
+        return false;
+    }
+    if !cdef_frame_lists::all_below_u8(dirs, 8) {
+        return false;
+    }
+    if !variances_taken(f, vars) {
+        return false;
+    }
+    signalled_taken(d)
+}
+
+// 8: a pair's strengths.
+pub fn pair_taken(p: UnitPair) -> bool
+    ensures { λ r. ⌜ r ≡ pairTaken p ⌝ }
+{
+    if 15 < p.primary {
+        return false;
+    }
+    cdef_frame_lists::secondary_taken(p.secondary)
+}
+
+// 4, 7 and 8 of two planes; own and vals: the answers of a call's own parts of 7 and 8.
+pub fn lent_no(
+    f: Frame,
+    d: SignalledDamping,
+    a: &[u16],
+    b: &[u16],
+    skip: &[u8],
+    dirs: &[u8],
+    vars: &[u32],
+    own: bool,
+    vals: bool,
+) -> u8
+    requires { ⌜ Shaped f ⌝ }
+    ensures { λ r. ⌜ r ≡ firstNo (lentFirst (pictureOf f (now (skip .entry)) (now (dirs .entry)) (now (vars .entry))) d (now (a .entry) ∷ now (b .entry) ∷ []) own vals) ⌝ }
+{
+    if !full(f, a) {
+        return 4;
+    }
+    if !full(f, b) {
+        return 4;
+    }
+    if !picture_listed(f, skip, dirs, vars) {
+        return 7;
+    }
+    if !own {
+        return 7;
+    }
+    if !picture_taken(f, skip, dirs, vars, d) {
+        return 8;
+    }
+    if !vals {
+        return 8;
+    }
+    0
+}
+
+// 9: all samples of one plane, and of two.
+pub fn plane_no(a: &[u16], depth: u8) -> u8
+    requires { ⌜ depth ≤ 12 ⌝ }
+    ensures { λ r. ⌜ r ≡ firstNo (sampleLast depth (now (a .entry) ∷ [])) ⌝ }
+{
+    if !cdef_frame_lists::samples_below(a, depth) {
+        return 9;
+    }
+    0
+}
+
+pub fn planes_no(a: &[u16], b: &[u16], depth: u8) -> u8
+    requires { ⌜ depth ≤ 12 ⌝ }
+    ensures { λ r. ⌜ r ≡ firstNo (sampleLast depth (now (a .entry) ∷ now (b .entry) ∷ [])) ⌝ }
+{
+    if !cdef_frame_lists::samples_below(a, depth) {
+        return 9;
+    }
+    if !cdef_frame_lists::samples_below(b, depth) {
+        return 9;
+    }
+    0
+}

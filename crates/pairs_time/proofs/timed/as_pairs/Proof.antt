@@ -1,0 +1,57 @@
+-- `pairs_time::as_pairs` meets its contract.
+use mathlib.Core.Path.{_≡_, refl}
+use Prim.Native.Nat.{ℕ, _-_, _≤_, _<_}
+use native.Mathlib.Omega.{arith}
+use borrow.Author.Needs.{needs}
+use lib.ListN.{length, length-set, length-replicate}
+use Rattle.pairs_time.proofs.timed.as_pairs.Statement.{statement}
+use Rattle.pairs_time.proofs.timed.as_pairs.Tie as tie
+use Rattle.pairs_time.proofs.timed.as_pairs.Reads as reads
+use Rattle.pairs_time.proofs.timed.as_pairs.Lts as lts
+use Rattle.lend_pairs.proofs.apply.apply_luma.Reads as apply-luma-reads
+use Rattle.pairs_time.proofs.timed.done.Reads as done-reads
+
+abbrev Inv-loop : tie.InvT-loop
+Inv-loop calls dst₀ snapshot width height skip dirs vars n a k₀ dst k = (length dst ≡ length dst₀) × (k ≤ calls)
+
+abbrev μ-loop : tie.MeasureT-loop
+μ-loop calls dst₀ snapshot width height skip dirs vars n a k₀ dst k = calls - k
+
+loop-holds : tie.Need-loop-holds Inv-loop μ-loop
+loop-holds c = (refl, omega arith)
+
+apply-luma-requires : tie.Need-apply-luma-requires Inv-loop μ-loop
+apply-luma-requires c κs = search needs
+
+done-requires : tie.Need-done-requires Inv-loop μ-loop
+done-requires c κs = search needs
+
+add-k : tie.Need-add-k Inv-loop μ-loop
+add-k c = omega arith
+
+loop-less : tie.Need-loop-less Inv-loop μ-loop
+loop-less c = omega arith
+
+loop-again : tie.Need-loop-again Inv-loop μ-loop
+loop-again c = (omega arith, omega arith)
+
+same-length : tie.Need-same-length Inv-loop μ-loop
+same-length c = omega arith
+
+returns : tie.Need-returns Inv-loop μ-loop
+returns c = search needs
+
+pub as-pairs-spec : {M : Type 1} → statement M
+as-pairs-spec =
+    tie.close
+    (tie.spec
+    Inv-loop
+    μ-loop
+    loop-holds
+    apply-luma-requires
+    done-requires
+    add-k
+    loop-less
+    loop-again
+    same-length
+    returns)

@@ -1,6 +1,6 @@
 """What the walks of functions with a list of parameters share: their terms, entry, exit, and the call of one function that does the work."""
-from script import Script, items_of, low, operands, tuple_of
-from signature import lawful, laws, vals
+from script import Script, low, operands, tuple_of
+from signature import lawful, vals
 
 
 class Walk:

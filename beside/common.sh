@@ -23,11 +23,16 @@ crate() {
         -L "$out" "$@" --out-dir "$out" "beside/src/$file") || fail "$name was not compiled"
 }
 
+# What compiling needs.
+prepare() {
+    command -v rustc >/dev/null || fail "rustc is not on PATH"
+    mkdir -p "$out"
+}
+
 # Compiles the Rust of the folder given and what the programs share. The Rust's
 # functions under cfg(test) are wanted, its tests are not.
 build_reference() {
-    command -v rustc >/dev/null || fail "rustc is not on PATH"
-    mkdir -p "$out"
+    prepare
     MAROONTREE=$1 crate reference reference/lib.rs --crate-type rlib --cfg test
     crate support support/lib.rs --crate-type rlib --extern reference
 }
@@ -53,6 +58,20 @@ build_library() {
     fi
     command -v rt >/dev/null || fail "target/staticlib/libcdef_c.a is absent or old, and rt, which makes it, is not on PATH"
     (cd "$root" && rt staticlib cdef_c) || fail "rt staticlib cdef_c failed"
+}
+
+# The refusals, which want nothing of the Rust's.
+build_refusals() {
+    prepare
+    build_library
+    crate refusals refusals/main.rs -L "native=$root/target/staticlib"
+}
+
+# Runs them under valgrind, with lists from malloc that are exactly as long as they
+# are said to be; a load that is only partly past an end is an error too.
+refusals_under_valgrind() {
+    valgrind --error-exitcode=1 --partial-loads-ok=no --log-file="$out/valgrind.log" \
+        "$out/refusals" exact "$@"
 }
 
 # The programs that compare, from sources that have been checked.

@@ -1,0 +1,87 @@
+//! One case: lent, called, compared.
+
+use crate::case::{Call, Case, Slot};
+use crate::lent::Guard;
+use crate::options::{Options, Plant};
+use crate::table::Counts;
+use crate::{entry, model, stopped};
+
+/// How many differences of a call are printed.
+const SHOWN: u64 = 5;
+
+/// Makes the call, and compares its answer and what it was lent. The sides of the guards
+/// are drawn.
+pub fn run(c: &mut Case, number: u64, drawn: u64, options: &Options, counts: &mut Counts) {
+    let call = c.call;
+    let right = model::first_no(c);
+    let plant = acting(options, call, number, right);
+    let due = match plant {
+        Some(Plant::Model(_)) => 0,
+        _ => right,
+    };
+    lend(c, drawn, plant);
+    let got = stopped::during(call, number, || entry::answer(c));
+    let altered = match plant {
+        // Not every place is there to compare.
+        Some(Plant::Read | Plant::Before) => None,
+        Some(Plant::Write) => {
+            counts.planted += u64::from(spoil(c, got, drawn));
+            altered(c, got)
+        }
+        _ => altered(c, got),
+    };
+    call.lent().for_each(|slot| c.list(slot).give_back());
+    counts.due[right as usize] += 1;
+    counts.planted += u64::from(due != right);
+    if got != due || altered.is_some() {
+        counts.different += 1;
+        if counts.different <= SHOWN {
+            let (name, seed) = (call.name(), options.seed);
+            print!("DIFFERENT {name}:{number}, seed {seed}: got {got}, due {due}, ");
+            println!("altered {altered:?}, {c:?}");
+        }
+    }
+}
+
+/// The plant, where it acts in this case.
+fn acting(options: &Options, call: Call, number: u64, right: u32) -> Option<Plant> {
+    let (plant, of) = options.plant?;
+    let acts = match plant {
+        Plant::Model(question) => right == question && number.is_multiple_of(3),
+        Plant::Read | Plant::Before => right == 0,
+        Plant::Write => number.is_multiple_of(3),
+    };
+    (of == call && acts).then_some(plant)
+}
+
+fn lend(c: &mut Case, drawn: u64, plant: Option<Plant>) {
+    let call = c.call;
+    let first = *call.shared().first().unwrap_or(&call.written()[0]);
+    for slot in call.lent() {
+        let side = [Guard::Before, Guard::After][(drawn >> slot as u32) as usize & 1];
+        match plant {
+            Some(Plant::Read) if slot == first => c.list(slot).lend(Guard::After, 1),
+            Some(Plant::Before) if slot == first => c.list(slot).lend(Guard::Before, 1),
+            _ => c.list(slot).lend(side, 0),
+        }
+    }
+}
+
+/// What may not be altered: after a refusal nothing lent, else nothing that is only read.
+fn kept(call: Call, got: u32) -> impl Iterator<Item = Slot> {
+    let written: &[Slot] = if got == 0 { &[] } else { call.written() };
+    call.shared().iter().chain(written).copied()
+}
+
+/// The first of these lists that is not what it was.
+fn altered(c: &mut Case, got: u32) -> Option<Slot> {
+    kept(c.call, got).find(|slot| !c.list(*slot).same())
+}
+
+/// Alters one place of these lists; whether there is one.
+fn spoil(c: &mut Case, got: u32, drawn: u64) -> bool {
+    let mut slots: Vec<Slot> = kept(c.call, got).collect();
+    slots.retain(|slot| c.list(*slot).len() > 0);
+    let chosen = slots.get(drawn as usize % slots.len().max(1));
+    chosen.inspect(|slot| c.list(**slot).spoil()).is_some()
+}

@@ -39,6 +39,10 @@ fn main() -> ExitCode {
         return ExitCode::from(2);
     };
     println!("refusals, seed {}", options.seed);
+    std::panic::set_hook(Box::new(|why| {
+        eprintln!("{why}");
+        std::process::exit(2)
+    }));
     stopped::watch(options.seed);
     let mut case = Case::new(match options.measure.exact {
         true => || Source::Exact,

@@ -1,9 +1,11 @@
 -- Bounds of the sums.
 use mathlib.Core.Path.{_≡_, refl, sym, ap, _∙_}
+use mathlib.Core.Bool.{Bool, true, false, cond}
 use mathlib.Core.List.{List}
 use Prim.Native.Nat.{ℕ, _+_, _*_, _≤_, _<_}
 use native.Mathlib.Omega.{arith}
 use native.Mathlib.Nat.{mul-le-mul}
+use lib.Dec.{eqb}
 use lib.ListN.{getD}
 use lib.IntN.{ℤ, pos, natAbs, _+ℤ_, _*ℤ_}
 use mir.Syntax.{w16}
@@ -13,10 +15,13 @@ use Rattle.cdef_sample.specs.Sample.{conOf}
 use Rattle.cdef_sample.specs.SampleLaws.{size-con}
 use Rattle.cdef_rows.specs.Place.{tapOn, tapBack}
 use Rattle.cdef_sample.specs.Bounds.{Held, Within}
-use Rattle.cdef_sample.proofs.Joins.{add-ok, add-is, back-is}
+use Rattle.cdef_sample.proofs.Joins.{Is, add-ok, add-is, back-is}
 use Rattle.cdef_sample.specs.Upto.{upto, upto-all-of}
 use Rattle.cdef_rows.specs.Sums.{InRange, pairAt, highPair, priAt, nearAt, farAt, secAt, lowAt, highAt}
 use Rattle.cdef_rows.specs.SumsLaws.{high-pair-le}
+use Rattle.cdef_rows.specs.Pairs.{conTap, pairSum, weighed, priSum, secSum}
+use Rattle.cdef_rows.specs.declared.both.Pair.{Pair}
+use Rattle.cdef_rows.specs.declared.both.Pairs.{Pairs}
 use Rattle.cdef_rows.specs.declared.Taps.{Taps}
 use Rattle.cdef_rows.specs.declared.Strength.{Strength}
 
@@ -75,6 +80,35 @@ module _ (w : List ℕ) (k : ℕ) (t : Taps) (h : Held w) where
   unfolding highAt
   high-le = omega (arith, h .all k, high (t .p0), high (t .p1), high (t .q0), high (t .q1), high (t .r0), high (t .r1))
 
+-- the sums of taps as the window has them
+pub size-tap : (t c s sh : ℕ) → natAbs (conTap t c s sh) ≤ s
+unfolding conTap
+size-tap t c s sh = go (eqb t 16384)
+  where
+    go : (b : Bool) → natAbs (cond b (pos 0) (conOf t c s sh)) ≤ s
+    go true = omega arith
+    go false = size-con t c s sh
+
+pub size-pair-sum : (p : Pair) (c s sh : ℕ) → s ≤ 240 → natAbs (pairSum p c s sh) ≤ 480
+unfolding pairSum
+size-pair-sum p c s sh h = omega (arith, size-add (conTap (p .on) c s sh) (conTap (p .back) c s sh), size-tap (p .on) c s sh, size-tap (p .back) c s sh)
+
+module _ (e : Pairs) (c : ℕ) (f : Strength) (m : InRange f) where
+  of : (p : Pair) → Small (pairSum p c (f .s) (f .sh)) 480
+  of p = record { small = size-pair-sum p c (f .s) (f .sh) (m .s) }
+
+  pub size-pri-sum : natAbs (priSum e c f) ≤ 3840
+  unfolding priSum weighed
+  size-pri-sum = two (scaled (m .w0) (of (e .p0))) (scaled (m .w1) (of (e .p1))) .small
+
+  pub size-sec-sum : natAbs (secSum e c f) ≤ 7680
+  unfolding secSum weighed
+  size-sec-sum = two (scaled (m .w0) (two (of (e .q0)) (of (e .r0)))) (scaled (m .w1) (two (of (e .q1)) (of (e .r1)))) .small
+
+-- a number that is handed to a call
+pub small-back : {x a : ℤ} {m n : ℕ} → Is x a m → m ≤ n → n ≤ 32767 → natAbs (toZ w16 (ofZ w16 x)) ≤ n
+small-back p h k = rw (back-is p (omega arith)) (omega (arith, p .small))
+
 -- the rows' entries
 module _ (w : List ℕ) (row : ℕ) (t : Taps) (f : Strength) (m : InRange f) where
   pub pri-within : Within (upto (λ (j : ℕ). priAt w (row + j) t f) 8) 3840
@@ -82,10 +116,3 @@ module _ (w : List ℕ) (row : ℕ) (t : Taps) (f : Strength) (m : InRange f) wh
 
   pub sec-within : Within (upto (λ (j : ℕ). secAt w (row + j) t f) 8) 7680
   sec-within = record { all = upto-all-of (λ (z : ℤ). natAbs z ≤ 7680) (λ (j : ℕ). secAt w (row + j) t f) 8 (pos 0) (λ j. size-sec w (row + j) t f m) (omega arith) }
-
-module _ (w : List ℕ) (row : ℕ) (t : Taps) (h : Held w) where
-  pub low-held : Held (upto (λ (j : ℕ). lowAt w (row + j) t) 8)
-  low-held = record { all = upto-all-of (λ (v : ℕ). v ≤ 16384) (λ (j : ℕ). lowAt w (row + j) t) 8 0 (λ j. low-le w (row + j) t h) (omega arith) }
-
-  pub high-held : Held (upto (λ (j : ℕ). highAt w (row + j) t) 8)
-  high-held = record { all = upto-all-of (λ (v : ℕ). v ≤ 16384) (λ (j : ℕ). highAt w (row + j) t) 8 0 (λ j. high-le w (row + j) t h) (omega arith) }

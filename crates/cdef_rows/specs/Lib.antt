@@ -2,3 +2,5 @@
 pub mod Place
 pub mod Sums
 pub mod SumsLaws
+pub mod Pairs
+pub mod PairsLaws

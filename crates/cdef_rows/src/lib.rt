@@ -1,9 +1,11 @@
 // A row of eight samples of the window, each sum and the filtered row by value.
+mod both; // both.rt: one sample, filtered with both strengths
+
 ghost use mathlib.Core.Path.{_≡_};
 ghost use Prim.Native.Nat.{_+_, _≤_};
-ghost use lib.IntN.{pos, _+ℤ_};
+ghost use lib.IntN.{pos};
 ghost use lib.ListN.{getD};
-ghost use Rattle.cdef_sample.specs.Sample.{finishOf, freeOf};
+ghost use Rattle.cdef_sample.specs.Sample.{freeOf};
 ghost use Rattle.cdef_sample.specs.Upto.{upto};
 ghost use Rattle.cdef_rows.specs.Place.{Near, tapOn, tapBack};
 ghost use Rattle.cdef_sample.specs.Bounds.{Held, Within};
@@ -165,36 +167,16 @@ pub fn limit_row(w: &[u16; 144], row: usize, t: Taps) -> LimitRow
     LimitRow { lo: lo, hi: hi }
 }
 
-pub fn done_row(
-    w: &[u16; 144],
-    row: usize,
-    p: [i16; 8],
-    s: [i16; 8],
-    lo: [u16; 8],
-    hi: [u16; 8],
-) -> [u16; 8]
-    requires { ⌜ (26 ≤ row) × (row ≤ 110) × Held (now w) × Within p 3840 × Within s 7680 × Held lo × Held hi ⌝ }
-    ensures { λ r. ⌜ r ≡ upto (λ j. finishOf (getD (now (w .entry)) (row + j) 0) (getD p j (pos 0) +ℤ getD s j (pos 0)) (getD lo j 0) (getD hi j 0)) 8 ⌝ }
-{
-    let mut out = [0u16; 8];
-    for j in 0..8usize {
-        let at = row + j;
-        out[j] = cdef_sample::finish(w[at], cdef_sample::add(p[j], s[j]), lo[j], hi[j]);
-    }
-    out
-}
-
 // The filtered row that starts at `row` of the window.
 pub fn filtered_row(w: &[u16; 144], row: usize, t: Taps, f: Strength, g: Strength) -> [u16; 8]
     requires { ⌜ (26 ≤ row) × (row ≤ 110) × Held (now w) × Near6 t × InRange f × InRange g ⌝ }
     ensures { λ r. ⌜ r ≡ upto (λ j. filteredAt (now (w .entry)) (row + j) t f g) 8 ⌝ }
 {
-    let p = pri_row(w, row, t, f);
-    let s = sec_row(w, row, t, g);
-    let e = limit_row(w, row, t);
-    let lo = e.lo;
-    let hi = e.hi;
-    done_row(w, row, p, s, lo, hi)
+    let mut out = [0u16; 8];
+    for j in 0..8usize {
+        out[j] = both::both_at(w, row + j, t, f, g);
+    }
+    out
 }
 
 // A row moved by its sums alone.

@@ -1,50 +1,61 @@
 -- `cdef_rows::filtered_row` meets its contract.
-use mathlib.Core.Path.{_≡_, _∙_}
-use Prim.Native.Nat.{ℕ, _+_}
+use mathlib.Core.Path.{_≡_, refl, sym}
+use Prim.Native.Nat.{ℕ, _+_, _-_, _≤_}
 use native.Mathlib.Omega.{arith}
-use borrow.Author.Needs.{needs}
-use mathlib.Core.List.{List}
-use lib.ListN.{getD}
-use lib.IntN.{ℤ, pos, _+ℤ_}
-use Rattle.cdef_sample.specs.Sample.{finishOf}
-use Rattle.cdef_rows.specs.Sums.{priAt, secAt, lowAt, highAt, filteredAt}
-use Rattle.cdef_sample.specs.Upto.{upto, upto-ext, getD-upto}
-use Rattle.cdef_rows.specs.declared.Taps.{Taps}
-use Rattle.cdef_rows.specs.declared.Strength.{Strength}
-use Rattle.cdef_rows.proofs.Bounds.{pri-within, sec-within, low-held, high-held}
-use borrow.Author.Needs.{needs}
+use lib.ListN.{length, take, length-set}
+use Rattle.cdef_rows.specs.Sums.{filteredAt}
+use Rattle.cdef_sample.specs.Upto.{upto, upto-none, upto-more, upto-all}
 use Rattle.cdef_rows.proofs.filtered_row.Statement.{statement}
 use Rattle.cdef_rows.proofs.filtered_row.Tie as tie
 use Rattle.cdef_rows.proofs.filtered_row.Reads as reads
 use Rattle.cdef_rows.proofs.filtered_row.Lts as lts
-use Rattle.cdef_rows.proofs.done_row.Reads as done-row-reads
-use Rattle.cdef_rows.proofs.limit_row.Reads as limit-row-reads
-use Rattle.cdef_rows.proofs.pri_row.Reads as pri-row-reads
-use Rattle.cdef_rows.proofs.sec_row.Reads as sec-row-reads
+use Rattle.cdef_rows.proofs.both.both_at.Reads as both-at-reads
 
--- the rows put together, over plain variables
-glue : (w : List ℕ) (row : ℕ) (t : Taps) (f g : Strength) (p s : List ℤ) (lo hi r : List ℕ) → p ≡ upto (λ (j : ℕ). priAt w (row + j) t f) 8 → s ≡ upto (λ (j : ℕ). secAt w (row + j) t g) 8 → lo ≡ upto (λ (j : ℕ). lowAt w (row + j) t) 8 → hi ≡ upto (λ (j : ℕ). highAt w (row + j) t) 8 → r ≡ upto (λ (j : ℕ). finishOf (getD w (row + j) 0) (getD p j (pos 0) +ℤ getD s j (pos 0)) (getD lo j 0) (getD hi j 0)) 8 → r ≡ upto (λ (j : ℕ). filteredAt w (row + j) t f g) 8
-unfolding filteredAt
-glue w row t f g p s lo hi r a b d e k = k ∙ upto-ext _ _ 8 (λ j l. rw (a, b, d, e, getD-upto (λ (j : ℕ). priAt w (row + j) t f) 8 j (pos 0) l, getD-upto (λ (j : ℕ). secAt w (row + j) t g) 8 j (pos 0) l, getD-upto (λ (j : ℕ). lowAt w (row + j) t) 8 j 0 l, getD-upto (λ (j : ℕ). highAt w (row + j) t) 8 j 0 l))
+abbrev Inv-loop : tie.InvT-loop
+Inv-loop w row t f g out₀ j₀ out j = (take j out ≡ upto (λ (j : ℕ). filteredAt w (row + j) t f g) j) × (length out ≡ 8) × (j ≤ 8)
 
-pri-row-requires : tie.Need-pri-row-requires
-pri-row-requires c κs = search needs
+abbrev μ-loop : tie.MeasureT-loop
+μ-loop w row t f g out₀ j₀ out j = 8 - j
 
-sec-row-requires : tie.Need-sec-row-requires
-sec-row-requires c κs = search needs
+loop-holds : tie.Need-loop-holds Inv-loop μ-loop
+loop-holds c = (sym (upto-none _), refl, omega arith)
 
-limit-row-requires : tie.Need-limit-row-requires
-limit-row-requires c κs = search needs
+add-both-at : tie.Need-add-both-at Inv-loop μ-loop
+add-both-at c = let s = c .before .before in omega (arith, s .pre .1)
 
-done-row-requires : tie.Need-done-row-requires
-done-row-requires c κs = let s = c .before .before .before .before .before in
-    let a = s .args in
-    (s .pre .0, s .pre .1, s .pre .2, rw (c .before .before .before .before .pri-row .ensures) (pri-within (a .w .now) (a .row) (a .t) (a .f) (s .pre .4)), rw (c .before .before .before .sec-row .ensures) (sec-within (a .w .now) (a .row) (a .t) (a .g) (s .pre .5)), rw (c .before .before .limit-row .ensures .0) (low-held (a .w .now) (a .row) (a .t) (s .pre .2)), rw (c .before .before .limit-row .ensures .1) (high-held (a .w .now) (a .row) (a .t) (s .pre .2)))
+both-at-requires : tie.Need-both-at-requires Inv-loop μ-loop
+both-at-requires c κs = let s = c .before .before in (omega (arith, s .pre .0), omega (arith, s .pre .1), s .pre .2, s .pre .3, s .pre .4, s .pre .5)
 
-returns : tie.Need-returns
-returns c = glue _ _ _ _ _ _ _ _ _ _ (c .before .before .before .before .before .pri-row .ensures) (c .before .before .before .before .sec-row .ensures) (c .before .before .before .limit-row .ensures .0) (c .before .before .before .limit-row .ensures .1) (c .done-row .ensures)
+mul-out : tie.Need-mul-out Inv-loop μ-loop
+mul-out c = omega arith
+
+array-write-out : tie.Need-array-write-out Inv-loop μ-loop
+array-write-out c = omega arith
+
+add-j : tie.Need-add-j Inv-loop μ-loop
+add-j c = omega arith
+
+loop-less : tie.Need-loop-less Inv-loop μ-loop
+loop-less c = omega arith
+
+loop-again : tie.Need-loop-again Inv-loop μ-loop
+loop-again c = let p = c .before .before in (upto-more _ _ _ _ (p .loop .inv .0) (omega arith) (c .both-at .ensures), simp length-set (p .loop .inv .1), omega arith)
+
+returns : tie.Need-returns Inv-loop μ-loop
+returns c = let p = c .before in upto-all _ _ 8 _ (p .loop .inv .0) (p .loop .inv .1) (omega arith)
 
 pub filtered-row-spec : {M : Type 1} → statement M
 filtered-row-spec =
     tie.close
-    (tie.spec pri-row-requires sec-row-requires limit-row-requires done-row-requires returns)
+    (tie.spec
+    Inv-loop
+    μ-loop
+    loop-holds
+    add-both-at
+    both-at-requires
+    mul-out
+    array-write-out
+    add-j
+    loop-less
+    loop-again
+    returns)

@@ -13,14 +13,14 @@ use support::report::{Report, Tally};
 const HELD: (u8, u32) = (u8::MAX, u32::MAX);
 
 pub fn compare(report: &mut Report, long: bool, seed: u64) {
-    let rounds = if long { 100 } else { 1 };
-    report.call("direction", |tally| direction(tally, rounds, seed));
+    let times = |rounds| if long { rounds } else { 1 };
+    report.call("direction", |tally| direction(tally, times(200), seed));
     report.call("direction_refusals", |tally| {
-        direction_refusals(tally, rounds, seed)
+        direction_refusals(tally, times(100), seed)
     });
-    report.call("filter", |tally| filter(tally, rounds, seed));
+    report.call("filter", |tally| filter(tally, times(540), seed));
     report.call("filter_refusals", |tally| {
-        filter_refusals(tally, rounds, seed)
+        filter_refusals(tally, times(100), seed)
     });
 }
 

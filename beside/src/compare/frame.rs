@@ -51,10 +51,10 @@ pub fn compare(report: &mut Report, long: bool, seed: u64) {
 }
 
 impl Run {
-    /// 63 or one times the pictures after which each depth has met each pair: more than
-    /// 20,000 in a long run.
+    /// 252 or one times the pictures after which each depth has met each pair: more than
+    /// 80,000 in a long run.
     fn rounds(self) -> usize {
-        if self.long { 63 } else { 1 }
+        if self.long { 252 } else { 1 }
     }
 
     /// The same pictures for every call.

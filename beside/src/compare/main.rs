@@ -10,8 +10,11 @@ mod trial;
 
 use std::process::ExitCode;
 
+/// Samples that a long run holds against the Rust's at least.
+const LONG_FLOOR: u64 = 1_000_000_000;
+
 fn main() -> ExitCode {
-    support::options::run("compare", |report, long, seed| {
+    support::options::run("compare", LONG_FLOOR, |report, long, seed| {
         leaves::compare(report, long, seed);
         blocks::compare(report, long, seed);
         trial::compare(report, long, seed);

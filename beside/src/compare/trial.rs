@@ -1,4 +1,4 @@
-//! Trial: blocks of random planes, and refusals.
+//! Trial: blocks of random planes in either way, and refusals.
 
 use crate::drawn::{BLOCKS, any_plane, each_plane};
 use crate::seen::{BlockSeen, Seen};
@@ -6,56 +6,71 @@ use support::random::Random;
 use support::report::{Report, Tally};
 use support::trial::Trial;
 
+/// One way of asking: 1 luma, 0 chroma. Each has half of the blocks of a plane.
+struct Way(u8);
+
 pub fn compare(report: &mut Report, long: bool, seed: u64) {
     let (rounds, refused) = if long { (58, 12) } else { (1, 1) };
-    report.call("trial", |tally| trial(tally, rounds, seed));
-    report.call("trial_refusals", |tally| refusals(tally, refused, seed));
+    for (way, call, refusals) in [
+        (Way(1), "trial_luma", "trial_luma_refusals"),
+        (Way(0), "trial_chroma", "trial_chroma_refusals"),
+    ] {
+        report.call(call, |tally| way.trial(tally, rounds, seed));
+        report.call(refusals, |tally| way.refusals(tally, refused, seed));
+    }
 }
 
-fn trial(tally: &mut Tally, rounds: usize, seed: u64) {
-    let mut blocks = BlockSeen::new();
-    let mut ways = Seen::new("ways and sizes of variance", 16);
-    let mut altered = 0;
-    for c in Trial::edges() {
-        tally.case(&c, ours::trial(&c));
-    }
-    each_plane(&mut Random::new(seed), rounds, |r, plane, count| {
-        let plane = plane.marked(r);
-        let kept = plane.samples.clone();
-        for _ in 0..count {
-            let c = Trial::on_list(&plane, r);
-            let answer = ours::trial(&c);
-            if answer.number == 0 {
-                blocks.see(&c.block);
-                ways.see(way(&c));
+impl Way {
+    fn trial(&self, tally: &mut Tally, rounds: usize, seed: u64) {
+        let mut blocks = BlockSeen::new();
+        let mut sizes = Seen::new("sizes of variance", 15);
+        let mut altered = 0;
+        for c in Trial::edges() {
+            self.case(tally, c);
+        }
+        each_plane(&mut Random::new(seed), rounds, |r, plane, count| {
+            let plane = plane.marked(r);
+            let kept = plane.samples.clone();
+            for _ in 0..count / 2 {
+                let c = Trial::on_list(&plane, self.0, r);
+                let answer = ours::trial(&c);
+                if answer.number == 0 {
+                    blocks.see(&c.block);
+                    sizes.see(size_of(c.variance));
+                }
+                tally.case(&c, answer);
             }
-            tally.case(&c, answer);
-        }
-        altered += i64::from(plane.samples != kept);
-    });
-    tally.number("planes altered", altered, 0);
-    blocks.check(tally);
-    ways.check(tally);
-}
-
-/// 0 the chroma way; 1 no variance, then a number for each size of it.
-fn way(c: &Trial) -> usize {
-    match (c.luma, c.variance) {
-        (0, _) => 0,
-        (_, 0) => 1,
-        (_, v) => 2 + (v >> 6).checked_ilog2().unwrap_or(0) as usize,
+            altered += i64::from(plane.samples != kept);
+        });
+        tally.number("planes altered", altered, 0);
+        blocks.check(tally);
+        sizes.check(tally);
     }
-}
 
-fn refusals(tally: &mut Tally, rounds: usize, seed: u64) {
-    for (_, c) in Trial::stated() {
+    fn refusals(&self, tally: &mut Tally, rounds: usize, seed: u64) {
+        for (_, c) in Trial::stated() {
+            self.case(tally, c);
+        }
+        any_plane(&mut Random::new(seed), rounds, |r, plane| {
+            let plane = plane.marked(r);
+            for _ in 0..BLOCKS / 2 {
+                let c = Trial::any(&plane, self.0, r);
+                tally.case(&c, ours::trial(&c));
+            }
+        });
+    }
+
+    /// A case of either way, in this one.
+    fn case(&self, tally: &mut Tally, c: Trial) {
+        let c = Trial { luma: self.0, ..c };
         tally.case(&c, ours::trial(&c));
     }
-    any_plane(&mut Random::new(seed), rounds, |r, plane| {
-        let plane = plane.marked(r);
-        for _ in 0..BLOCKS {
-            let c = Trial::any(&plane, r);
-            tally.case(&c, ours::trial(&c));
-        }
-    });
+}
+
+/// 0 for no variance, then a number for each size of it.
+fn size_of(variance: u32) -> usize {
+    match variance {
+        0 => 0,
+        v => 1 + (v >> 6).checked_ilog2().unwrap_or(0) as usize,
+    }
 }

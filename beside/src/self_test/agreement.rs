@@ -1,6 +1,7 @@
 //! Trying, applying and measuring agree in the Rust: demand 3 on small pictures.
 
-use reference::{Frame, Lists};
+use reference::{Apply, Frame, Lists, Measure, Try};
+use support::frame::{CHROMA, Kind};
 use support::random::Random;
 use support::report::Tally;
 
@@ -72,32 +73,18 @@ pub fn of_luma(
     }
 }
 
-type Try = fn(&Frame, &[u16], &[u16]) -> Vec<[i64; 12]>;
-type Measure = fn(&Frame, &[u16], &[u16], u8, u8) -> Vec<i64>;
-type Apply = fn(&Frame, &mut [u16], &[u16], &[(u8, u8)]);
-
 fn frame(tally: &mut Tally, r: &mut Random, size: [usize; 4], layout: (usize, usize), depth: u8) {
     let luma = r.picture(size[0], size[1], depth);
     let damping = r.between(3, 6) as u8;
     let f = of_luma(r, &luma, size, layout, depth, damping);
-    let calls: (Try, Measure, Apply) = (
-        reference::cdef_luma_unit_dists_all,
-        reference::cdef_luma_unit_dists,
-        reference::apply_cdef_plane,
-    );
     let original = r.picture(size[0], size[1], depth);
-    plane(tally, r, &f, &luma, &original, calls);
+    plane(tally, r, &f, &luma, &original, Kind::Luma.rust());
     let unfiltered = reference::cdef_luma_unit_dists(&f, &luma, &original, 0, 0);
     let expected = totals(&f, (0, 0), |b| luma_distance(&f, &luma, &original, b));
     tally.same(&"luma totals", unfiltered, expected);
-    let calls: (Try, Measure, Apply) = (
-        reference::cdef_chroma_unit_sse_all,
-        reference::cdef_chroma_unit_sse,
-        reference::apply_cdef_chroma,
-    );
     let chroma = r.picture(f.chroma_width(), f.chroma_height(), depth);
     let original = r.picture(f.chroma_width(), f.chroma_height(), depth);
-    plane(tally, r, &f, &chroma, &original, calls);
+    plane(tally, r, &f, &chroma, &original, CHROMA[0].rust());
     let unfiltered = reference::cdef_chroma_unit_sse(&f, &chroma, &original, 0, 0);
     let expected = totals(&f, layout, |b| {
         squares(&chroma, &original, f.chroma_width(), b)

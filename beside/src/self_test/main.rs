@@ -15,7 +15,7 @@ use std::process::ExitCode;
 use support::random::Random;
 
 fn main() -> ExitCode {
-    support::options::run("self_test", |report, long, seed| {
+    support::options::run("self_test", 0, |report, long, seed| {
         let r = || Random::new(seed);
         report.call("worked_lines", worked_lines::check);
         report.call("questions", questions::check);

@@ -1,5 +1,6 @@
 //! Cases of the direction of a block.
 
+use crate::counts::Amount;
 use crate::planes::{DEPTHS, Plane};
 use crate::random::Random;
 use crate::refusals::{Break, GOOD, Stated, broken, corner_breaks, scan, side_limits, spot_breaks};
@@ -129,5 +130,9 @@ impl Case for Direction<'_> {
         let s = &self.0;
         let (direction, variance) = reference::cdef_direction(&s.plane, s.width, s.x, s.y, s.depth);
         [direction.into(), variance.into()]
+    }
+
+    fn amount(&self) -> Amount {
+        Amount::samples(2)
     }
 }

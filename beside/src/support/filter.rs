@@ -3,10 +3,12 @@
 mod stated;
 
 use crate::block::{Block, any_damping, any_side};
+use crate::counts::Amount;
 use crate::planes::{Plane, SMALL};
 use crate::random::Random;
 use crate::spot::wild_size;
 use crate::{Case, WIDE, joined, questions};
+use reference::MARK;
 use std::borrow::Cow;
 use std::fmt::{Display, Formatter, Result};
 
@@ -170,6 +172,19 @@ impl Case for Filter<'_> {
             b.dir, b.damping, s.depth,
         );
         dst
+    }
+
+    /// The samples that are written: the block on the plane, less its marks.
+    fn amount(&self) -> Amount {
+        let Block {
+            spot,
+            width,
+            height,
+            ..
+        } = &self.block;
+        let area = spot.area(*width, *height, 0);
+        let block = spot.rows(&spot.plane, &area).flatten();
+        Amount::samples(block.filter(|&&v| v != MARK).count())
     }
 
     fn left(&self) -> Vec<u16> {

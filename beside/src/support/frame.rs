@@ -13,7 +13,7 @@ pub mod trying;
 
 use crate::joined;
 use crate::random::Random;
-use reference::{Frame, Lists};
+use reference::{Apply, Frame, Lists, Measure, Try};
 use std::fmt::{Display, Formatter, Result};
 
 /// Luma's sides, and the bit depth.
@@ -58,6 +58,22 @@ impl Kind {
         match *self {
             Kind::Luma => (0, 0),
             Kind::Chroma { sx, sy } => (sx, sy),
+        }
+    }
+
+    /// The Rust's functions for such a plane.
+    pub fn rust(&self) -> (Try, Measure, Apply) {
+        match self {
+            Kind::Luma => (
+                reference::cdef_luma_unit_dists_all,
+                reference::cdef_luma_unit_dists,
+                reference::apply_cdef_plane,
+            ),
+            Kind::Chroma { .. } => (
+                reference::cdef_chroma_unit_sse_all,
+                reference::cdef_chroma_unit_sse,
+                reference::apply_cdef_chroma,
+            ),
         }
     }
 

@@ -5,6 +5,7 @@ pub mod adjust_pri;
 pub mod block;
 pub mod built;
 pub mod constrain;
+pub mod counts;
 pub mod damping;
 pub mod direction;
 pub mod distance;
@@ -20,6 +21,7 @@ pub mod report;
 pub mod spot;
 pub mod trial;
 
+use counts::Amount;
 use report::Value;
 use std::fmt::Display;
 
@@ -46,6 +48,12 @@ pub trait Case: Display {
 
     /// The Rust's result, asked for only where the number is 0.
     fn result(&self) -> Self::Value;
+
+    /// What is compared of the answer where the number is 0.
+    #[inline]
+    fn amount(&self) -> Amount {
+        Amount::samples(1)
+    }
 
     /// The value that is due after a refusal.
     #[inline]

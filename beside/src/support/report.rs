@@ -1,5 +1,6 @@
-//! Counts, differences and the planted wrong answer.
+//! Differences, counts and the planted wrong answer.
 
+use crate::counts::{Amount, Counts, processor_time};
 use crate::{Answer, Case};
 use std::fmt::{Debug, Display};
 use std::ops::BitXorAssign;
@@ -103,7 +104,7 @@ pub struct Report {
     plant: Option<Plant>,
     only: Option<String>,
     ran: bool,
-    different: u64,
+    counts: Counts,
 }
 
 /// The running count of one call.
@@ -111,21 +112,22 @@ pub struct Tally {
     call: &'static str,
     plant: u64,
     planted: bool,
-    cases: u64,
-    different: u64,
+    counts: Counts,
 }
 
 impl Report {
+    /// Prints the head of the table.
     pub fn new(plant: Option<Plant>, only: Option<String>) -> Self {
+        Counts::print_head();
         Report {
             plant,
             only,
             ran: false,
-            different: 0,
+            counts: Counts::default(),
         }
     }
 
-    /// Runs one call's cases and prints its line, unless another one alone is wanted.
+    /// Runs one call's cases and prints its row, unless another one alone is wanted.
     pub fn call(&mut self, call: &'static str, cases: impl FnOnce(&mut Tally)) {
         if self.only.as_ref().is_some_and(|only| only != call) {
             return;
@@ -136,21 +138,21 @@ impl Report {
             call,
             plant: plant.map_or(u64::MAX, |p| p.case),
             planted: false,
-            cases: 0,
-            different: 0,
+            counts: Counts::default(),
         };
+        let start = processor_time();
         cases(&mut tally);
-        let (count, different) = (tally.cases, tally.different);
-        println!("{call}: {count} cases, {different} different");
-        self.different += different;
+        tally.counts.seconds = processor_time() - start;
+        tally.counts.print(call);
+        self.counts += tally.counts;
         if tally.planted {
             self.plant = None;
         }
     }
 
-    /// The exit status: 0 all the same, 1 a difference, 2 no call was run, or no case
-    /// was there to plant in.
-    pub fn finish(self) -> u8 {
+    /// The exit status: 0 all the same, 1 a difference or fewer samples than wanted, 2 no
+    /// call was run, or no case was there to plant in.
+    pub fn finish(self, floor: u64) -> u8 {
         if !self.ran {
             println!("no call of that name");
             return 2;
@@ -159,8 +161,10 @@ impl Report {
             println!("no case {} of {} to plant in", p.case, p.call);
             return 2;
         }
-        println!("{} different in all", self.different);
-        u8::from(self.different != 0)
+        let enough = self.counts.print_end(floor);
+        let different = self.counts.different;
+        println!("{different} different in all");
+        u8::from(different != 0 || !enough)
     }
 }
 
@@ -168,21 +172,32 @@ impl Tally {
     /// Holds our answer to a case against the one that is due.
     #[inline]
     pub fn case<C: Case>(&mut self, case: &C, ours: Answer<C::Value>) {
-        self.same(case, ours, case.expected());
+        let due = case.expected();
+        if due.number == 0 {
+            self.counts += case.amount();
+        } else {
+            self.counts.refusals += 1;
+        }
+        self.same(case, ours, due);
+    }
+
+    /// Counts what is held against something else than the answer due to a case.
+    pub fn count(&mut self, amount: Amount) {
+        self.counts += amount;
     }
 
     /// Holds what was got against what is expected.
     #[inline]
     pub fn same<V: Value>(&mut self, inputs: &dyn Display, got: V, expected: V) {
         let mut got = got;
-        if self.cases == self.plant {
+        if self.counts.cases == self.plant {
             got.spoil();
             self.planted = true;
         }
         if got != expected {
             self.differs(inputs, || got.apart(&expected));
         }
-        self.cases += 1;
+        self.counts.cases += 1;
     }
 
     /// The same of two numbers.
@@ -192,10 +207,10 @@ impl Tally {
 
     #[cold]
     fn differs(&mut self, inputs: &dyn Display, apart: impl FnOnce() -> String) {
-        if self.different < SHOWN {
-            let (call, case) = (self.call, self.cases);
+        if self.counts.different < SHOWN {
+            let (call, case) = (self.call, self.counts.cases);
             println!("DIFFERENT {call}:{case} ({inputs}): {}", apart());
         }
-        self.different += 1;
+        self.counts.different += 1;
     }
 }

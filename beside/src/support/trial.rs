@@ -3,6 +3,7 @@
 use crate::adjust_pri::{AdjustPri, VARIANCE_MAX};
 use crate::block::{BESIDE_MARKS, Block, Place, any_damping, any_side, beside_marks, worked};
 use crate::constrain::DAMPING_MAX;
+use crate::counts::Amount;
 use crate::planes::{DEPTHS, Plane};
 use crate::random::Random;
 use crate::refusals::{Break, GOOD, Stated, broken, side_limits};
@@ -36,9 +37,9 @@ impl<'a> Trial<'a> {
         }
     }
 
-    /// A block of a plane, a third of them small; in part of the cases nothing that
-    /// isn't looked at is a sample.
-    pub fn on(plane: &'a Plane, r: &mut Random) -> Self {
+    /// A block of a plane, a third of them small, in the way given or in any; in part of
+    /// the cases nothing that isn't looked at is a sample.
+    pub fn on(plane: &'a Plane, luma: Option<u8>, r: &mut Random) -> Self {
         let most = r.pick(&[4, 8, 8]);
         let mut block = Block {
             spot: plane.any_spot(r),
@@ -48,24 +49,24 @@ impl<'a> Trial<'a> {
             damping: any_damping(r),
         };
         block.spoil_elsewhere(r);
-        let luma = r.below(2) as u8;
+        let luma = luma.unwrap_or_else(|| r.below(2) as u8);
         let mut c = Self::new(block, luma, any_variance(luma, r));
         c.held = r.next() as u16;
         c
     }
 
-    /// As `on`, with a list that holds different numbers.
-    pub fn on_list(plane: &'a Plane, r: &mut Random) -> Self {
+    /// As `on`, in one way, with a list that holds different numbers.
+    pub fn on_list(plane: &'a Plane, luma: u8, r: &mut Random) -> Self {
         let step = r.pick(&[0, 1, 12_345]);
         Trial {
             step,
-            ..Self::on(plane, r)
+            ..Self::on(plane, Some(luma), r)
         }
     }
 
     /// As `on_list`, with one number or the other out of range.
-    pub fn any(plane: &'a Plane, r: &mut Random) -> Self {
-        let mut c = Self::on_list(plane, r);
+    pub fn any(plane: &'a Plane, luma: u8, r: &mut Random) -> Self {
+        let mut c = Self::on_list(plane, luma, r);
         c.block.wild(r);
         match r.below(12) {
             0 => c.places = r.pick(&[PLACES - 1, PLACES + 1, 0, 64, 192]),
@@ -120,7 +121,7 @@ impl Trial<'static> {
 
     pub fn random(r: &mut Random) -> Self {
         let plane = Plane::small(r).marked(r);
-        Trial::on(&plane, r).owned()
+        Trial::on(&plane, None, r).owned()
     }
 
     /// Worked lines, marks that a large damping would let count, every block size,
@@ -255,6 +256,11 @@ impl Case for Trial<'_> {
             *v = place as u16;
         }
         list
+    }
+
+    /// The twelve blocks, without the later places of their 64.
+    fn amount(&self) -> Amount {
+        Amount::samples(12 * self.block.width * self.block.height)
     }
 
     fn left(&self) -> Vec<u16> {

@@ -2,6 +2,8 @@
 //! snapshot, then measuring with pair 0, 0 what applying left.
 
 use ours::frame as ours;
+use support::Answer;
+use support::counts::Amount;
 use support::frame::applying::Applying;
 use support::frame::comparing::Compared;
 use support::frame::drawn::{Drawn, What, trial_pair};
@@ -11,7 +13,6 @@ use support::frame::trying::Trying;
 use support::frame::{DampingChoice, Kind, Picture};
 use support::random::Random;
 use support::report::Tally;
-use support::{Answer, Case};
 
 pub fn picture(tally: &mut Tally, d: &Drawn, kind: Kind) {
     let r = &mut d.random(kind, What::Pairs);
@@ -40,8 +41,9 @@ pub fn picture(tally: &mut Tally, d: &Drawn, kind: Kind) {
         number: taken.into_iter().max().unwrap_or(0),
         value: left.value.0.clone(),
     };
+    tally.count(Amount::totals(numbers.len()));
     tally.same(&trying, totals, agreed);
-    tally.same(&measuring, left, measuring.expected());
+    tally.case(&measuring, left);
 }
 
 /// The same figure in force, told in any way.

@@ -113,6 +113,11 @@ pub fn chroma_direction_map(sub_x: usize, sub_y: usize) -> [u8; 8] {
     }
 }
 
+/// The functions of a plane, in luma and in chroma.
+pub type Try = fn(&Frame, &[u16], &[u16]) -> Vec<[i64; 12]>;
+pub type Measure = fn(&Frame, &[u16], &[u16], u8, u8) -> Vec<i64>;
+pub type Apply = fn(&Frame, &mut [u16], &[u16], &[(u8, u8)]);
+
 /// Trying, luma: twelve totals a unit.
 pub fn cdef_luma_unit_dists_all(f: &Frame, recon: &[u16], src: &[u16]) -> Vec<[i64; 12]> {
     super::cdef_luma_unit_dists_all(

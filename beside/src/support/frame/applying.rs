@@ -4,6 +4,7 @@ use super::drawn::{Drawn, What};
 use super::stated::FrameCase;
 use super::{DampingChoice, Kind, Picture, Size, breaks, questions, show};
 use crate::Case;
+use crate::counts::Amount;
 use crate::random::Random;
 use crate::refusals::{Break, of_parts};
 use reference::MARK;
@@ -53,14 +54,16 @@ impl Case for Applying {
 
     fn result(&self) -> Vec<u16> {
         let p = &self.picture;
-        let apply = match p.kind {
-            Kind::Luma => reference::apply_cdef_plane,
-            Kind::Chroma { .. } => reference::apply_cdef_chroma,
-        };
+        let (_, _, apply) = p.kind.rust();
         let mut dst = self.dst.clone();
         let frame = p.frame((p.size.width, p.size.height));
         apply(&frame, &mut dst, &self.snapshot, &self.pairs());
         dst
+    }
+
+    /// The whole plane.
+    fn amount(&self) -> Amount {
+        Amount::samples(self.dst.len())
     }
 
     fn left(&self) -> Vec<u16> {

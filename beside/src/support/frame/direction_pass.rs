@@ -5,6 +5,7 @@ use super::drawn::{Drawn, What};
 use super::stated::FrameCase;
 use super::{Kind, Size, questions, show};
 use crate::Case;
+use crate::counts::Amount;
 use crate::random::Random;
 use crate::refusals::{Break, of_parts};
 use std::fmt::{Display, Formatter, Result};
@@ -46,6 +47,10 @@ impl Case for DirectionPass {
             depth,
         } = self.size;
         reference::direction_pass(&self.plane, width, height, depth)
+    }
+
+    fn amount(&self) -> Amount {
+        Amount::samples(self.dirs.len() + self.vars.len())
     }
 
     fn left(&self) -> Self::Value {

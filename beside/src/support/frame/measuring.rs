@@ -5,6 +5,7 @@ use super::drawn::{Drawn, PAIRS, What, pair};
 use super::stated::FrameCase;
 use super::{DampingChoice, Kind, Size, breaks, questions};
 use crate::Case;
+use crate::counts::Amount;
 use crate::random::Random;
 use crate::refusals::{Break, of_parts};
 use std::fmt::{Display, Formatter, Result};
@@ -51,13 +52,17 @@ impl Case for Measuring {
 
     fn result(&self) -> Self::Value {
         let c = &self.compared;
-        let of_units = match c.picture.kind {
-            Kind::Luma => reference::cdef_luma_unit_dists,
-            Kind::Chroma { .. } => reference::cdef_chroma_unit_sse,
-        };
+        let (_, measure, _) = c.picture.kind.rust();
         let (primary, secondary) = (self.primary, self.secondary);
-        let totals = of_units(&c.frame(), &c.plane, &c.original, primary, secondary);
+        let totals = measure(&c.frame(), &c.plane, &c.original, primary, secondary);
         (totals, vec![0; self.scratch.len()])
+    }
+
+    fn amount(&self) -> Amount {
+        Amount {
+            scratch: self.scratch.len(),
+            ..Amount::totals(self.totals.len())
+        }
     }
 
     fn left(&self) -> Self::Value {

@@ -5,6 +5,7 @@ use super::drawn::{Drawn, What};
 use super::stated::FrameCase;
 use super::{DampingChoice, Kind, Size, breaks, questions};
 use crate::Case;
+use crate::counts::Amount;
 use crate::random::Random;
 use crate::refusals::{Break, of_parts};
 use std::fmt::{Display, Formatter, Result};
@@ -32,11 +33,12 @@ impl Case for Trying {
 
     fn result(&self) -> Vec<i64> {
         let c = &self.compared;
-        let of_units = match c.picture.kind {
-            Kind::Luma => reference::cdef_luma_unit_dists_all,
-            Kind::Chroma { .. } => reference::cdef_chroma_unit_sse_all,
-        };
-        of_units(&c.frame(), &c.plane, &c.original).into_flattened()
+        let (try_all, _, _) = c.picture.kind.rust();
+        try_all(&c.frame(), &c.plane, &c.original).into_flattened()
+    }
+
+    fn amount(&self) -> Amount {
+        Amount::totals(self.totals.len())
     }
 
     fn left(&self) -> Vec<i64> {

@@ -1,0 +1,123 @@
+//! How much was compared, as rows of a table.
+
+use std::ffi::c_long;
+use std::ops::AddAssign;
+
+/// What is compared of the answer to one case, where the call is done.
+#[derive(Clone, Copy, Default)]
+pub struct Amount {
+    /// Samples, and numbers such as a direction or a distance.
+    pub samples: usize,
+    /// Totals of units.
+    pub totals: usize,
+    /// Places of measuring's scratch. They are held against zeros: the Rust has none.
+    pub scratch: usize,
+}
+
+impl Amount {
+    #[inline]
+    pub fn samples(samples: usize) -> Self {
+        Amount {
+            samples,
+            ..Self::default()
+        }
+    }
+
+    pub fn totals(totals: usize) -> Self {
+        Amount {
+            totals,
+            ..Self::default()
+        }
+    }
+}
+
+/// What was compared of one call, or of all.
+#[derive(Clone, Copy, Default)]
+pub struct Counts {
+    pub cases: u64,
+    samples: u64,
+    totals: u64,
+    scratch: u64,
+    pub refusals: u64,
+    pub different: u64,
+    /// Of processor time.
+    pub seconds: f64,
+}
+
+impl Counts {
+    pub fn print_head() {
+        print_row(
+            "call",
+            ["cases", "samples", "unit totals", "refusals", "different"],
+            "seconds",
+        );
+    }
+
+    /// The scratch is counted among the samples.
+    pub fn print(&self, name: &str) {
+        let samples = self.samples + self.scratch;
+        let counts = [
+            self.cases,
+            samples,
+            self.totals,
+            self.refusals,
+            self.different,
+        ];
+        let counts = counts.map(|n| n.to_string());
+        let seconds = format!("{:.2}", self.seconds);
+        print_row(name, counts.each_ref().map(|n| n.as_str()), &seconds);
+    }
+
+    /// Prints the row of all calls; whether as many samples as wanted were held against
+    /// the Rust's.
+    pub fn print_end(&self, floor: u64) -> bool {
+        self.print("in all");
+        let (samples, scratch) = (self.samples, self.scratch);
+        if scratch > 0 {
+            println!(
+                "samples held against the Rust's: {samples}; scratch held against 0: {scratch}"
+            );
+        }
+        if samples < floor {
+            println!("TOO FEW samples: {samples} of {floor}");
+        }
+        samples >= floor
+    }
+}
+
+impl AddAssign<Amount> for Counts {
+    #[inline]
+    fn add_assign(&mut self, more: Amount) {
+        self.samples += more.samples as u64;
+        self.totals += more.totals as u64;
+        self.scratch += more.scratch as u64;
+    }
+}
+
+impl AddAssign for Counts {
+    fn add_assign(&mut self, more: Counts) {
+        self.cases += more.cases;
+        self.samples += more.samples;
+        self.totals += more.totals;
+        self.scratch += more.scratch;
+        self.refusals += more.refusals;
+        self.different += more.different;
+        self.seconds += more.seconds;
+    }
+}
+
+fn print_row(name: &str, counts: [&str; 5], seconds: &str) {
+    print!("{name:<23}");
+    counts.iter().for_each(|count| print!(" {count:>11}"));
+    println!(" {seconds:>8}");
+}
+
+unsafe extern "C" {
+    /// The C library's: microseconds of processor time.
+    safe fn clock() -> c_long;
+}
+
+/// Processor time of this process so far, in seconds.
+pub fn processor_time() -> f64 {
+    clock() as f64 / 1e6
+}

@@ -1,8 +1,9 @@
 //! The root of the weighted distance beside the processor's own, a value in a block's place.
 
-use crate::timing;
+use crate::table::Table;
 use ours::bare;
 use std::hint::black_box;
+use support::frame::Size;
 use support::random::Random;
 
 const VALUES: usize = 4800;
@@ -20,11 +21,11 @@ fn values() -> Vec<f64> {
         .collect()
 }
 
-/// Prints the line; whether every root was the same.
-pub fn line() -> bool {
+pub fn line(table: &mut Table, size: Size) {
     let values = values();
-    timing::line(
+    table.time(
         "root, the processor's for the Rust",
+        size,
         values.len(),
         || {
             for &v in &values {
@@ -37,7 +38,6 @@ pub fn line() -> bool {
             }
         },
     );
-    values
-        .iter()
-        .all(|&v| bare::root(v).to_bits() == v.sqrt().to_bits())
+    let same = |&v: &f64| bare::root(v).to_bits() == v.sqrt().to_bits();
+    table.answers(values.iter().all(same));
 }

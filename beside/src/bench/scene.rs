@@ -1,16 +1,20 @@
 //! The picture that is measured on, the same in every run.
 
 use std::fmt::{Display, Formatter, Result};
+use support::frame::Size;
 use support::random::Random;
 
 pub const WIDTH: usize = 640;
 pub const HEIGHT: usize = 480;
-pub const DEPTH: u8 = 8;
+pub const DEPTHS: [u8; 2] = [8, 10];
+
+/// The signalled damping.
 pub const DAMPING: u8 = 5;
 
 const SEED: u64 = 640_480;
 
 pub struct Scene {
+    pub size: Size,
     pub plane: Vec<u16>,
     /// The plane with more noise, to measure distances from.
     pub other: Vec<u16>,
@@ -66,8 +70,9 @@ impl Surface {
 }
 
 impl Scene {
-    /// Slopes and textures under discs with edges, and noise over all of it.
-    pub fn new() -> Self {
+    /// Slopes and textures under discs with edges, and noise over all of it. Bits past the
+    /// eighth are noise too.
+    pub fn new(depth: u8) -> Self {
         let r = &mut Random::new(SEED);
         let mut ground = Surface::random(r);
         ground.radius = 2_000;
@@ -81,14 +86,34 @@ impl Scene {
             }
         }
         let noisy = |&v: &u16| (i64::from(v) + r.between(-3, 3)).clamp(0, 255) as u16;
-        let other = plane.iter().map(noisy).collect();
-        let (directions, variances) = reference::direction_pass(&plane, WIDTH, HEIGHT, DEPTH);
+        let other: Vec<u16> = plane.iter().map(noisy).collect();
+        let more = depth - 8;
+        let mut deep = |v: u16| (v << more) + r.below(1 << more) as u16;
+        let mut deepened = |p: Vec<u16>| -> Vec<u16> { p.into_iter().map(&mut deep).collect() };
+        let (plane, other) = (deepened(plane), deepened(other));
+        let (directions, variances) = reference::direction_pass(&plane, WIDTH, HEIGHT, depth);
+        let size = Size {
+            width: WIDTH,
+            height: HEIGHT,
+            depth,
+        };
         Scene {
+            size,
             plane,
             other,
             directions,
             variances,
         }
+    }
+
+    /// The working damping.
+    pub fn damping(&self, luma: bool) -> u8 {
+        DAMPING + self.size.depth - 8 - u8::from(!luma)
+    }
+
+    /// The working strength.
+    pub fn strength(&self, signalled: u32) -> u32 {
+        signalled << (self.size.depth - 8)
     }
 
     /// The 8 by 8 blocks, of the edge or not.
@@ -115,8 +140,15 @@ impl Display for Scene {
         }
         write!(
             f,
-            "plane: {WIDTH} by {HEIGHT} of u16, depth {DEPTH}, working damping {DAMPING}, \
-             seed {SEED}; blocks of each direction: {counts:?}"
+            "picture: {WIDTH} by {HEIGHT} of u16, signalled damping {DAMPING}, seed {SEED}; \
+             blocks of each direction: {counts:?}"
         )
     }
+}
+
+/// A plane of the scene's size, repeated over a larger one or cut to a smaller.
+pub fn tiled(plane: &[u16], (width, height): (usize, usize)) -> Vec<u16> {
+    let rows = plane.chunks(WIDTH).cycle().take(height);
+    rows.flat_map(|row| row.iter().cycle().take(width).copied())
+        .collect()
 }

@@ -50,6 +50,11 @@ build_program() {
     crate "$program" "$program/main.rs" --extern reference --extern support "$@"
 }
 
+# Prints where and beside what a measurement runs.
+machine() {
+    echo "machine: $(sed -n 's/^model name[^:]*: //p' /proc/cpuinfo | head -n 1), $(nproc) cores, load $(cut -d ' ' -f 1 /proc/loadavg) at the start"
+}
+
 # Our static library, made where it is absent or older than the code.
 build_library() {
     library=$root/target/staticlib/libcdef_c.a

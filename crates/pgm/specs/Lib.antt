@@ -1,0 +1,10 @@
+pub mod Text
+pub mod Number
+pub mod Header
+pub mod Sizes
+pub mod Planes
+pub mod TextLaws
+pub mod HeaderLaws
+pub mod SizesLaws
+pub mod PlanesLaws
+pub mod RoundLaws

@@ -1,0 +1,69 @@
+// The bytes of a text: digits, blanks, comments.
+ghost use Prim.Native.Nat.{_+_};
+ghost use mathlib.Core.Path.{_≡_};
+ghost use mathlib.Core.Bool.{false};
+ghost use lib.ListN.{getD, drop};
+ghost use Rattle.pgm.specs.Text.{isDigit, isBlank, passed, inComment, blanks};
+
+// The byte at a place, 0 past the end.
+pub fn byte_at(text: &[u8], at: usize) -> u8
+    ensures { λ r. ⌜ r ≡ getD (now (text .entry)) at 0 ⌝ }
+{
+    if at < text.len() {
+        return text[at];
+    }
+    0
+}
+
+pub fn is_digit(b: u8) -> bool
+    ensures { λ r. ⌜ r ≡ isDigit b ⌝ }
+{
+    48 <= b && b <= 57
+}
+
+// A space, a tab or a line's end.
+pub fn is_blank(b: u8) -> bool
+    ensures { λ r. ⌜ r ≡ isBlank b ⌝ }
+{
+    b == 32 || 9 <= b && b <= 13
+}
+
+// Whether a byte stands between two numbers: in a comment any, else the mark # of a comment or a blank.
+fn is_passed(comment: bool, b: u8) -> bool
+    ensures { λ r. ⌜ r ≡ passed comment b ⌝ }
+{
+    if comment {
+        return true;
+    }
+    if b == 35 {
+        return true;
+    }
+    is_blank(b)
+}
+
+// Whether the byte after this one is in a comment: one ends with its line.
+fn comment_after(comment: bool, b: u8) -> bool
+    ensures { λ r. ⌜ r ≡ inComment comment b ⌝ }
+{
+    if comment {
+        return b != 10 && b != 13;
+    }
+    b == 35
+}
+
+// The place after the blanks and comments from a place on.
+pub fn past_blanks(text: &[u8], from: usize) -> usize
+    ensures { λ r. ⌜ r ≡ from + blanks false (drop from (now (text .entry))) ⌝ }
+{
+    let mut at = from;
+    let mut comment = false;
+    while at < text.len() {
+        let b = text[at];
+        if !is_passed(comment, b) {
+            return at;
+        }
+        comment = comment_after(comment, b);
+        at += 1;
+    }
+    at
+}

@@ -1,0 +1,74 @@
+// What is said on the error output.
+use pgm::sizes::Fault;
+use still_steps::steps::Outcome;
+
+pub fn text(s: &[u8]) {
+    io::write_all(libc::STDERR_FILENO, s);
+}
+
+pub fn usage() {
+    text(b"usage: filter_still STILL ORIGINAL DAMPING PRIMARY SECONDARY OUTPUT\n");
+    text(
+        b"STILL, ORIGINAL: binary PGM files of one size and one maximum, 255, 511, 1023, 2047 or 4095\n",
+    );
+    text(b"DAMPING: q and a quality index, 0 to 255, or d and a signalled damping, 3 to 6\n");
+    text(b"PRIMARY: 0 to 15; SECONDARY: 0, 1, 2 or 4; OUTPUT: the filtered picture\n");
+}
+
+// An argument that is none of its kind.
+pub fn argument(name: &[u8], given: &[u8]) {
+    text(name);
+    text(given);
+    text(b"\n");
+}
+
+// What is wrong with a file.
+pub fn fault(path: &[u8], f: Fault) {
+    text(path);
+    match f {
+        Fault::Sound => text(b": nothing is wrong\n"),
+        Fault::NoHeader => text(b": not a binary PGM file (P5, width, height, maximum)\n"),
+        Fault::Maximum => text(b": the maximum is not 255, 511, 1023, 2047 or 4095\n"),
+        Fault::Size => text(
+            b": a side is not 1 to 4096, or the padded picture has more than 786432 samples\n",
+        ),
+        Fault::Length => text(b": it is not as long as its header says\n"),
+    }
+}
+
+pub fn too_long(path: &[u8]) {
+    text(path);
+    text(b": longer than 1580000 bytes\n");
+}
+
+pub fn different() {
+    text(b"the still and the original differ in size or maximum\n");
+}
+
+// A call's no, by document 01's number and in words.
+fn refusal(call: &[u8], n: u8) {
+    text(call);
+    text(b" says no to question ");
+    io::print_decimal(libc::STDERR_FILENO, n as u64);
+    match n {
+        1 => text(b": the depth is not 8 to 12\n"),
+        2 => text(b": a side is not 1 to 4096, or no multiple of 8\n"),
+        4 => text(b": a plane is not as long as its sides say\n"),
+        7 => text(b": a list has not its length, or the visible size is out of range\n"),
+        8 => text(b": a strength, the damping or the quality index is out of range\n"),
+        9 => text(b": a sample is above the maximum\n"),
+        _ => text(b"\n"),
+    }
+}
+
+// Whether the calls were done; a no is said.
+pub fn is_filtered(outcome: Outcome) -> bool {
+    match outcome {
+        Outcome::Filtered => return true,
+        Outcome::PassRefused(n) => refusal(b"the direction pass", n),
+        Outcome::TryingRefused(n) => refusal(b"trying", n),
+        Outcome::ApplyingRefused(n) => refusal(b"applying", n),
+        Outcome::MeasuringRefused(n) => refusal(b"measuring", n),
+    }
+    false
+}

@@ -1,0 +1,12 @@
+-- `still_steps::rows` meets its contract. The type is written out, else both lists would be compared place by place.
+use Prim.Native.Nat.{ℕ}
+use mathlib.Core.Path.{sym}
+use lib.ListN.{length-replicate}
+use Rattle.still_steps.proofs.space.rows.Statement.{statement}
+use Rattle.still_steps.proofs.space.rows.Tie as tie
+
+returns : tie.Need-returns
+returns c = sym (length-replicate {A = ℕ} 32768 0)
+
+pub rows-spec : {M : Type 1} → statement M
+rows-spec = tie.close (tie.spec returns)

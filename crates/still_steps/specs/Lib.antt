@@ -1,0 +1,5 @@
+pub mod Damping
+pub mod DampingLaws
+pub mod Lists
+pub mod ListsLaws
+pub mod TrialLaws

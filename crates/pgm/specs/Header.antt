@@ -25,6 +25,7 @@ wordAt s from =
       found = ltb from start && ltb start (afterDigits s start);
     }
 
+-- P (80) and 5 (53)
 unfoldable pub isP5 : List ℕ → Bool
 isP5 s = eqb (getD s 0 0) 80 && eqb (getD s 1 0) 53
 

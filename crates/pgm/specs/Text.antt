@@ -4,7 +4,7 @@ use mathlib.Core.Bool.{Bool, cond, not, _&&_, _||_}
 use mathlib.Core.List.{List, [], _∷_}
 use lib.Dec.{leb, eqb}
 
--- 0 to 9
+-- 0 to 9 (48 to 57)
 unfoldable pub isDigit : ℕ → Bool
 isDigit b = leb 48 b && leb b 57
 
@@ -22,15 +22,15 @@ decimal n (b ∷ s) = cond (isDigit b) (decimal (n * 10 + (b - 48)) s) n
 abbrev pub most : ℕ
 most = 4294967295
 
--- a space, a tab or a line's end
+-- a space (32), or a tab, a line's end or another blank between them (9 to 13)
 unfoldable pub isBlank : ℕ → Bool
 isBlank b = eqb b 32 || (leb 9 b && leb b 13)
 
--- a byte stands between two numbers: in a comment any, else the mark # of a comment or a blank
+-- a byte stands between two numbers: in a comment any, else the mark # (35) of a comment or a blank
 unfoldable pub passed : Bool → ℕ → Bool
 passed comment b = comment || (eqb b 35 || isBlank b)
 
--- the byte after b is in a comment: one ends with its line
+-- the byte after b is in a comment: one ends with its line (10 or 13)
 unfoldable pub inComment : Bool → ℕ → Bool
 inComment comment b = cond comment (not (eqb b 10 || eqb b 13)) (eqb b 35)
 

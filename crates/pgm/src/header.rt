@@ -36,7 +36,7 @@ fn word_at(file: &[u8], from: usize) -> Word
 fn is_p5(file: &[u8]) -> bool
     ensures { λ r. ⌜ r ≡ isP5 (now (file .entry)) ⌝ }
 {
-    text::byte_at(file, 0) == 80 && text::byte_at(file, 1) == 53
+    text::byte_at(file, 0) == b'P' && text::byte_at(file, 1) == b'5'
 }
 
 fn all_hold(a: bool, b: bool, c: bool) -> bool

@@ -26,7 +26,7 @@ fn with_digit(value: usize, b: u8) -> usize
     requires { ⌜ (value ≤ most) × (48 ≤ b) × (b ≤ 57) ⌝ }
     ensures { λ r. ⌜ r ≡ min most (value * 10 + (b - 48)) ⌝ }
 {
-    let more = value * 10 + (b - 48) as usize;
+    let more = value * 10 + (b - b'0') as usize;
     if MOST < more {
         return MOST;
     }

@@ -18,14 +18,14 @@ pub fn byte_at(text: &[u8], at: usize) -> u8
 pub fn is_digit(b: u8) -> bool
     ensures { λ r. ⌜ r ≡ isDigit b ⌝ }
 {
-    48 <= b && b <= 57
+    b'0' <= b && b <= b'9'
 }
 
-// A space, a tab or a line's end.
+// A space, a tab, a line's end or another blank between them.
 pub fn is_blank(b: u8) -> bool
     ensures { λ r. ⌜ r ≡ isBlank b ⌝ }
 {
-    b == 32 || 9 <= b && b <= 13
+    b == b' ' || b'\t' <= b && b <= b'\r'
 }
 
 // Whether a byte stands between two numbers: in a comment any, else the mark # of a comment or a blank.
@@ -35,7 +35,7 @@ fn is_passed(comment: bool, b: u8) -> bool
     if comment {
         return true;
     }
-    if b == 35 {
+    if b == b'#' {
         return true;
     }
     is_blank(b)
@@ -46,9 +46,9 @@ fn comment_after(comment: bool, b: u8) -> bool
     ensures { λ r. ⌜ r ≡ inComment comment b ⌝ }
 {
     if comment {
-        return b != 10 && b != 13;
+        return b != b'\n' && b != b'\r';
     }
-    b == 35
+    b == b'#'
 }
 
 // The place after the blanks and comments from a place on.

@@ -16,8 +16,8 @@ pub fn usage() {
 }
 
 // An argument that is none of its kind.
-pub fn argument(name: &[u8], given: &[u8]) {
-    text(name);
+pub fn argument(what: &[u8], given: &[u8]) {
+    text(what);
     text(given);
     text(b"\n");
 }
@@ -38,7 +38,7 @@ pub fn fault(path: &[u8], f: Fault) {
 
 pub fn too_long(path: &[u8]) {
     text(path);
-    text(b": longer than 1580000 bytes\n");
+    text(b": 1580000 bytes long or longer\n");
 }
 
 pub fn different() {

@@ -33,10 +33,10 @@ pub fn damping_of(text: &[u8]) -> DampingText
     let Number::Value(n) = numbers::number_of(&text[1..]) else {
         return DampingText::NoDamping;
     };
-    if letter == 113 {
+    if letter == b'q' {
         return DampingText::Choice(DampingChoice::FromQuality(n as u32));
     }
-    if letter == 100 {
+    if letter == b'd' {
         return DampingText::Choice(DampingChoice::Given(SignalledDamping(small(n))));
     }
     DampingText::NoDamping

@@ -1,14 +1,16 @@
 // The calls on single numbers.
 ghost use mathlib.Core.Path.{_≡_};
-ghost use Rattle.cdef_spec.specs.Answers.{readDifference, readStrength, readDamping};
-ghost use Rattle.cdef_spec.specs.BlockCalls.{constrainOutcome, adjustOutcome, dampingOutcome};
+ghost use Rattle.cdef_spec.specs.Answers.{readDifference, readStrength, readDamping, readWorking};
+ghost use Rattle.cdef_spec.specs.BlockCalls.{constrainOutcome, adjustOutcome, dampingOutcome, lumaDampingOutcome, chromaDampingOutcome};
 use cdef_asked::questions;
 use cdef_spec::DampingAnswer;
 use cdef_spec::DifferenceAnswer;
+use cdef_spec::SignalledDamping;
 use cdef_spec::StrengthAnswer;
+use cdef_spec::WorkingAnswer;
 use cdef_spec::WorkingDamping;
 
-// Constrains a difference; the damping is taken as it is, 0 too.
+// Constrains a difference; the working damping is used as it is, 0 included.
 pub fn constrain(difference: i32, strength: u32, damping: WorkingDamping) -> DifferenceAnswer
     ensures { λ r. ⌜ readDifference r ≡ constrainOutcome difference strength damping ⌝ }
 {
@@ -45,4 +47,26 @@ pub fn damping(index: u32) -> DampingAnswer
         return DampingAnswer::NoDamping(8);
     }
     DampingAnswer::Damping(cdef_leaf::damping::cdef_damping(index))
+}
+
+// The working damping of a luma plane: the signalled one + depth - 8.
+pub fn luma_damping(signalled: SignalledDamping, depth: u8) -> WorkingAnswer
+    ensures { λ r. ⌜ readWorking r ≡ lumaDampingOutcome signalled depth ⌝ }
+{
+    let no = questions::working_damping_no(signalled, depth);
+    if no != 0 {
+        return WorkingAnswer::NoWorking(no);
+    }
+    WorkingAnswer::Working(cdef_leaf::damping::luma_damping(signalled, depth))
+}
+
+// The working damping of a chroma plane: one less than luma's.
+pub fn chroma_damping(signalled: SignalledDamping, depth: u8) -> WorkingAnswer
+    ensures { λ r. ⌜ readWorking r ≡ chromaDampingOutcome signalled depth ⌝ }
+{
+    let no = questions::working_damping_no(signalled, depth);
+    if no != 0 {
+        return WorkingAnswer::NoWorking(no);
+    }
+    WorkingAnswer::Working(cdef_leaf::damping::chroma_damping(signalled, depth))
 }

@@ -16,6 +16,33 @@ use Rattle.cdef_spec.specs.Demand3.{off}
 use Rattle.cdef_agree.specs.declared.Agreement.{Agreement}
 use Rattle.cdef_agree.specs.declared.Agreement.the-variants.{Agreed, NotTrialPairs, TryingRefused, ApplyingRefused, MeasuringRefused}
 
+-- ---- what an agreement means, in the rules' terms (RULES, Questions; RULES, Agreement)
+
+-- who rejected the input: one of the three calls, or the test, between trying and applying, that each pair is one of the twelve
+pub data RejectedBy : Type 0 where
+  byTrying : RejectedBy
+  byPairTest : RejectedBy
+  byApplying : RejectedBy
+  byMeasuring : RejectedBy
+
+-- the totals agree; or the input was rejected, by whom and with which error code
+pub data AgreementResult : Type 0 where
+  agreed : AgreementResult
+  rejected : RejectedBy → ℕ → AgreementResult
+
+-- case by case. A pair that is none of the twelve is a strength out of range: 8
+unfoldable pub readAgreement : Agreement → AgreementResult
+readAgreement Agreed = agreed
+readAgreement NotTrialPairs = rejected byPairTest 8
+readAgreement (TryingRefused n) = rejected byTrying n
+readAgreement (ApplyingRefused n) = rejected byApplying n
+readAgreement (MeasuringRefused n) = rejected byMeasuring n
+
+-- the error code: 0 where the totals agree
+unfoldable pub agreementNumber : AgreementResult → ℕ
+agreementNumber agreed = 0
+agreementNumber (rejected who n) = n
+
 -- the totals agree
 unfoldable pub isAgreed : Agreement → Bool
 isAgreed Agreed = true

@@ -20,11 +20,11 @@ use Rattle.cdef_spec.specs.Questions.{fullPlanes, pictureListed}
 use Rattle.cdef_spec.specs.QuestionLaws.{questions-yes}
 use Rattle.cdef_spec.specs.FrameCalls.{tryingNo, tryingOutcome, ApplyingOutcome, applyingNo, applyingOutcome, applyingListsNo, pairsOf, applyingListsOutcome, measuringNo, measuringOutcome}
 use Rattle.cdef_spec.specs.OutcomeLaws.{twin-is}
-use Rattle.cdef_spec.specs.Demand3.{off, otherKind, withDirections, Agrees}
-use Rattle.cdef_spec.specs.Agreement.{agreement}
+use Rattle.cdef_spec.specs.Demand3.{off, otherKind, withDirections, Agrees, measuringAccepts}
+use Rattle.cdef_spec.specs.Agreement.{agreement, accepts-from}
 use Rattle.cdef_pairs.specs.PairLaws.{few-units, twin-no}
 use Rattle.cdef_agree.specs.declared.Agreement.the-variants.{Agreed, NotTrialPairs, TryingRefused, ApplyingRefused, MeasuringRefused}
-use Rattle.cdef_agree.specs.Agree.{isAgreed, trialPairs, copied, AgreeOutcome, agreeWith, agreeOutcome, agreeListsOutcome}
+use Rattle.cdef_agree.specs.Agree.{readAgreement, agreementNumber, isAgreed, trialPairs, copied, AgreeOutcome, agreeWith, agreeOutcome, agreeListsOutcome}
 
 pub never : {A : Type 0} → false ≡ true → A
 never e = let o : _≡_ {A = ℕ} 0 1 = cc in absurd (omega arith)
@@ -99,10 +99,11 @@ module _ (q : Picture) (d : DampingChoice) (v : Visible) (snapshot original : Li
       → Agrees q ps ((tryingOutcome q d v snapshot original tried) .totals) ((measuringOutcome q d v ((applyingOutcome q d snapshot ps snapshot) .plane) original off measured scratch) .totals)
   agrees-on ps tried measured scratch zt t za zm =
       let l = pairs-long q d snapshot ps snapshot za in
-      let both = agreement q v snapshot original ps d d d tried measured scratch refl (trials-so ps (units q) t (l .0) (l .1)) (tried-yes tried zt) (applied-yes ps snapshot za) in
-      let so : (measuringOutcome q d v ((applyingOutcome q d snapshot ps snapshot) .plane) original off measured scratch) .answer ≡ taken nothing
-      → Agrees q ps ((tryingOutcome q d v snapshot original tried) .totals) ((measuringOutcome q d v ((applyingOutcome q d snapshot ps snapshot) .plane) original off measured scratch) .totals) = rw (own q) at (both .1 (q .dirs) (ownVars (q .kind))) in
-      so (measured-yes _ measured scratch zm)
+      let plane : List ℕ = (applyingOutcome q d snapshot ps snapshot) .plane in
+      let accepts : measuringAccepts (withDirections q (q .dirs) (ownVars (q .kind))) d measured scratch ≡ true =
+      rw (own q) (accepts-from q d v plane original measured scratch (measured-yes plane measured scratch zm)) in
+      let both = agreement q v snapshot original ps d d d tried measured (q .dirs) (ownVars (q .kind)) scratch refl (trials-so ps (units q) t (l .0) (l .1)) (tried-yes tried zt) (applied-yes ps snapshot za) accepts in
+      rw (own q) at (both .1)
 
 -- ---- what an agreement says of the three calls
 
@@ -113,6 +114,15 @@ yes-only true true true false i j k h = never h
 yes-only true true false e i j k h = never h
 yes-only true false c e i j k h = never h
 yes-only false b c e i j k h = never h
+
+-- the error code of an agreement, by the four tests
+number-of : (a b c e : Bool) (i j k : ℕ) → (e ≡ true → i ≡ 0) → agreementNumber (readAgreement (cond a (cond b (cond c (cond e Agreed (MeasuringRefused i)) (ApplyingRefused j)) NotTrialPairs) (TryingRefused k))) ≡ cond a (cond b (cond c i j) 8) k
+unfolding readAgreement agreementNumber
+number-of true true true true i j k h = sym (h refl)
+number-of true true true false i j k h = refl
+number-of true true false e i j k h = refl
+number-of true false c e i j k h = refl
+number-of false b c e i j k h = refl
 
 module _ (trial : Bool) (asked : List ℕ → ℕ) (applied : List ℕ → ApplyingOutcome) (q : Picture) (d : DampingChoice) (v : Visible) (snapshot original : List ℕ) (tried : List ℤ) (dst : List ℕ) (measured : List ℤ) (scratch : List ℕ) where
   abbrev out : AgreeOutcome
@@ -126,6 +136,12 @@ module _ (trial : Bool) (asked : List ℕ → ℕ) (applied : List ℕ → Apply
   all-yes h =
       let y = yes-only (eqb (tryingNo q d v snapshot original tried) 0) trial (eqb (asked (copied snapshot dst)) 0) (eqb (measuringNo q d v plane original off measured scratch) 0) _ _ _ h in
       (eqb-true _ _ (y .0), y .1, eqb-true _ _ (y .2), eqb-true _ _ (y .3))
+
+  -- the error code: trying's; else 8 for a pair that is none of the twelve; else applying's; else measuring's, 0 where the totals agree
+  pub number-is : agreementNumber (readAgreement (out .answer))
+      ≡ cond (eqb (tryingNo q d v snapshot original tried) 0) (cond trial (cond (eqb (asked (copied snapshot dst)) 0) (measuringNo q d v plane original off measured scratch) (asked (copied snapshot dst))) 8) (tryingNo q d v snapshot original tried)
+  unfolding agreeWith
+  number-is = number-of _ trial _ _ (measuringNo q d v plane original off measured scratch) _ _ (eqb-true (measuringNo q d v plane original off measured scratch) 0)
 
   totals-are : tryingNo q d v snapshot original tried ≡ 0 → trial ≡ true → asked (copied snapshot dst) ≡ 0
       → (out .tried ≡ (tryingOutcome q d v snapshot original tried) .totals) × (out .measured ≡ (measuringOutcome q d v plane original off measured scratch) .totals)

@@ -3,7 +3,9 @@ ghost use mathlib.Core.Path.{_≡_};
 ghost use mathlib.Core.Bool.{_&&_};
 ghost use mathlib.Core.List.{List};
 ghost use Prim.Native.Nat.{ℕ};
+ghost use Rattle.cdef_spec.specs.BlockCalls.{workingDampingNo};
 ghost use Rattle.cdef_spec.specs.Questions.{depthTaken, sideTaken, full, cornerTaken, strengthTaken, workingTaken, varianceTaken, indexTaken, differenceTaken};
+use cdef_spec::SignalledDamping;
 use cdef_spec::WorkingDamping;
 
 // 1: a bit depth, 8 to 12.
@@ -61,6 +63,19 @@ pub fn working_taken(damping: WorkingDamping) -> bool
     ensures { λ r. ⌜ r ≡ workingTaken damping ⌝ }
 {
     damping.0 <= 31
+}
+
+// 1 and 8, of the working damping of a plane: the depth, the signalled damping.
+pub fn working_damping_no(signalled: SignalledDamping, depth: u8) -> u8
+    ensures { λ r. ⌜ r ≡ workingDampingNo signalled depth ⌝ }
+{
+    if !depth_taken(depth) {
+        return 1;
+    }
+    if !cdef_leaf::damping::signalled_taken(signalled) {
+        return 8;
+    }
+    0
 }
 
 // 8: a variance, up to 860,160.

@@ -1,12 +1,14 @@
-// The calls on single numbers; a bare number becomes a working damping here alone.
+// The calls on single numbers. C passes dampings as plain numbers, which become the types of the calls here.
 ghost use mathlib.Core.Path.{_≡_};
 ghost use Rattle.cdef_spec.specs.Standard.{FloorLog2};
 ghost use Rattle.cdef_spec.specs.Answers.{numberOf};
-ghost use Rattle.cdef_spec.specs.BlockCalls.{constrainOutcome, adjustOutcome, dampingOutcome};
+ghost use Rattle.cdef_spec.specs.BlockCalls.{constrainOutcome, adjustOutcome, dampingOutcome, lumaDampingOutcome, chromaDampingOutcome};
 ghost use Rattle.cdef_c.specs.Values.{valueOr};
 use cdef_spec::DampingAnswer;
 use cdef_spec::DifferenceAnswer;
+use cdef_spec::SignalledDamping;
 use cdef_spec::StrengthAnswer;
+use cdef_spec::WorkingAnswer;
 use cdef_spec::WorkingDamping;
 
 // Constrains a difference.
@@ -54,7 +56,37 @@ pub extern "C" fn quern_damping(index: u32, out: &mut u8) -> u32
     }
 }
 
-// The place of the highest set bit, 0 for 0: handed back itself, since nothing is refused.
+// The working damping of a luma plane.
+#[no_mangle]
+pub extern "C" fn quern_luma_damping(signalled: u8, depth: u8, out: &mut u8) -> u32
+    ensures { λ r. ⌜ r ≡ numberOf (lumaDampingOutcome (record { 0 = signalled }) depth) ⌝ }
+    ensures { λ _. ⌜ now (out .exit) ≡ (valueOr (record { 0 = now (out .entry) }) (lumaDampingOutcome (record { 0 = signalled }) depth)) .0 ⌝ }
+{
+    match cdef::numbers::luma_damping(SignalledDamping(signalled), depth) {
+        WorkingAnswer::Working(d) => {
+            *out = d.0;
+            0
+        }
+        WorkingAnswer::NoWorking(n) => n as u32,
+    }
+}
+
+// The working damping of a chroma plane.
+#[no_mangle]
+pub extern "C" fn quern_chroma_damping(signalled: u8, depth: u8, out: &mut u8) -> u32
+    ensures { λ r. ⌜ r ≡ numberOf (chromaDampingOutcome (record { 0 = signalled }) depth) ⌝ }
+    ensures { λ _. ⌜ now (out .exit) ≡ (valueOr (record { 0 = now (out .entry) }) (chromaDampingOutcome (record { 0 = signalled }) depth)) .0 ⌝ }
+{
+    match cdef::numbers::chroma_damping(SignalledDamping(signalled), depth) {
+        WorkingAnswer::Working(d) => {
+            *out = d.0;
+            0
+        }
+        WorkingAnswer::NoWorking(n) => n as u32,
+    }
+}
+
+// The place of the highest set bit, 0 for 0: returned itself, since nothing is rejected.
 #[no_mangle]
 pub extern "C" fn quern_log2_floor(v: u32) -> u32
     ensures { λ r. ⌜ r ≡ FloorLog2 v ⌝ }

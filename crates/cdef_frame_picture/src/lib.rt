@@ -6,7 +6,7 @@ ghost use Prim.Native.Nat.{ℕ, _*_, _≤_};
 ghost use lib.Dec.{eqb};
 ghost use lib.ListN.{length};
 ghost use Rattle.cdef_spec.specs.Picture.{planeWidth, planeHeight, units as unitsIn};
-ghost use Rattle.cdef_spec.specs.Questions.{firstNo, lumaSideTaken, flagsTaken, pictureListed, visibleTaken, signalledTaken, variancesTaken, pictureTaken, pairTaken};
+ghost use Rattle.cdef_spec.specs.Questions.{firstNo, lumaSideTaken, flagsTaken, pictureListed, visibleTaken, variancesTaken, pictureTaken, pairTaken};
 ghost use Rattle.cdef_frame.specs.Frame.{Shaped, kindOf, pictureOf};
 ghost use Rattle.cdef_frame_picture.specs.Parts.{sidesFirst, shapeFirst, lentFirst, sampleLast};
 use cdef_frame::Frame;
@@ -133,16 +133,6 @@ fn variances_taken(f: Frame, vars: &[u32]) -> bool
     true
 }
 
-// 8: the figure in force, 3 to 6.
-fn signalled_taken(d: SignalledDamping) -> bool
-    ensures { λ r. ⌜ r ≡ signalledTaken d ⌝ }
-{
-    if d.0 < 3 {
-        return false;
-    }
-    d.0 <= 6
-}
-
 // 8: flags, directions, variances and the figure in force.
 fn picture_taken(f: Frame, skip: &[u8], dirs: &[u8], vars: &[u32], d: SignalledDamping) -> bool
     ensures { λ r. ⌜ r ≡ pictureTaken (pictureOf f (now (skip .entry)) (now (dirs .entry)) (now (vars .entry))) d ⌝ }
@@ -156,7 +146,7 @@ fn picture_taken(f: Frame, skip: &[u8], dirs: &[u8], vars: &[u32], d: SignalledD
     if !variances_taken(f, vars) {
         return false;
     }
-    signalled_taken(d)
+    cdef_leaf::damping::signalled_taken(d)
 }
 
 // 8: a pair's strengths.

@@ -2,6 +2,7 @@
 ghost use mathlib.Core.Path.{_≡_};
 ghost use Prim.Native.Nat.{_≤_};
 ghost use Rattle.cdef_spec.specs.Document01.{qualityDamping, inForce, lumaDamping, chromaDamping};
+ghost use Rattle.cdef_spec.specs.Questions.{signalledTaken};
 use cdef_spec::DampingChoice;
 use cdef_spec::SignalledDamping;
 use cdef_spec::WorkingDamping;
@@ -30,6 +31,16 @@ pub fn in_force(choice: DampingChoice) -> SignalledDamping
             cdef_damping(index)
         }
     }
+}
+
+// Whether a signalled damping is in range: 3 to 6.
+pub fn signalled_taken(d: SignalledDamping) -> bool
+    ensures { λ r. ⌜ r ≡ signalledTaken d ⌝ }
+{
+    if d.0 < 3 {
+        return false;
+    }
+    d.0 <= 6
 }
 
 // The luma rule: signalled + depth - 8.

@@ -2,7 +2,7 @@
 use mathlib.Core.Path.{_≡_, refl, sym, ap, _∙_}
 use mathlib.Core.Bool.{Bool, true, false, cond, _&&_}
 use mathlib.Core.List.{List, [], _∷_}
-use Prim.Native.Nat.{ℕ, zero, suc, _+_, _*_, _/_, _%_, _^_, _≤_, _<_}
+use Prim.Native.Nat.{ℕ, _+_, _*_, _/_, _%_, _^_, _<_}
 use native.Mathlib.Omega.{arith}
 use borrow.Author.Tests.{eqb-true, eq-eqb}
 use lib.Dec.{eqb}
@@ -13,14 +13,13 @@ use Rattle.cdef_spec.specs.declared.SignalledDamping.{SignalledDamping}
 use Rattle.cdef_spec.specs.declared.DampingChoice.{DampingChoice}
 use Rattle.cdef_spec.specs.declared.UnitPair.{UnitPair}
 use Rattle.cdef_spec.specs.declared.Visible.{Visible}
-use Rattle.cdef_spec.specs.Words.{table}
 use Rattle.cdef_spec.specs.WordsLaws.{length-table, getD-table, and-both, and-make}
-use Rattle.cdef_spec.specs.Document01.{mark, orElse, inForce, trialPair, trialNumber, isTrialPair}
+use Rattle.cdef_spec.specs.Document01.{mark, orElse, inForce, trialNumber, isTrialPair}
 use Rattle.cdef_spec.specs.Picture.{PlaneKind, luma, chroma, Picture, subX, subY, planeWidth, planeHeight, blockWidth, blockHeight, units, unitAt, atPlace, filteredBy, distanceOf, visibleCols, visibleRows, blockDistance, counted, unitTotal, triedTotal, measuredTotal, pairAt, appliedAt, planeFrom, appliedPlane}
-use Rattle.cdef_spec.specs.Answers.{Result, Nothing, taken, refused, nothing, resultOf}
-use Rattle.cdef_spec.specs.Questions.{allBelow, fullPlanes, pictureListed, visibleTaken, primaryTaken, secondaryTaken, pairTaken, allSamplesBelow}
+use Rattle.cdef_spec.specs.Answers.{taken, refused, nothing, resultOf}
+use Rattle.cdef_spec.specs.Questions.{allBelow, flagsTaken, fullPlanes, pictureListed, visibleTaken, pictureTaken, primaryTaken, secondaryTaken, pairTaken, allSamplesBelow}
 use Rattle.cdef_spec.specs.FrameCalls.{tryingNo, tryingOutcome, applyingNo, applyingOutcome, scratchLength, measuringNo, measuringOutcome}
-use Rattle.cdef_spec.specs.Demand3.{off, otherKind, withDirections, Agrees, Demand3}
+use Rattle.cdef_spec.specs.Demand3.{off, otherKind, withDirections, Agrees, measuringAccepts, Demand3}
 use Rattle.cdef_spec.specs.DistanceLaws.{total-same, block-same}
 use Rattle.cdef_spec.specs.GeometryLaws.{Tiled, tiled, row-of, at-plane}
 use Rattle.cdef_spec.specs.QuestionLaws.{below-get, below-make, Taken, questions-yes, all-yes, samples-fit}
@@ -34,6 +33,37 @@ result-zero n e = go (eqb n 0) refl e
     go : (b : Bool) → eqb n 0 ≡ b → cond b (taken nothing) (refused n) ≡ taken nothing → n ≡ 0
     go true p e = eqb-true n 0 p
     go false p e = let z : _≡_ {A = ℕ} 0 1 = cc in absurd (omega arith)
+
+-- ---- other directions and variances leave the plane, its flags and the visible size as they are
+
+own-x : (k : PlaneKind) (vars : List ℕ) → subX (otherKind k vars) ≡ subX k
+unfolding subX otherKind
+own-x (luma old) vars = refl
+own-x (chroma sx sy) vars = refl
+
+own-y : (k : PlaneKind) (vars : List ℕ) → subY (otherKind k vars) ≡ subY k
+unfolding subY otherKind
+own-y (luma old) vars = refl
+own-y (chroma sx sy) vars = refl
+
+own-flags : (k : PlaneKind) (vars : List ℕ) → flagsTaken (otherKind k vars) ≡ flagsTaken k
+unfolding flagsTaken otherKind
+own-flags (luma old) vars = refl
+own-flags (chroma sx sy) vars = refl
+
+own-width : (q : Picture) (dirs vars : List ℕ) → planeWidth (withDirections q dirs vars) ≡ planeWidth q
+unfolding planeWidth withDirections
+own-width q dirs vars = rw (own-x (q .kind) vars)
+
+own-height : (q : Picture) (dirs vars : List ℕ) → planeHeight (withDirections q dirs vars) ≡ planeHeight q
+unfolding planeHeight withDirections
+own-height q dirs vars = rw (own-y (q .kind) vars)
+
+own-visible : (q : Picture) (dirs vars : List ℕ) (v : Visible) → visibleTaken (withDirections q dirs vars) v ≡ visibleTaken q v
+unfolding visibleTaken withDirections
+own-visible q dirs vars v = refl
+
+-- ---- what applying leaves, for a figure s
 
 module _ (q : Picture) (visible : Visible) (snapshot original : List ℕ) (pairs : List UnitPair) (s : SignalledDamping) where
   abbrev left : List ℕ
@@ -64,21 +94,27 @@ module _ (q : Picture) (visible : Visible) (snapshot original : List ℕ) (pairs
         rw (getD-table n f 0 k l)
         (applied-low q s snapshot pairs fine no-mark (2 ^ q .depth) fits (k / planeWidth q) (k % planeWidth q) (row-of (planeWidth q) (planeHeight q) k l .0) (row-of (planeWidth q) (planeHeight q) k l .1)))
 
-    -- measuring says yes
-    module _ (measured : List ℤ) (scratch : List ℕ) (hm : length measured ≡ units q) (hs : length scratch ≡ scratchLength q) where
-      taken-too : Taken q s (left ∷ original ∷ []) ((eqb (length measured) (units q) && eqb (length scratch) (scratchLength q)) && visibleTaken q visible) (pairTaken off) (left ∷ original ∷ [])
-      unfolding fullPlanes allSamplesBelow pairTaken primaryTaken secondaryTaken
-      taken-too =
+    -- measuring accepts what applying left, with directions, variances and a damping of its own
+    module _ (dirs vars : List ℕ) (dm : DampingChoice) (measured : List ℤ) (scratch : List ℕ) where
+      abbrev own : Picture
+      own = withDirections q dirs vars
+
+      own-taken : measuringAccepts own dm measured scratch ≡ true
+          → Taken own (inForce dm) (left ∷ original ∷ []) ((eqb (length measured) (units own) && eqb (length scratch) (scratchLength own)) && visibleTaken own visible) (pairTaken off) (left ∷ original ∷ [])
+      unfolding measuringAccepts fullPlanes allSamplesBelow pairTaken primaryTaken secondaryTaken withDirections
+      own-taken accepts =
+          let own-78 = and-both (pictureListed own && (eqb (length measured) (units own) && eqb (length scratch) (scratchLength own))) (pictureTaken own (inForce dm)) accepts in
+          let own-7 = and-both (pictureListed own) (eqb (length measured) (units own) && eqb (length scratch) (scratchLength own)) (own-78 .0) in
           let four = and-both (eqb (length snapshot) (planeWidth q * planeHeight q)) _ (t .four) in
           let seven = and-both (pictureListed q) (eqb (length totals) (12 * units q) && visibleTaken q visible) (t .seven) in
           let nine = and-both (allBelow (2 ^ q .depth) snapshot) _ (t .nine) in
           record {
             one = t .one;
             two = t .two;
-            three = t .three;
-            four = and-make (eq-eqb _ _ left-length) (four .1);
-            seven = and-make (seven .0) (and-make (and-make (eq-eqb _ _ hm) (eq-eqb _ _ hs)) (and-both (eqb (length totals) (12 * units q)) (visibleTaken q visible) (seven .1) .1));
-            eight = t .eight;
+            three = own-flags (q .kind) vars ∙ t .three;
+            four = rw (own-width q dirs vars, own-height q dirs vars) (and-make (eq-eqb _ _ left-length) (four .1));
+            seven = and-make (own-7 .0) (and-make (own-7 .1) (own-visible q dirs vars visible ∙ and-both (eqb (length totals) (12 * units q)) (visibleTaken q visible) (seven .1) .1));
+            eight = and-make (own-78 .1) refl;
             nine = and-make left-fits (nine .1);
           }
 
@@ -128,17 +164,13 @@ module _ (q : Picture) (d : DampingChoice) (v : Visible) (plane original : List 
     unfolding measuringOutcome
     measured-at u hu = rw z (getD-table (units q) _ (pos 0) u hu)
 
--- with pair 0, 0 measuring doesn't look at directions, variances or damping
+-- with pair 0, 0 measuring reads no direction, variance or damping
 measured-by : (k : PlaneKind) (depth width height : ℕ) (skip old dirs vars : List ℕ) (s s′ : SignalledDamping) (v : Visible) (plane original : List ℕ) (u : ℕ)
     → measuredTotal (withDirections (record { kind = k; depth = depth; width = width; height = height; skip = skip; dirs = old }) dirs vars) s′ v plane original off u
     ≡ measuredTotal (record { kind = k; depth = depth; width = width; height = height; skip = skip; dirs = old }) s v plane original off u
 unfolding measuredTotal unitTotal unitAt counted blockDistance distanceOf visibleRows visibleCols blockHeight blockWidth planeWidth atPlace subX subY withDirections otherKind
 measured-by (luma w) depth width height skip old dirs vars s s′ v plane original u = refl
 measured-by (chroma sx sy) depth width height skip old dirs vars s s′ v plane original u = refl
-
-any-damping : (q : Picture) (s s′ : SignalledDamping) (v : Visible) (plane original : List ℕ) (u : ℕ) → measuredTotal q s′ v plane original off u ≡ measuredTotal q s v plane original off u
-unfolding measuredTotal
-any-damping q s s′ v plane original u = refl
 
 same-units : (q : Picture) (dirs vars : List ℕ) → units (withDirections q dirs vars) ≡ units q
 unfolding units withDirections
@@ -165,19 +197,30 @@ module _ (q q′ : Picture) (visible : Visible) (snapshot original : List ℕ) (
             ∙ sym (tried-at q dt visible snapshot original totals zt u (trialNumber (pairAt pairs u)) hu (trial-of (pairAt pairs u) (trials u hu) .0));
       }
 
+-- the claim asks no more of what measuring is given than measuring does: where measuring accepts its input, `measuringAccepts` holds of it
+pub accepts-from : (q : Picture) (d : DampingChoice) (v : Visible) (plane original : List ℕ) (measured : List ℤ) (scratch : List ℕ)
+    → (measuringOutcome q d v plane original off measured scratch) .answer ≡ taken nothing → measuringAccepts q d measured scratch ≡ true
+unfolding measuringOutcome measuringNo measuringAccepts
+accepts-from q d v plane original measured scratch y =
+    let t = questions-yes q _ _ _ _ _ (result-zero (measuringNo q d v plane original off measured scratch) y) in
+    let seven = and-both (pictureListed q) ((eqb (length measured) (units q) && eqb (length scratch) (scratchLength q)) && visibleTaken q v) (t .seven) in
+    let lists = and-both (eqb (length measured) (units q) && eqb (length scratch) (scratchLength q)) (visibleTaken q v) (seven .1) in
+    let eight = and-both (pictureTaken q (inForce d)) (pairTaken off) (t .eight) in
+    and-make (and-make (seven .0) (lists .0)) (eight .0)
+
 -- DEMAND 3 holds.
 pub agreement : Demand3
-agreement q visible snapshot original pairs dt da dm totals measured scratch ea trials yt ya =
+agreement q visible snapshot original pairs dt da dm totals measured dirs vars scratch ea trials yt ya accepts =
     let zt : tryingNo q dt visible snapshot original totals ≡ 0 = unfold tryingOutcome in result-zero _ yt in
     let za : applyingNo q da snapshot pairs snapshot ≡ 0 = unfold applyingOutcome in result-zero _ ya in
     let t = trying-taken q dt visible snapshot original totals zt in
     let plane : List ℕ = appliedPlane q (inForce dt) snapshot pairs snapshot in
     let l : (applyingOutcome q da snapshot pairs snapshot) .plane ≡ plane = applied-left q da snapshot pairs za ∙ ap (λ (n : SignalledDamping). appliedPlane q n snapshot pairs snapshot) ea in
+    let own : Picture = withDirections q dirs vars in
+    let y : (measuringOutcome own dm visible plane original off measured scratch) .answer ≡ taken nothing =
+    measuring-yes own dm visible plane original measured scratch (own-taken q visible snapshot original pairs (inForce dt) totals t dirs vars dm measured scratch accepts) in
     rw l (
-      (λ em hm hs.
-          let y : (measuringOutcome q dm visible plane original off measured scratch) .answer ≡ taken nothing = measuring-yes q dm visible plane original measured scratch (rw em (taken-too q visible snapshot original pairs (inForce dt) totals t measured scratch hm hs)) in
-          (y, all-units q q visible snapshot original pairs dt dm totals measured scratch refl (λ p u. any-damping q (inForce dt) (inForce dm) visible p original u) zt trials y)),
-      λ dirs vars ym.
-          all-units q (withDirections q dirs vars) visible snapshot original pairs dt dm totals measured scratch (same-units q dirs vars)
-          (λ p u. measured-by (q .kind) (q .depth) (q .width) (q .height) (q .skip) (q .dirs) dirs vars (inForce dt) (inForce dm) visible p original u) zt trials ym,
+      y,
+      all-units q own visible snapshot original pairs dt dm totals measured scratch (same-units q dirs vars)
+          (λ p u. measured-by (q .kind) (q .depth) (q .width) (q .height) (q .skip) (q .dirs) dirs vars (inForce dt) (inForce dm) visible p original u) zt trials y,
     )

@@ -1,10 +1,12 @@
--- DEMAND 3, as a statement over the outcomes of the three calls. Definitions only; Agreement proves it.
+-- DEMAND 3 (RULES, Agreement), as a statement over the outcomes of the three calls. Definitions only; Agreement proves it.
 -- Trying and applying share a picture (plane kind with its layout, depth, sizes, skip flags, directions, variances), a snapshot and the figure in force, however each came by it.
--- Each unit's pair is any of the twelve. Applying reads the snapshot and writes into a copy of it. Measuring, with pair 0, 0, is lent what applying left, and the same original, depth, layout, flags and visible size.
+-- Each unit's pair is any of the twelve. Applying reads the snapshot and writes into a copy of it. Measuring, with pair 0, 0, gets what applying left, and the same original, depth, layout, skip flags and visible size;
+-- its directions, variances and damping are its own.
 use mathlib.Core.Path.{_≡_}
-use mathlib.Core.Bool.{true}
+use mathlib.Core.Bool.{Bool, true, _&&_}
 use mathlib.Core.List.{List}
 use Prim.Native.Nat.{ℕ, _+_, _*_, _<_}
+use lib.Dec.{eqb}
 use lib.IntN.{ℤ, pos}
 use lib.ListN.{getD, length}
 use Rattle.cdef_spec.specs.declared.DampingChoice.{DampingChoice}
@@ -13,13 +15,14 @@ use Rattle.cdef_spec.specs.declared.Visible.{Visible}
 use Rattle.cdef_spec.specs.Document01.{inForce, trialNumber, isTrialPair}
 use Rattle.cdef_spec.specs.Picture.{PlaneKind, luma, chroma, Picture, units, pairAt}
 use Rattle.cdef_spec.specs.Answers.{taken, nothing}
+use Rattle.cdef_spec.specs.Questions.{pictureListed, pictureTaken}
 use Rattle.cdef_spec.specs.FrameCalls.{TryingOutcome, tryingOutcome, ApplyingOutcome, applyingOutcome, scratchLength, MeasuringOutcome, measuringOutcome}
 
 -- the pair 0, 0: measuring takes the plane as it stands
 abbrev pub off : UnitPair
 off = record { primary = 0; secondary = 0 }
 
--- the same picture with other directions and, in luma, other variances
+-- the same picture with other directions and, in luma, other variances: as measuring may have it
 unfoldable pub otherKind : PlaneKind → List ℕ → PlaneKind
 otherKind (luma vars) vars′ = luma vars′
 otherKind (chroma sx sy) vars′ = chroma sx sy
@@ -33,25 +36,23 @@ pub record Agrees (q : Picture) (pairs : List UnitPair) (tried measured : List �
   pub measured-length : length measured ≡ units q
   pub unit-by-unit : (u : ℕ) → u < units q → getD measured u (pos 0) ≡ getD tried (12 * u + trialNumber (pairAt pairs u)) (pos 0)
 
--- for every input that trying and applying take:
--- (1) with the shared directions, variances and figure in force, and totals and scratch of question 7's length, measuring is taken and its totals agree with the tried ones;
--- (2) whatever directions, variances and damping measuring is given, where it takes them its totals agree with the tried ones.
+-- what measuring alone is given passes questions 7 and 8: its lists of totals, scratch, directions and variances, and the figure that its damping puts in force
+unfoldable pub measuringAccepts : Picture → DampingChoice → List ℤ → List ℕ → Bool
+measuringAccepts q damping measured scratch = (pictureListed q && (eqb (length measured) (units q) && eqb (length scratch) (scratchLength q))) && pictureTaken q (inForce damping)
+
+-- for every input that trying and applying accept, and whatever directions, variances, damping, totals and scratch of its own measuring is given that pass questions 7 and 8:
+-- measuring accepts its input, and its totals agree with the tried ones
 abbrev pub Demand3 : Type 0
 Demand3 =
     (q : Picture) (visible : Visible) (snapshot original : List ℕ) (pairs : List UnitPair)
-    (dampingTried dampingApplied dampingMeasured : DampingChoice) (totals measured : List ℤ) (scratch : List ℕ)
+    (dampingTried dampingApplied dampingMeasured : DampingChoice) (totals measured : List ℤ) (dirs vars scratch : List ℕ)
     → inForce dampingApplied ≡ inForce dampingTried
     → ((u : ℕ) → u < units q → isTrialPair (pairAt pairs u) ≡ true)
     → let tried : TryingOutcome = tryingOutcome q dampingTried visible snapshot original totals in
     let applied : ApplyingOutcome = applyingOutcome q dampingApplied snapshot pairs snapshot in
+    let own : Picture = withDirections q dirs vars in
+    let m : MeasuringOutcome = measuringOutcome own dampingMeasured visible (applied .plane) original off measured scratch in
     tried .answer ≡ taken nothing
     → applied .answer ≡ taken nothing
-    → (inForce dampingMeasured ≡ inForce dampingTried
-    → length measured ≡ units q
-    → length scratch ≡ scratchLength q
-    → let m : MeasuringOutcome = measuringOutcome q dampingMeasured visible (applied .plane) original off measured scratch in
-    (m .answer ≡ taken nothing) × Agrees q pairs (tried .totals) (m .totals))
-    × ((dirs vars : List ℕ)
-    → let m : MeasuringOutcome = measuringOutcome (withDirections q dirs vars) dampingMeasured visible (applied .plane) original off measured scratch in
-    m .answer ≡ taken nothing
-    → Agrees q pairs (tried .totals) (m .totals))
+    → measuringAccepts own dampingMeasured measured scratch ≡ true
+    → (m .answer ≡ taken nothing) × Agrees q pairs (tried .totals) (m .totals)

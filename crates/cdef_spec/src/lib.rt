@@ -77,6 +77,12 @@ pub enum DampingAnswer {
     NoDamping(u8),
 }
 
+// What the working damping of a plane is: a working damping, or a refusal.
+pub enum WorkingAnswer {
+    Working(WorkingDamping),
+    NoWorking(u8),
+}
+
 // What the direction of a block is: the direction and the variance, or a refusal.
 pub enum DirectionAnswer {
     Direction(u8, u32),

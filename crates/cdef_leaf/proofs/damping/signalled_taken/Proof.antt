@@ -1,8 +1,8 @@
--- `cdef_frame_picture::picture::signalled_taken` meets its contract.
+-- `cdef_leaf::damping::signalled_taken` meets its contract.
 use borrow.Author.Tests.{le-leb, lt-leb}
 use Rattle.cdef_spec.specs.Questions.{signalledTaken}
-use Rattle.cdef_frame_picture.proofs.signalled_taken.Statement.{statement}
-use Rattle.cdef_frame_picture.proofs.signalled_taken.Tie as tie
+use Rattle.cdef_leaf.proofs.damping.signalled_taken.Statement.{statement}
+use Rattle.cdef_leaf.proofs.damping.signalled_taken.Tie as tie
 
 returns : tie.Need-returns
 unfolding signalledTaken

@@ -1,2 +1,2 @@
--- Document 01's worked lines marked P: one list, one claim over it.
+-- The lines marked P of RULES, Worked lines: one list, one claim over it.
 pub mod Worked

@@ -1,4 +1,4 @@
--- What a yes to a test says as a bound.
+-- What a passed test says as a bound.
 use mathlib.Core.Path.{_≡_}
 use mathlib.Core.Bool.{true}
 use Prim.Native.Nat.{ℕ, _*_, _≤_, _<_}

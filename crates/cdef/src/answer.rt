@@ -1,4 +1,4 @@
-// An answer from the number of a call's first no, or 0.
+// An answer from the error code of a call's first failed check, or 0.
 ghost use mathlib.Core.Path.{_≡_};
 ghost use Rattle.cdef_spec.specs.Answers.{readAnswer, resultOf, nothing};
 use cdef_spec::Answer;

@@ -1,5 +1,5 @@
-// The calls for applying: the snapshot filtered into a destination, each unit with its own pair of a lent slice.
-// What is lent structs is proved by hand, and does no more than gather them for the covered function beside it.
+// The calls for applying: the snapshot filtered into a destination, each unit with its own pair of the caller's slice.
+// A function that borrows structs is proved by hand, and only gathers them for the covered function next to it.
 ghost use mathlib.Core.Path.{_≡_};
 ghost use Rattle.cdef_spec.specs.Answers.{readAnswer};
 ghost use Rattle.cdef_spec.specs.Picture.{lumaPicture, chromaPicture};
@@ -10,7 +10,7 @@ use cdef_spec::Answer;
 use cdef_spec::DampingChoice;
 use cdef_spec::UnitPair;
 
-// Applying in luma with the first n pairs of an array. More than 4,096 are refused, since no picture has so many units.
+// Applying in luma with the first n pairs of an array. More than 4,096 are rejected, since no picture has so many units.
 fn apply_luma_of(
     dst: &mut [u16],
     snapshot: &[u16],
@@ -46,7 +46,7 @@ fn apply_luma_of(
     )
 }
 
-// The same in a chroma plane. Sizes are luma's; sx and sy are the halving flags.
+// The same in a chroma plane. Sizes are luma's; sx and sy are the subsampling flags.
 fn apply_chroma_of(
     dst: &mut [u16],
     snapshot: &[u16],
@@ -84,7 +84,7 @@ fn apply_chroma_of(
     )
 }
 
-// Applying in luma, a pair a unit. The destination's length is asked; its old contents are not looked at.
+// Applying in luma, one pair per unit. The destination's length is checked; its old contents are not examined.
 pub fn apply_luma(
     dst: &mut [u16],
     snapshot: &[u16],
@@ -114,7 +114,7 @@ pub fn apply_luma(
     )
 }
 
-// Applying in a chroma plane. Sizes are luma's; sx and sy are the halving flags.
+// Applying in a chroma plane. Sizes are luma's; sx and sy are the subsampling flags.
 pub fn apply_chroma(
     dst: &mut [u16],
     snapshot: &[u16],

@@ -8,7 +8,7 @@ use cdef_frame::Frame;
 use cdef_spec::Answer;
 use cdef_spec::DampingChoice;
 
-// Applying in luma, a primary and a secondary strength a unit. The destination's length is asked; its old contents are not looked at.
+// Applying in luma, a primary and a secondary strength per unit. The destination's length is checked; its old contents are not examined.
 pub fn apply_luma(
     dst: &mut [u16],
     snapshot: &[u16],
@@ -37,7 +37,7 @@ pub fn apply_luma(
     answer::answer_of(no)
 }
 
-// Applying in a chroma plane. Sizes are luma's; sx and sy are the halving flags.
+// Applying in a chroma plane. Sizes are luma's; sx and sy are the subsampling flags.
 pub fn apply_chroma(
     dst: &mut [u16],
     snapshot: &[u16],

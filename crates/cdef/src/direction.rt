@@ -6,7 +6,7 @@ use cdef_asked::block_questions;
 use cdef_asked::questions;
 use cdef_spec::DirectionAnswer;
 
-// The direction and the variance of the 8 by 8 block at (x, y). Only the block, cut to the plane, is looked at.
+// The direction and the variance of the 8 by 8 block at (x, y). Only the block, cropped to the plane, is examined.
 pub fn direction(
     plane: &[u16],
     width: usize,

@@ -5,7 +5,7 @@ ghost use Rattle.cdef_spec.specs.BlockCalls.{distanceOutcome, squaresOutcome};
 use cdef_asked::distance_questions;
 use cdef_spec::DistanceAnswer;
 
-// The weighted distance of the 8 by 8 blocks at (x, y); past the right or bottom edge, plain squares.
+// The weighted distance of the 8 by 8 blocks at (x, y); plain squares where they cross the right or bottom edge.
 pub fn distance(
     orig: &[u16],
     other: &[u16],
@@ -26,7 +26,7 @@ pub fn distance(
     DistanceAnswer::Distance(d as i64)
 }
 
-// The plain squares of the 8 by 8 blocks at (x, y), cut to the plane.
+// The plain squares, that is the sum of squared differences (SSE), of the 8 by 8 blocks at (x, y), cropped to the plane.
 pub fn squares(
     orig: &[u16],
     other: &[u16],

@@ -8,7 +8,7 @@ use cdef_spec::Block;
 use cdef_spec::FilterParams;
 
 // Filters a block of a plane into a destination of whole rows, whose first is the plane's row y0.
-// A place outside the block, off the plane or with a marked centre keeps what it held.
+// A sample outside the block, off the plane or with a marked centre keeps its value.
 pub fn filter_block(
     dst: &mut [u16],
     y0: usize,

@@ -1,4 +1,4 @@
-// The calls for measuring: for each unit the total of distances between the original and a plane, filtered with one pair or, with 0, 0, as it stands.
+// The calls for measuring: per unit the total of distances between the original and a plane, filtered with one pair or, with 0, 0, unfiltered.
 ghost use mathlib.Core.Path.{_≡_};
 ghost use Rattle.cdef_spec.specs.Answers.{readAnswer};
 ghost use Rattle.cdef_spec.specs.Picture.{lumaPicture, chromaPicture};
@@ -10,7 +10,7 @@ use cdef_spec::DampingChoice;
 use cdef_spec::UnitPair;
 use cdef_spec::Visible;
 
-// Measuring in luma. The scratch, plane width * block height numbers, comes back all zero.
+// Measuring in luma. The scratch, plane width * block height numbers, is returned all zero.
 pub fn measure_luma(
     totals: &mut [i64],
     scratch: &mut [u16],
@@ -54,7 +54,7 @@ pub fn measure_luma(
     answer::answer_of(no)
 }
 
-// Measuring in a chroma plane. Sizes are luma's; sx and sy are the halving flags.
+// Measuring in a chroma plane. Sizes are luma's; sx and sy are the subsampling flags.
 pub fn measure_chroma(
     totals: &mut [i64],
     scratch: &mut [u16],

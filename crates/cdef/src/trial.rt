@@ -8,8 +8,8 @@ use cdef_spec::Block;
 use cdef_spec::TrialWay;
 use cdef_spec::WorkingDamping;
 
-// Filters a block with the twelve pairs: trial block t lies in the 64 places from t * 64 on, with the block's width as its row pitch.
-// A marked centre, or one off the plane, gives 16384; the places after the block keep what they held.
+// Filters a block with the twelve pairs: trial block t lies in the 64 entries from t * 64 on, with the block's width as its row pitch.
+// A centre that is marked or off the plane gives 16384; the entries after the block keep their values.
 pub fn trial(
     out: &mut [u16],
     plane: &[u16],

@@ -1,4 +1,4 @@
-// The calls for trying: for each unit the totals of distances between the original and the twelve trial blocks.
+// The calls for trying: per unit the totals of distances between the original and the twelve trial blocks.
 ghost use mathlib.Core.Path.{_≡_};
 ghost use Rattle.cdef_spec.specs.Answers.{readAnswer};
 ghost use Rattle.cdef_spec.specs.Picture.{lumaPicture, chromaPicture};
@@ -9,7 +9,7 @@ use cdef_spec::Answer;
 use cdef_spec::DampingChoice;
 use cdef_spec::Visible;
 
-// Trying in luma. Whole blocks have the weighted distance, blocks cut by the visible part plain squares.
+// Trying in luma. Whole blocks have the weighted distance, blocks cropped to the visible part plain squares.
 pub fn try_luma(
     totals: &mut [i64],
     snapshot: &[u16],
@@ -48,7 +48,7 @@ pub fn try_luma(
     answer::answer_of(no)
 }
 
-// Trying in a chroma plane: plain squares over the visible part. Sizes are luma's; sx and sy are the halving flags.
+// Trying in a chroma plane: plain squares over the visible part. Sizes are luma's; sx and sy are the subsampling flags.
 pub fn try_chroma(
     totals: &mut [i64],
     snapshot: &[u16],

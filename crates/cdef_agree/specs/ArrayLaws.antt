@@ -1,4 +1,4 @@
--- The three calls with an array of pairs: what comes of them is what comes of them with the list that it holds.
+-- The three calls with an array of pairs: their outcome is the one with the list that it holds.
 use mathlib.Core.Path.{_≡_, sym, ap, subst, _∙_}
 use mathlib.Core.Bool.{true}
 use mathlib.Core.List.{List}
@@ -57,7 +57,7 @@ module _ (q : Picture) (d : DampingChoice) (v : Visible) (snapshot original : Li
       ∙ ap (λ (l : List UnitPair). agreeOutcome q d v snapshot original (listed (length ps) l) tried dst measured scratch) (sym e)
       ∙ f
 
-  -- ---- the first n pairs of an array, as two lists: m and k of its strengths are lent
+  -- ---- the first n pairs of an array, as two lists: m and k of its strengths are passed
 
   pub lists-agree : (n : ℕ) (a : List UnitPair) (m k : ℕ) (tried : List ℤ) (dst : List ℕ) (measured : List ℤ) (scratch : List ℕ) → (n ≤ 4096 → m ≡ n) → (4096 < n → m ≡ 0) → (n ≤ 4096 → k ≡ n) → (4096 ≤ n → k ≡ 4096)
       → agreeListsOutcome q d v snapshot original (primaries m a) (secondaries k a) tried dst measured scratch ≡ agreeOutcome q d v snapshot original (listed n a) tried dst measured scratch
@@ -65,7 +65,7 @@ module _ (q : Picture) (d : DampingChoice) (v : Visible) (snapshot original : Li
   lists-agree n a m k tried dst measured scratch m-few m-many k-few k-many =
       with-same _ _ _ _ _ _ q d v snapshot original tried dst measured scratch (lent-trials n a m k m-few m-many k-few) (lists-no q d snapshot (copied snapshot dst) n a m k m-few m-many k-few k-many) (lists-outcome q d snapshot (copied snapshot dst) n a m k m-few m-many k-few k-many)
 
-  -- of m and k it is said what or_none and at_most promise
+  -- m and k are as or_none and at_most promise
   pub agree-lent : (n : ℕ) (a : List UnitPair) (m k : ℕ) (pris secs : List ℕ) (tried : List ℤ) (dst : List ℕ) (measured : List ℤ) (scratch : List ℕ)
       → (pris ≡ primaries 4096 a) × (secs ≡ secondaries 4096 a)
       → (m ≤ 4096) × (n ≤ 4096 → m ≡ n) × (4096 < n → m ≡ 0)
@@ -76,7 +76,7 @@ module _ (q : Picture) (d : DampingChoice) (v : Visible) (snapshot original : Li
       let o : agreeListsOutcome q d v snapshot original (take m pris) (take k secs) tried dst measured scratch ≡ agreeOutcome q d v snapshot original (listed n a) tried dst measured scratch = rw (first-primaries a pris m (om .0) (l .0), first-secondaries a secs k (am .1) (l .1)) (lists-agree n a m k tried dst measured scratch (om .1) (om .2) (am .2) (am .3)) in
       rw (w .0, w .1 .0, w .1 .1 .0, w .1 .1 .1 .0, w .1 .1 .1 .1 .0) (sym o)
 
-  -- ---- the promise of the calls with a lent slice of pairs, from that of their core
+  -- ---- the contract of the calls with a slice of pairs, from that of their core
 
   pub agree-said : (ps a : List UnitPair) (tried : List ℤ) (dst : List ℕ) (measured : List ℤ) (scratch : List ℕ) (r : Agreement) (t : List ℤ) (p : List ℕ) (c : List ℤ) (s : List ℕ) → a ≡ gathered ps
       → agreeOutcome q d v snapshot original (listed (length ps) a) tried dst measured scratch ≡ record { answer = r; tried = t; dst = p; measured = c; scratch = s }

@@ -1,4 +1,4 @@
--- What comes of the three calls.
+-- The outcome of the three calls.
 pub mod Agree
 -- The totals agree.
 pub mod AgreeLaws

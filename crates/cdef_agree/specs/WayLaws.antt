@@ -1,4 +1,4 @@
--- What the three calls with two lists leave, from their answers as they hand them back.
+-- What the three calls with two lists leave, from the answers that they return.
 use mathlib.Core.Path.{_≡_, refl, sym, ap, _∙_}
 use mathlib.Core.Bool.{true, false}
 use mathlib.Core.List.{List}
@@ -17,7 +17,7 @@ use Rattle.cdef_agree.specs.declared.Agreement.the-variants.{Agreed, Not
 use Rattle.cdef_agree.specs.Agree.{isAgreed, trialPairs, copied, AgreeOutcome, agreeWith, agreeListsOutcome}
 use Rattle.cdef_agree.specs.AgreeLaws.{agreed-lists}
 
--- the number of an answer, as the calls promise it
+-- the error code of an answer, as the calls promise it
 number-is : (n k : ℕ) → k ≡ numberOf (resultOf n nothing) → k ≡ n
 number-is n k e = e ∙ number-back n
 
@@ -42,7 +42,7 @@ module _ (q : Picture) (d : DampingChoice) (v : Visible) (snapshot original pris
       let g = e ∙ sym tried-is in
       (f .0, (g, (f .1, (f .2, (f .3, λ h. rw (g, f .2) (agreed-lists q d v snapshot original pris secs tried dst measured scratch (rw (f .0) at h)))))))
 
-  -- trying: its answer, its number, its totals
+  -- trying: its answer, its error code, its totals
   module _ (a : Result Nothing) (k : ℕ) (t : List ℤ) (ea : a ≡ (tryingOutcome q d v snapshot original tried) .answer) (ek : k ≡ numberOf a) (et : t ≡ (tryingOutcome q d v snapshot original tried) .totals) where
     first : k ≡ tryingNo q d v snapshot original tried
     unfolding tryingOutcome

@@ -11,7 +11,7 @@ use cdef_spec::DampingChoice;
 use cdef_spec::UnitPair;
 use cdef_spec::Visible;
 
-// The three calls with the first n pairs of an array. Applying refuses more than 4,096, since no picture has so many units.
+// The three calls with the first n pairs of an array. Applying rejects more than 4,096, since no picture has so many units.
 fn agree_chroma_of(
     tried: &mut [i64],
     dst: &mut [u16],
@@ -59,7 +59,7 @@ fn agree_chroma_of(
     )
 }
 
-// The same in a chroma plane. Sizes are luma's; sx and sy are the halving flags.
+// The three calls in a chroma plane, as in luma. Sizes are luma's; sx and sy are the subsampling flags.
 pub fn agree_chroma(
     tried: &mut [i64],
     dst: &mut [u16],

@@ -5,7 +5,7 @@ pub mod luma; // luma.rt: in luma
 pub mod luma_lists; // luma_lists.rt: in luma, the pairs as two lists
 pub mod parts; // parts.rt: the test of the pairs, the copy of the snapshot
 
-// What comes of it: the totals agree; or a pair is none of the twelve; or a call says no, and which question.
+// The outcome: the totals agree; or a pair is none of the twelve; or a call is rejected, with its error code.
 pub enum Agreement {
     Agreed,
     NotTrialPairs,

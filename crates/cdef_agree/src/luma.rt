@@ -11,7 +11,7 @@ use cdef_spec::DampingChoice;
 use cdef_spec::UnitPair;
 use cdef_spec::Visible;
 
-// The three calls with the first n pairs of an array. Applying refuses more than 4,096, since no picture has so many units.
+// The three calls with the first n pairs of an array. Applying rejects more than 4,096, since no picture has so many units.
 fn agree_luma_of(
     tried: &mut [i64],
     dst: &mut [u16],
@@ -58,7 +58,7 @@ fn agree_luma_of(
 }
 
 // Tries; with pairs that are each one of the twelve, copies the snapshot into the destination and applies them; measures what that left, with pair 0, 0.
-// Where all three calls are taken, each unit's measured total is its tried total at its pair's trial number.
+// Where all three calls are accepted, each unit's measured total is its tried total at its pair's trial number.
 pub fn agree_luma(
     tried: &mut [i64],
     dst: &mut [u16],

@@ -12,7 +12,7 @@ use cdef_spec::UnitPair;
 use cdef_spec::Visible;
 
 // Tries; with pairs that are each one of the twelve, copies the snapshot into the destination and applies them; measures what that left, with pair 0, 0.
-// Where all three calls are taken, each unit's measured total is its tried total at its pair's trial number.
+// Where all three calls are accepted, each unit's measured total is its tried total at its pair's trial number.
 pub fn agree_luma(
     tried: &mut [i64],
     dst: &mut [u16],

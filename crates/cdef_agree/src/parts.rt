@@ -8,7 +8,7 @@ ghost use Rattle.cdef_spec.specs.FrameCalls.{pairsOf};
 ghost use Rattle.cdef_agree.specs.Agree.{trialPairs, copied};
 use cdef_spec::Answer;
 
-// Document 01's number of an answer.
+// The error code of an answer (RULES, Questions), 0 where the work is done.
 pub fn number(answer: Answer) -> u8
     ensures { λ r. ⌜ r ≡ numberOf (readAnswer answer) ⌝ }
 {
@@ -18,7 +18,7 @@ pub fn number(answer: Answer) -> u8
     }
 }
 
-// Is a pair one of the twelve?
+// Whether a pair is one of the twelve.
 fn is_trial_pair(primary: u8, secondary: u8) -> bool
     ensures { λ r. ⌜ r ≡ isTrialPair (record { primary = primary; secondary = secondary }) ⌝ }
 {
@@ -31,7 +31,7 @@ fn is_trial_pair(primary: u8, secondary: u8) -> bool
     primary <= 2
 }
 
-// A list's number at a place, 0 past its end.
+// Entry k of a list, 0 past its end.
 fn at_or_zero(list: &[u8], k: usize) -> u8
     ensures { λ r. ⌜ r ≡ getD (now (list .entry)) k 0 ⌝ }
 {
@@ -41,7 +41,7 @@ fn at_or_zero(list: &[u8], k: usize) -> u8
     0
 }
 
-// Do both hold?
+// Whether both hold.
 fn both(a: bool, b: bool) -> bool
     ensures { λ r. ⌜ r ≡ a && b ⌝ }
 {
@@ -51,7 +51,7 @@ fn both(a: bool, b: bool) -> bool
     false
 }
 
-// Is each unit's pair one of the twelve? More than 4,096 pairs are not looked at: applying refuses them.
+// Whether each unit's pair is one of the twelve. More than 4,096 pairs are not checked: applying rejects them.
 pub fn trial_pairs(pris: &[u8], secs: &[u8]) -> bool
     ensures { λ r. ⌜ r ≡ trialPairs (pairsOf (now (pris .entry)) (now (secs .entry))) ⌝ }
 {

@@ -1,4 +1,4 @@
--- What applying leaves block by block, as the code makes it. Definitions only.
+-- What applying leaves block by block, in the code's form. Definitions only.
 use mathlib.Core.Bool.{cond}
 use mathlib.Core.List.{List}
 use Prim.Native.Nat.{ℕ, _*_}
@@ -11,7 +11,7 @@ use Rattle.cdef_spec.specs.LoopForm.{putBlock, applyRow, applyRows}
 unfoldable pub blockFiltered : Picture → SignalledDamping → List ℕ → UnitPair → ℕ → ℕ → List ℕ → List ℕ
 blockFiltered q d snapshot p by bx dst = putBlock dst (planeWidth q) (filteredBy q d snapshot p by bx) (by * blockHeight q) (bx * blockWidth q) (blockWidth q) (blockHeight q)
 
--- filtered with its unit's pair, or passed over
+-- filtered with its unit's pair, or left as it is
 unfoldable pub blockApplied : Picture → SignalledDamping → List ℕ → List UnitPair → ℕ → ℕ → List ℕ → List ℕ
 blockApplied q d snapshot ps by bx dst = cond (written q ps by bx) (blockFiltered q d snapshot (pairAt ps (unitAt q by bx)) by bx dst) dst
 

@@ -1,4 +1,4 @@
--- Laws of applying: a unit's pair, the tests of a block, the turns of the loops, the whole plane.
+-- Laws of applying: a unit's pair, the tests of a block, the iterations of the loops, the whole plane.
 use mathlib.Core.Path.{_≡_, refl, sym, ap, _∙_}
 use mathlib.Core.Bool.{Bool, true, false, cond, _&&_}
 use mathlib.Core.List.{List}
@@ -63,7 +63,7 @@ module _ (f : Frame) (skip dirs vars : List ℕ) (d : SignalledDamping) (snapsho
         let k : eqb (getD ((pictureOf f skip dirs vars) .skip) (blockAt (pictureOf f skip dirs vars) by bx) 0) 0 ≡ true = unfold pictureOf in eq-eqb (getD skip (by * (f .width / 8) + bx) 0) 0 z in
         rw (← own, ← et, e, k) h
 
--- ---- turns
+-- ---- iterations
 
 module _ (q : Picture) (d : SignalledDamping) (snapshot : List ℕ) (ps : List UnitPair) where
   pub row-none : (by : ℕ) (dst : List ℕ) → rowApplied q d snapshot ps by dst 0 ≡ dst
@@ -78,7 +78,7 @@ module _ (q : Picture) (d : SignalledDamping) (snapshot : List ℕ) (ps : List U
       go true e = apply-row-more q _ _ by dst n e
       go false e = apply-row-pass q _ _ by dst n e
 
-  -- a turn of the loop over a row's blocks: n of them left l, the next leaves last
+  -- an iteration of the loop over a row's blocks: n of them left l, the next leaves last
   pub row-turn : (by : ℕ) (dst l last : List ℕ) (n : ℕ) → l ≡ rowApplied q d snapshot ps by dst n → last ≡ blockApplied q d snapshot ps by n l → last ≡ rowApplied q d snapshot ps by dst (n + 1)
   row-turn by dst l last n e h = h ∙ rw e (sym (row-more by dst n))
 

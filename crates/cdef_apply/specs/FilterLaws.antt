@@ -1,4 +1,4 @@
--- Filtering a block of a frame: the filter takes what its pair gives, and stores what Picture says.
+-- Filtering a block of a frame: the filter accepts its pair's parameters, and stores what Picture says.
 use mathlib.Core.Path.{_≡_, refl, sym, _∙_}
 use mathlib.Core.List.{List}
 use Prim.Native.Nat.{ℕ, _+_, _-_, _*_, _/_, _^_, _≤_, _<_, min}
@@ -30,7 +30,7 @@ module _ (f : Frame) (sh : Shaped f) (skip dirs vars : List ℕ) (by bx : ℕ) (
   whole-rows : min (blockHeight (pictureOf f skip dirs vars)) (planeHeight (pictureOf f skip dirs vars) - by * blockHeight (pictureOf f skip dirs vars)) ≡ blockHeight (pictureOf f skip dirs vars)
   whole-rows = omega (arith, rows-in f sh skip dirs vars by bx hy hx)
 
-  -- its number
+  -- its index
   pub number-small : by * (f .width / 8) + bx < 2 ^ 20
   number-small =
       let a : f .height / 8 ≤ 512 = omega (arith, side-facts (f .height) (sh .high) .1) in

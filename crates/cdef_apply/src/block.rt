@@ -1,4 +1,4 @@
-// One block: passed over, or filtered with its unit's pair.
+// One block: left as it is, or filtered with its unit's pair.
 ghost use mathlib.Core.Path.{_≡_};
 ghost use mathlib.Core.Bool.{true};
 ghost use mathlib.Core.List.{List};
@@ -48,7 +48,7 @@ fn filter_with(
     cdef_filter::cdef_filter_block(dst, 0, snapshot, w, h, block, q);
 }
 
-// A skipped block, or one in a unit whose pair is 0, 0, isn't written.
+// A skipped block is not written, nor is any block of a unit whose pair is 0, 0.
 pub fn apply_block(
     dst: &mut [u16],
     snapshot: &[u16],

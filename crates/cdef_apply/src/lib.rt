@@ -1,4 +1,4 @@
-// Applying: a plane filtered from its snapshot, each unit with its own pair. It asks nothing and takes the figure in force.
+// Applying: a plane filtered from its snapshot, each unit with its own pair. It validates nothing and is given the figure in force.
 pub mod block; // block.rt: one block
 
 ghost use mathlib.Core.Path.{_≡_};

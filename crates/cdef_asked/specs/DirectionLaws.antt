@@ -1,4 +1,4 @@
--- The direction's questions by the parts that the code asks them in, and the outcome of each first no.
+-- The direction's questions by the parts that the code checks them in, and the outcome of each first failed check.
 use mathlib.Core.Path.{_≡_, sym, _∙_}
 use mathlib.Core.Bool.{true, false}
 use mathlib.Core.List.{List, [], _∷_}

@@ -1,4 +1,4 @@
--- The distance calls' questions by the parts that the code asks them in, and what a yes to all leaves as facts.
+-- The distance calls' questions by the parts that the code checks them in, and what follows as facts where all pass.
 use mathlib.Core.Path.{_≡_}
 use mathlib.Core.Bool.{Bool, true, false, _&&_}
 use mathlib.Core.List.{List, [], _∷_}
@@ -18,7 +18,7 @@ use Rattle.cdef_asked.specs.Parts.{planeFirst}
 use Rattle.cdef_asked.specs.PartLaws.{PlaneFacts, plane-facts, PlaneYes, plane-taken}
 use Rattle.cdef_asked.specs.YesLaws.{full-length, corner-low}
 
--- a no to 1, 2 or 4 of one plane is a no of the same number where 4 asks of two planes
+-- where 1, 2 or 4 fails for one plane, the error code is the same where 4 checks two planes
 first-three : (a b c e f g : Bool) (n : ℕ) → n ≡ firstNo (ask 1 a ∷ ask 2 b ∷ ask 4 c ∷ []) → (n ≡ 0 → ⊥) → n ≡ firstNo (ask 1 a ∷ ask 2 b ∷ ask 4 (c && e) ∷ ask 5 f ∷ ask 9 g ∷ [])
 unfolding firstNo
 first-three false b c e f g n h k = h

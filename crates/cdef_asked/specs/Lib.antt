@@ -1,4 +1,4 @@
--- The questions in the parts that the code asks them in, and their laws.
+-- The questions in the parts that the code checks them in, and their laws.
 pub mod YesLaws
 pub mod Parts
 pub mod PartLaws

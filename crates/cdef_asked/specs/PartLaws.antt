@@ -1,4 +1,4 @@
--- What the parts say: a no of a first part is the call's; a yes leaves facts.
+-- What the parts say: the error code of a first part is the call's; where it passes, facts follow.
 use mathlib.Core.Path.{_≡_, refl, sym, _∙_}
 use mathlib.Core.Bool.{true, false, cond, _&&_}
 use mathlib.Core.List.{List, [], _∷_, _++_}
@@ -42,7 +42,7 @@ plane-facts p depth d s f =
     let h = side-le (p .height) (b .1) in
     record { deep = e .0; flat = e .1; w-low = w .0; wide = w .1; h-low = h .0; high = h .1; full-is = full-length p f }
 
--- the three tests, where all say yes
+-- the three tests, where all pass
 pub record PlaneYes (p : Plane) (depth : ℕ) : Type 0 where
   pub one : depthTaken depth ≡ true
   pub two : sideTaken (p .width) && sideTaken (p .height) ≡ true
@@ -58,7 +58,7 @@ plane-taken p depth z =
 pub plane-yes : (p : Plane) (depth : ℕ) → firstNo (planeFirst p depth) ≡ 0 → PlaneFacts p depth
 plane-yes p depth z = let y = plane-taken p depth z in plane-facts p depth (y .one) (y .two) (y .four)
 
--- with more questions after these: a no of theirs is the first, and past a yes the others are asked
+-- with more questions after these: their error code comes first, and where they pass the others are checked
 module _ (p : Plane) (depth : ℕ) (rest : List Question) where
   plane-join : firstNo (planeFirst p depth ++ rest) ≡ cond (eqb (firstNo (planeFirst p depth)) 0) (firstNo rest) (firstNo (planeFirst p depth))
   plane-join = first-join (planeFirst p depth) rest (more (λ e. omega arith) (more (λ e. omega arith) (more (λ e. omega arith) none)))

@@ -1,4 +1,4 @@
--- What the trial's parts say: a no of a first part is the call's; a yes leaves facts.
+-- What the trial's parts say: the error code of a first part is the call's; where it passes, facts follow.
 use mathlib.Core.Path.{_≡_, refl, sym, _∙_}
 use mathlib.Core.Bool.{true, false, cond, _&&_}
 use mathlib.Core.List.{List, [], _∷_}

@@ -1,4 +1,4 @@
--- The questions of the trial in the parts that the code asks them in. Definitions only.
+-- The questions of the trial in the parts that the code checks them in. Definitions only.
 use mathlib.Core.Bool.{_&&_}
 use mathlib.Core.List.{List, [], _∷_}
 use Prim.Native.Nat.{ℕ}

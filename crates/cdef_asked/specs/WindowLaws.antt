@@ -19,10 +19,10 @@ module _ (p : Plane) (b : Block) (depth : ℕ) (f : PlaneFacts p depth) (g : Blo
   pub in-plane : InPlane (p .samples) (p .width) (p .height) b
   in-plane = record { full = f .full-is; wide = f .wide; high = f .high; x-in = g .x-in; y-in = g .y-in; bw = g .bw; bh = g .bh }
 
-  -- the window's answer is question 9's
+  -- the window's test is question 9
   pub window-asked : (w : List ℕ) → w ≡ upto (windowAt p b) 144 → every 144 (λ k. sampleOrMark depth (getD w k 0)) ≡ widenedTaken p depth b
   window-asked w e = rw e (window-taken-is p b depth (g .x-in) (g .y-in) (g .bw) (g .bh))
 
-  -- a yes bounds its entries
+  -- where it passes, the window's entries are bounded
   pub held-so : widenedTaken p depth b ≡ true → Held (upto (windowAt p b) 144)
   held-so t = window-held p b depth (g .x-in) (g .y-in) (g .bw) (g .bh) (f .flat) (window-taken-is p b depth (g .x-in) (g .y-in) (g .bw) (g .bh) ∙ t)

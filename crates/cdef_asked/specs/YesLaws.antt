@@ -1,4 +1,4 @@
--- What a yes to a test says as a bound.
+-- What a passed test says as a bound.
 use mathlib.Core.Path.{_≡_, refl}
 use mathlib.Core.Bool.{Bool, true, false, cond}
 use Prim.Native.Nat.{ℕ, _*_, _≤_, _<_}

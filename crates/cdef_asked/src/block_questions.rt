@@ -1,4 +1,4 @@
-// The questions of the calls on one block, in order: each gives the number of the first no, or 0.
+// The checks of the calls on one block, in order: each returns the error code of the first that fails, or 0.
 ghost use mathlib.Core.Path.{_≡_};
 ghost use mathlib.Core.Bool.{_&&_};
 ghost use mathlib.Core.List.{List, [], _∷_};

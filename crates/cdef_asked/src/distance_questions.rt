@@ -1,10 +1,10 @@
-// The questions of the distances.
+// The checks of the distances.
 ghost use mathlib.Core.Path.{_≡_};
 ghost use Rattle.cdef_spec.specs.BlockCalls.{distanceNo};
 use crate::block_questions;
 use crate::questions;
 
-// 1, 2, 4, 5 and 9 of an original and another plane: the number of the first no, or 0.
+// 1, 2, 4, 5 and 9 of an original and another plane: the error code of the first that fails, or 0.
 pub fn distance_no(
     orig: &[u16],
     other: &[u16],

@@ -41,7 +41,7 @@ pub fn full(plane: &[u16], width: usize, height: usize) -> bool
     plane.len() == width * height
 }
 
-// 5: a corner in the plane, whatever that holds.
+// 5: a corner in the plane, whatever the plane's contents.
 pub fn corner_taken(width: usize, height: usize, x: usize, y: usize) -> bool
     ensures { λ r. ⌜ ((s : List ℕ) → r ≡ cornerTaken (record { samples = s; width = width; height = height }) y x) ⌝ }
 {
@@ -51,7 +51,7 @@ pub fn corner_taken(width: usize, height: usize, x: usize, y: usize) -> bool
     y < height
 }
 
-// 8: a strength that is adjusted or constrained alone, up to 240.
+// 8: a strength passed to adjust or constrain, up to 240.
 pub fn strength_taken(strength: u32) -> bool
     ensures { λ r. ⌜ r ≡ strengthTaken strength ⌝ }
 {

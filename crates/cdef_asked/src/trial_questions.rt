@@ -1,4 +1,4 @@
-// The questions of the trial: the number of the first no, or 0.
+// The checks of the trial: the error code of the first that fails, or 0.
 ghost use mathlib.Core.Path.{_≡_};
 ghost use mathlib.Core.Bool.{_&&_};
 ghost use lib.Dec.{ltb};
@@ -11,7 +11,7 @@ use cdef_spec::Block;
 use cdef_spec::TrialWay;
 use cdef_spec::WorkingDamping;
 
-// 8: a variance, which only the luma way has.
+// 8: a variance, which only a luma trial has.
 fn way_taken(way: TrialWay) -> bool
     ensures { λ r. ⌜ r ≡ wayTaken way ⌝ }
 {
@@ -34,7 +34,7 @@ fn trial_taken(way: TrialWay, dir: u8, damping: WorkingDamping) -> bool
     questions::working_taken(damping)
 }
 
-// 1, 2, 4, 5, 7 and 8: the number of the first no, or 0.
+// 1, 2, 4, 5, 7 and 8: the error code of the first that fails, or 0.
 pub fn trial_no(
     out: &[u16],
     plane: &[u16],

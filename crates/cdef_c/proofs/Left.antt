@@ -1,4 +1,4 @@
--- What an entry hands back and leaves, by the call's outcome.
+-- What an entry returns and leaves, by the call's outcome.
 use mathlib.Core.Path.{_≡_, refl}
 use Prim.Native.Nat.{ℕ}
 use Rattle.cdef_spec.specs.Answers.{Result, taken, refused, numberOf}

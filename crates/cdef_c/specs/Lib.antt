@@ -1,2 +1,2 @@
--- What a C entry leaves behind `out`.
+-- What a C entry leaves in `out`.
 pub mod Values

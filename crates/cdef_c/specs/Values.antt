@@ -1,4 +1,4 @@
--- What a C entry leaves behind `out`, and how it is told a frame call's damping. Definitions only.
+-- What a C entry leaves in `out`, and how it is given a frame call's damping. Definitions only.
 use Prim.Native.Nat.{ℕ}
 use mathlib.Core.Bool.{cond}
 use lib.Dec.{eqb}
@@ -6,7 +6,7 @@ use Rattle.cdef_spec.specs.declared.DampingChoice.{DampingChoice}
 use Rattle.cdef_spec.specs.declared.DampingChoice.the-variants.{Given, FromQuality}
 use Rattle.cdef_spec.specs.Answers.{Result, taken, refused}
 
--- the value where the call is taken, else what stood there
+-- the value where the call is accepted, else the old contents
 unfoldable pub valueOr : {A : Type 0} → A → Result A → A
 valueOr old (taken a) = a
 valueOr old (refused n) = old

@@ -1,9 +1,9 @@
-// Answers without values as numbers.
+// Answers without values as error codes.
 ghost use mathlib.Core.Path.{_≡_};
 ghost use Rattle.cdef_spec.specs.Answers.{numberOf, readAnswer};
 use cdef_spec::Answer;
 
-// Document 01's number of an answer.
+// The error code of an answer (RULES, Questions), 0 where the work is done.
 pub fn number(answer: Answer) -> u32
     ensures { λ r. ⌜ r ≡ numberOf (readAnswer answer) ⌝ }
 {

@@ -7,7 +7,7 @@ ghost use Rattle.cdef_c.specs.Values.{choiceOf};
 use crate::answer;
 use crate::choice;
 
-// Applying in luma: a primary and a secondary strength a unit.
+// Applying in luma: a primary and a secondary strength per unit.
 #[no_mangle]
 pub extern "C" fn quern_apply_luma(
     dst: &mut [u16],
@@ -43,7 +43,7 @@ pub extern "C" fn quern_apply_luma(
     ))
 }
 
-// Applying in a chroma plane: a primary and a secondary strength a unit.
+// Applying in a chroma plane: a primary and a secondary strength per unit.
 #[no_mangle]
 pub extern "C" fn quern_apply_chroma(
     dst: &mut [u16],

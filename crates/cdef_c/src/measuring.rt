@@ -9,7 +9,7 @@ use crate::choice;
 use cdef_spec::UnitPair;
 use cdef_spec::Visible;
 
-// Measuring in luma: one total a unit; the scratch comes back all zero.
+// Measuring in luma: one total per unit; the scratch is returned all zero.
 #[no_mangle]
 pub extern "C" fn quern_measure_luma(
     totals: &mut [i64],
@@ -60,7 +60,7 @@ pub extern "C" fn quern_measure_luma(
     ))
 }
 
-// Measuring in a chroma plane: one total a unit; the scratch comes back all zero.
+// Measuring in a chroma plane: one total per unit; the scratch is returned all zero.
 #[no_mangle]
 pub extern "C" fn quern_measure_chroma(
     totals: &mut [i64],

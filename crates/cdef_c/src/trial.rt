@@ -1,4 +1,4 @@
-// The calls for the trial of a block, one for each way of asking; bare numbers become a block and a damping here alone.
+// The calls for the trial of a block, one for luma and one for chroma; bare numbers become a block and a damping here alone.
 ghost use mathlib.Core.Path.{_≡_};
 ghost use Rattle.cdef_spec.specs.declared.TrialWay.the-variants.{Luma, Chroma};
 ghost use Rattle.cdef_spec.specs.Answers.{numberOf};

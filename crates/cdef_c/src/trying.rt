@@ -8,7 +8,7 @@ use crate::answer;
 use crate::choice;
 use cdef_spec::Visible;
 
-// Trying in luma: twelve totals a unit.
+// Trying in luma: twelve totals per unit.
 #[no_mangle]
 pub extern "C" fn quern_try_luma(
     totals: &mut [i64],
@@ -49,7 +49,7 @@ pub extern "C" fn quern_try_luma(
     ))
 }
 
-// Trying in a chroma plane: twelve totals a unit.
+// Trying in a chroma plane: twelve totals per unit.
 #[no_mangle]
 pub extern "C" fn quern_try_chroma(
     totals: &mut [i64],

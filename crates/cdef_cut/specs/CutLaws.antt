@@ -1,4 +1,4 @@
--- Laws of the distance of the visible part of a block: it is document 01's, looks at that part only, and is below 2 ^ 53.
+-- Laws of the distance of the visible part of a block: it is that of RULES, Frame, depends on that part only, and is below 2 ^ 53.
 use mathlib.Core.Path.{_≡_, refl, sym, _∙_}
 use mathlib.Core.Bool.{Bool, true, false, cond, _&&_}
 use mathlib.Core.List.{List}
@@ -18,7 +18,7 @@ use Rattle.cdef_distance.specs.Blocks.{at, cell, blockOf, Below, Within, weight
 use Rattle.cdef_distance.specs.BlockLaws.{block-cell, squares-same, weighted-same, squares-high, weighted-64-low}
 use Rattle.cdef_cut.specs.Cut.{cutDistance}
 
--- ---- the two ways
+-- ---- the two cases
 
 module _ (c : DistanceConstants) (rows cols : ℕ) (o d : ℕ → ℕ → ℕ) where
   pub cut-whole : rows ≡ 8 → cols ≡ 8 → cutDistance true c rows cols o d ≡ weightedBy c o d
@@ -39,13 +39,13 @@ module _ (c : DistanceConstants) (rows cols : ℕ) (o d : ℕ → ℕ → ℕ) w
       go true false g = refl
       go false t g = refl
 
--- document 01's, of a luma plane and of a chroma one
+-- the distance of RULES, Frame, in a luma plane and in a chroma one
 pub cut-is : (b : Bool) (vars : List ℕ) (sx sy depth rows cols : ℕ) (o d : ℕ → ℕ → ℕ) → cutDistance b (constantsOf depth) rows cols o d ≡ distanceOf (cond b (luma vars) (chroma sx sy)) depth rows cols o d
 unfolding cutDistance distanceOf weightedBy weightedDistance
 cut-is true vars sx sy depth rows cols o d = refl
 cut-is false vars sx sy depth rows cols o d = refl
 
--- ---- it looks at the visible part only
+-- ---- it depends on the visible part only
 
 pub cut-same : (b : Bool) (c : DistanceConstants) (rows cols : ℕ) (o p d e : ℕ → ℕ → ℕ) → ((i j : ℕ) → i < rows → j < cols → o i j ≡ p i j) → ((i j : ℕ) → i < rows → j < cols → d i j ≡ e i j)
     → cutDistance b c rows cols o d ≡ cutDistance b c rows cols p e

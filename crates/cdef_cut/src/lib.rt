@@ -6,7 +6,7 @@ ghost use Rattle.cdef_distance.specs.Blocks.{at as sampleIn, Within};
 ghost use Rattle.cdef_cut.specs.Cut.{cutDistance};
 use cdef_spec::DistanceConstants;
 
-// Between rows by cols samples of an original and of another list, each at a start and with a row pitch: weighted for a whole luma block, else squares.
+// Between rows by cols samples of an original and of another list, each at a start and with a row pitch: weighted for a whole luma block, else plain squares.
 pub fn distance_cut(
     original: &[u16],
     at: usize,

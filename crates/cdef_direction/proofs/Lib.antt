@@ -1,4 +1,4 @@
--- Laws that belong to no one function.
+-- Lemmas that several proofs share.
 pub mod Less128
 pub mod Squares
 pub mod Places

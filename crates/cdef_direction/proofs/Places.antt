@@ -1,4 +1,4 @@
--- The places of a block in its plane, and what a turn of the loops reads and stores.
+-- The indices of a block's samples in its plane, and what an iteration of the loops reads and stores.
 use mathlib.Core.Path.{_≡_}
 use mathlib.Core.Bool.{true}
 use mathlib.Core.List.{List}
@@ -34,7 +34,7 @@ module _ (s : List ℕ) (w h d y x : ℕ) where
       let e : (y + i) * w + x + j ≡ (y + i) * w + (x + j) = omega arith in
       rw (r, c, e)
 
-  -- any block reads the nearest
+  -- any block reads the nearest sample of the plane
   pub edge-is : (i j k : ℕ) → k ≡ min (y + i) (h - 1) * w + min (x + j) (w - 1) → getD s k 0 ≡ edgeSample (sized s w h) (y + i) (x + j)
   unfolding edgeSample
   edge-is i j k e = rw e

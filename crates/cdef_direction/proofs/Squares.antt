@@ -1,4 +1,4 @@
--- The square of an i16, worked out as an i32.
+-- The square of an i16, computed as an i32.
 use mathlib.Core.Path.{_≡_, refl}
 use Prim.Native.Nat.{_*_, _≤_}
 use native.Mathlib.Nat.{mul-le-mul}

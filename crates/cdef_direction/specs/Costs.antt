@@ -1,4 +1,4 @@
--- The costs of line sums and the best of them, as the code takes them. Definitions only.
+-- The costs of line sums and the best of them, in the code's form. Definitions only.
 use Prim.Native.Nat.{ℕ, _+_, _-_, _%_, _≤_, _<_}
 use mathlib.Core.List.{List, [], _∷_}
 use lib.ListN.{getD}
@@ -24,7 +24,7 @@ costList p =
     ∷ costBetween (entry (p .d7))
     ∷ []
 
--- each cost is at most what 64 samples less 128 can give
+-- each cost is at most the largest that 64 samples less 128 can give
 pub record CostsFit (p : Partials) : Type 0 where
   pub all : (d : ℕ) → d < 8 → getD (costList p) d 0 ≤ 880803840
 

@@ -1,4 +1,4 @@
--- From the line sums of a block to its direction and variance: the costs are the standard's and fit, and so the best is.
+-- From the line sums of a block to its direction and variance: the costs equal the standard's and fit, and so does the best.
 use mathlib.Core.Path.{_≡_, refl, sym, ap, _∙_}
 use mathlib.Core.Bool.{cond}
 use Prim.Native.Nat.{ℕ, zero, suc, _+_, _%_, _≤_, _<_, min}
@@ -15,7 +15,7 @@ use Rattle.cdef_direction.specs.Lines.{partialsOf}
 use Rattle.cdef_direction.specs.Costs.{entry, costList, CostsFit, bestOf, foundOf}
 use Rattle.cdef_direction.specs.CostsLaws.{straight-is, diagonal-is, between-is}
 
--- ---- a cost looks at its first lines only
+-- ---- a cost reads its first lines only
 
 module _ (p r : ℕ → ℤ) (h : (n : ℕ) → n < 16 → p n ≡ r n) where
   straight-same : costStraight p ≡ costStraight r
@@ -74,7 +74,7 @@ module _ (x : ℕ → ℕ → ℤ) where
   costs-are (suc (suc (suc (suc (suc (suc (suc zero))))))) h = between-same (entry (upto (partial x 7) 16)) (partial x 7) (line-at 7)
   costs-are (suc (suc (suc (suc (suc (suc (suc (suc d)))))))) h = absurd (omega arith)
 
--- ---- the costs fit: a line sum takes samples of the block only, and each is at most 128 in size
+-- ---- the costs fit: a line sum adds samples of the block only, each of magnitude at most 128
 
 module _ (x : ℕ → ℕ → ℤ) (small : (i j : ℕ) → i < 8 → j < 8 → natAbs (x i j) ≤ 128) where
   -- the block again, bounded everywhere

@@ -1,4 +1,4 @@
--- What the direction call hands out passes question 8 later: a direction below 8, a variance up to 860,160.
+-- What the direction call returns passes question 8 later: a direction below 8, a variance up to 860,160.
 use mathlib.Core.Path.{_≡_}
 use mathlib.Core.Bool.{true}
 use Prim.Native.Nat.{ℕ, _<_}

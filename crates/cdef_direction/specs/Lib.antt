@@ -1,4 +1,4 @@
--- The code's own forms of the line sums, the costs and the samples looked at, and their laws.
+-- The code's forms of the line sums, the costs and the samples examined, and their laws.
 pub mod Lines
 pub mod LinesLaws
 pub mod Costs

@@ -13,7 +13,7 @@ use Rattle.cdef_direction.specs.declared.Partials.{Partials}
 unfoldable pub blockOf : (ℕ → ℕ → ℤ) → List ℤ
 blockOf x = upto (λ k. x (k / 8) (k % 8)) 64
 
--- a block with its rows as columns
+-- a block, transposed
 unfoldable pub turnedOf : List ℤ → List ℤ
 turnedOf b = upto (λ k. getD b (k % 8 * 8 + k / 8) (pos 0)) 64
 
@@ -24,7 +24,7 @@ padAt b i j = cond (leb 8 j && ltb j 16) (getD b (i * 8 + (j - 8)) (pos 0)) (pos
 unfoldable pub paddedOf : List ℤ → List ℤ
 paddedOf b = upto (λ k. padAt b (k / 24) (k % 24)) 192
 
--- two rows, and eight
+-- the sum of two rows, and of eight
 unfoldable pub pairAt : List ℤ → ℕ → ℕ → ℤ
 pairAt z k one = getD z k (pos 0) +ℤ getD z (k + one) (pos 0)
 

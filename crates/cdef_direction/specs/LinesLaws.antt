@@ -1,4 +1,4 @@
--- Each line that the code adds up is the standard's, for every direction.
+-- Each line sum of the code equals the standard's, for every direction.
 use mathlib.Core.Path.{_≡_, refl, sym, ap, _∙_}
 use mathlib.Core.Bool.{Bool, true, false, cond, _&&_}
 use mathlib.Core.List.{List}
@@ -16,7 +16,7 @@ use Rattle.cdef_sample.specs.Bounds.{Within}
 use Rattle.cdef_sample.specs.Upto.{upto, length-upto, getD-upto, upto-ext, upto-all-of}
 use Rattle.cdef_direction.specs.Lines.{blockOf, turnedOf, padAt, paddedOf, pairAt, lineAt, linesOf, partialsOf}
 
--- ---- shapes and sizes
+-- ---- forms and magnitudes
 
 module _ (b : List ℤ) (i j : ℕ) where
   pub pad-left : j < 8 → padAt b i j ≡ pos 0
@@ -130,7 +130,7 @@ sum-eight : (f : ℕ → ℤ) → ((f 0 +ℤ f 1) +ℤ (f 2 +ℤ f 3)) +ℤ ((f 
 unfolding sumℤ
 sum-eight f = eight (f 0) (f 1) (f 2) (f 3) (f 4) (f 5) (f 6) (f 7)
 
--- rows x whose lines are L: the row i starts at first + i / 2 * two + i % 2 * one, which is 8 - o i places before the sample that lies on line 0
+-- rows x whose lines are L: the row i starts at first + i / 2 * two + i % 2 * one, which is 8 - o i entries before the sample that lies on line 0
 module _ (x : ℕ → ℕ → ℤ) (L : ℕ → ℕ → ℕ) (o : ℕ → ℕ) (first one two : ℕ)
     (line : (i j : ℕ) → i < 8 → j < 8 → L i j + o i ≡ j + 8)
     (low : (i : ℕ) → i < 8 → o i ≤ 8)
@@ -203,7 +203,7 @@ module _ (x : ℕ → ℕ → ℤ) where
   unfolding linesOf partial lineOf
   lines-7 = upto-ext _ _ 16 (line-is x (λ i j. i / 2 + j) (λ i. 8 - i / 2) 8 24 47 (λ i j hi hj. omega arith) (λ i hi. omega arith) (λ i hi. omega arith))
 
-  -- the block turned: its row i is column i
+  -- the block transposed: its row i is column i
   turned-is : (d n : ℕ) → sumℤ 8 (λ i. sumℤ 8 (λ j. cond (eqb (lineOf d j i) n) (x j i) (pos 0))) ≡ partial x d n
   unfolding partial
   turned-is d n = sum-swap 8 8 (λ i j. cond (eqb (lineOf d j i) n) (x j i) (pos 0))
@@ -224,7 +224,7 @@ module _ (x : ℕ → ℕ → ℤ) where
   unfolding linesOf lineOf
   lines-4 = upto-ext _ _ 16 (λ n hn. line-is (λ i j. x j i) (λ i j. 7 + j - i) (λ i. 1 + i) 1 25 50 (λ i j hi hj. omega arith) (λ i hi. omega arith) (λ i hi. omega arith) n hn ∙ turned-is 4 n)
 
-  -- THE LINE SUMS that the code adds up from a block and its turned block are the standard's
+  -- THE LINE SUMS that the code adds up from a block and its transpose are the standard's
   pub partials-are : record {
     d0 = linesOf (paddedOf (blockOf x)) 8 23 46;
     d1 = linesOf (paddedOf (turnedOf (blockOf x))) 8 24 47;

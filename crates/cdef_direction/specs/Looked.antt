@@ -1,10 +1,10 @@
--- The samples that are looked at, as the code takes them together. Definitions only.
+-- The samples examined, as the code combines them. Definitions only.
 use Prim.Native.Nat.{ℕ, zero, suc, _+_, _*_}
 use mathlib.Core.List.{List}
 use lib.Bits.{bitOr}
 use lib.ListN.{getD}
 
--- the bits of n samples from `at` on, and of rows of them
+-- the bits set in any of n samples from `at` on, and in rows of them
 unfoldable pub orRow : List ℕ → ℕ → ℕ → ℕ
 orRow s at zero = 0
 orRow s at (suc n) = bitOr (orRow s at n) (getD s (at + n) 0)

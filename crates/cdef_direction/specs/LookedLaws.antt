@@ -1,4 +1,4 @@
--- The samples that are looked at are below 2 ^ depth where their bits are, and so is each sample that the direction process takes.
+-- The samples examined are below 2 ^ depth where their combined bits are, and so is each sample that the direction process reads.
 use mathlib.Core.Path.{_≡_, refl, ap, _∙_}
 use mathlib.Core.Bool.{Bool, true, false, cond, _&&_}
 use mathlib.Core.List.{List}
@@ -38,7 +38,7 @@ or-below k a b = go (decLt a (2 ^ k)) (decLt b (2 ^ k))
         let m : 2 ^ k ≤ bitOr a b = omega (arith, or-high a b .0) in
         rw (le-ltb a (2 ^ k) l) (le-ltb (bitOr a b) (2 ^ k) m)
 
--- what is left of the bits past the first k, as a test
+-- no bit is set from bit k on, as a test
 pub shifted-none : (a k : ℕ) → eqb (a / 2 ^ k) 0 ≡ ltb a (2 ^ k)
 shifted-none a k = go (decLt a (2 ^ k))
   where
@@ -96,7 +96,7 @@ less-128 a h = go (ltb a 128) refl
     go true e = omega arith
     go false e = omega arith
 
--- ---- the block cut to the plane
+-- ---- the block cropped to the plane
 
 abbrev sized : List ℕ → ℕ → ℕ → Plane
 sized s w h = record { samples = s; width = w; height = h }
@@ -114,7 +114,7 @@ module _ (s : List ℕ) (w h d y x : ℕ) (hy : y < h) (hx : x < w) where
     unfolding cutTaken lookedAt sampleTaken
     looked i j hi hj = ltb-true _ (2 ^ d) (every-at _ _ (every-at _ _ cut i hi) j hj)
 
-    -- past the right or bottom edge too: the nearest sample is looked at
+    -- past the right or bottom edge too: the nearest sample is examined
     pub edge-low : (i j : ℕ) → i < 8 → j < 8 → edgeSample (sized s w h) (y + i) (x + j) < 2 ^ d
     unfolding edgeSample
     edge-low i j hi hj =

@@ -92,7 +92,7 @@ pub fn costs(p: Partials) -> [u32; 8]
     ]
 }
 
-// The largest cost, and the lowest direction on a tie; the variance is what it has over the cost of the direction four further.
+// The largest cost, and the lowest direction on a tie; the variance is its excess over the cost of the direction four further, shifted right by 10.
 pub fn best(cost: &[u32; 8]) -> Found
     ensures { λ r. ⌜ r ≡ bestOf (now (cost .entry)) ⌝ }
 {

@@ -42,7 +42,7 @@ fn levels_inside(
     b
 }
 
-// Any block: past the right or bottom edge the nearest sample repeats.
+// Any block: beyond the right or bottom edge, the nearest sample is used.
 fn levels_edge(
     plane: &[u16],
     width: usize,

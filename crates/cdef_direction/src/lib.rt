@@ -11,7 +11,7 @@ ghost use Rattle.cdef_direction.specs.Lines.{partialsOf};
 mod costs; // costs.rt: the cost of each direction, and the best
 mod levels; // levels.rt: the samples of a block, shifted and less 128
 mod lines; // lines.rt: the line sums of a block
-pub mod looked; // looked.rt: are the samples of a block below 2^depth?
+pub mod looked; // looked.rt: whether the samples of a block are below 2^depth
 
 // The direction of a block, 0 to 7, and its variance.
 pub struct Found {
@@ -69,7 +69,7 @@ pub fn cdef_direction_cost(p: Partials) -> Found
     costs::best(&costs::costs(p))
 }
 
-// The direction and the variance of the block at (x, y); past the plane's right or bottom edge the nearest sample repeats.
+// The direction and the variance of the block at (x, y); beyond the plane's right or bottom edge, the nearest sample is used.
 pub fn cdef_direction(
     plane: &[u16],
     width: usize,

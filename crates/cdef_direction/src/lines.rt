@@ -4,7 +4,7 @@ ghost use Prim.Native.Nat.{_+_, _*_, _≤_, _<_};
 ghost use Rattle.cdef_sample.specs.Bounds.{Within};
 ghost use Rattle.cdef_direction.specs.Lines.{turnedOf, padAt, paddedOf, pairAt, lineAt, linesOf};
 
-// The block with its rows as columns.
+// The transposed block.
 pub fn turned(b: &[i16; 64]) -> [i16; 64]
     requires { ⌜ Within (now b) 128 ⌝ }
     ensures { λ r. ⌜ r ≡ turnedOf (now (b .entry)) ⌝ }
@@ -50,7 +50,7 @@ pub fn padded(b: &[i16; 64]) -> [i16; 192]
     z
 }
 
-// Two rows: one at k, the next `one` places on.
+// Two rows: one at k, the next `one` entries on.
 fn pair(z: &[i16; 192], k: usize, one: usize) -> i16
     requires { ⌜ (k + one < 192) × Within (now z) 128 ⌝ }
     ensures { λ r. ⌜ r ≡ pairAt (now (z .entry)) k one ⌝ }
@@ -59,7 +59,7 @@ fn pair(z: &[i16; 192], k: usize, one: usize) -> i16
     cdef_sample::add(z[k], z[l])
 }
 
-// Eight rows: four pairs, each `two` places on.
+// Eight rows: four pairs, each `two` entries on.
 fn line(z: &[i16; 192], k: usize, one: usize, two: usize) -> i16
     requires { ⌜ (k + 3 * two + one < 192) × Within (now z) 128 ⌝ }
     ensures { λ r. ⌜ r ≡ lineAt (now (z .entry)) k one two ⌝ }

@@ -1,4 +1,4 @@
-// Are the samples that are looked at below 2^depth?
+// Whether the samples examined are below 2^depth.
 ghost use mathlib.Core.Path.{_≡_};
 ghost use Prim.Native.Nat.{ℕ, _+_, _*_, _≤_, _<_};
 ghost use lib.ListN.{length};
@@ -29,7 +29,7 @@ fn block_bits(plane: &[u16], width: usize, y: usize, x: usize, rows: usize, cols
     bits
 }
 
-// The 8 by 8 block at (x, y), cut to the plane. A whole block is asked for by its sides as constants, so that the compiler unrolls it.
+// The 8 by 8 block at (x, y), cropped to the plane. A whole block passes its sides as constants, so that the compiler unrolls the loops.
 pub fn cut_taken(plane: &[u16], width: usize, height: usize, x: usize, y: usize, depth: u8) -> bool
     requires { ⌜ length (now plane) ≡ width * height ⌝ }
     requires { ⌜ (width ≤ 4096) × (height ≤ 4096) × (x < width) × (y < height) × (depth ≤ 12) ⌝ }

@@ -1,4 +1,4 @@
--- Laws of blocks: the 64 samples of a block are its rows and columns, and distances look at these only.
+-- Laws of blocks: the 64 samples of a block are its rows and columns, and distances depend on these only.
 use mathlib.Core.Path.{_≡_, _∙_}
 use mathlib.Core.List.{List}
 use Prim.Native.Nat.{ℕ, _+_, _-_, _*_, _/_, _%_, _^_, _≤_, _<_}
@@ -33,7 +33,7 @@ module _ (s : List ℕ) (start pitch : ℕ) where
   pub block-below : (m : ℕ) → Within s start pitch 8 8 m → Below (blockOf s start pitch) m
   block-below m w = record { each = λ k h. rw (block-at k h) (w .low (k / 8) (k % 8) (omega arith) (omega arith)) }
 
-  -- what a turn stores
+  -- what an iteration stores
   pub stored : (i j : ℕ) → j < 8 → getD s (start + i * pitch + j) 0 ≡ at s start pitch ((i * 8 + j) / 8) ((i * 8 + j) % 8)
   unfolding at
   stored i j hj =
@@ -41,7 +41,7 @@ module _ (s : List ℕ) (start pitch : ℕ) where
       let b : (i * 8 + j) % 8 ≡ j = omega arith in
       rw (a, b)
 
--- ---- distances look at rows and columns only
+-- ---- distances depend on rows and columns only
 
 pub squares-same : (rows cols : ℕ) (o p d e : ℕ → ℕ → ℕ) → ((i j : ℕ) → i < rows → j < cols → o i j ≡ p i j) → ((i j : ℕ) → i < rows → j < cols → d i j ≡ e i j) → squares rows cols o d ≡ squares rows cols p e
 unfolding squares

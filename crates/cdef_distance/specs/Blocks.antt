@@ -1,4 +1,4 @@
--- Blocks as the code takes them: samples of a list from a start, with a row pitch, and 64 samples on their own. Definitions only.
+-- Blocks in the code's form: samples of a list from a start, with a row pitch, and 64 samples on their own. Definitions only.
 use mathlib.Core.List.{List}
 use Prim.Native.Nat.{ℕ, _+_, _*_, _/_, _%_, _≤_, _<_}
 use lib.ListN.{getD, length}
@@ -28,6 +28,6 @@ pub record Within (s : List ℕ) (start pitch rows cols m : ℕ) : Type 0 where
   pub held : (i : ℕ) → i < rows → start + i * pitch + cols ≤ length s
   pub low : (i j : ℕ) → i < rows → j < cols → at s start pitch i j < m
 
--- the weighted distance with the constants at hand
+-- the weighted distance with given constants
 unfoldable pub weightedBy : DistanceConstants → (ℕ → ℕ → ℕ) → (ℕ → ℕ → ℕ) → ℕ
 weightedBy c o d = weighted c (spread o) (spread d) (squares 8 8 o d)

@@ -1,4 +1,4 @@
--- The whole part of an f64 that is not subnormal, by its bits.
+-- The integer part of an f64 that is not subnormal, by its bits.
 use mathlib.Core.Path.{_≡_, sym, ap, _∙_}
 use mathlib.Core.Logic.{inl, inr}
 use Prim.Native.Nat.{ℕ, _+_, _-_, _*_, _/_, _%_, _^_, _≤_, _<_, min}
@@ -15,7 +15,7 @@ use lib.Ieee.Nearest.{div-same}
 use Rattle.cdef_distance.specs.PatternLaws.{unitsOf, value-grows}
 use Rattle.cdef_distance.specs.NewtonLaws.{below-or-not}
 
--- ---- what a value says of a comparison and of the cut
+-- ---- what a value says of a comparison and of truncation
 pub below-value : (x : Float) (a c k : ℕ) → 0 < c → HasValue x false a c → T (lt x (fin false 1 (pos k))) → a < 2 ^ k * c
 unfolding lt
 below-value nan a c k C v h = absurd v
@@ -39,8 +39,8 @@ cut-value (fin false m e) a c C v h =
     capped : (z : ℕ) → z < 2 ^ 64 → min z (2 ^ 64 - 1) ≡ z
     capped z h = omega arith
 
--- ---- the whole part of the value that a pattern b stands for
--- the exponent's field is at most 1075, since x is below 2 ^ 53
+-- ---- the integer part of the value that a pattern b stands for
+-- the exponent field is at most 1075, since x is below 2 ^ 53
 pub field-high : (b : ℕ) → 2 ^ 52 ≤ b → unitsOf b < 2 ^ 53 * 2 ^ 1074 → b < 1076 * 2 ^ 52
 field-high b l h = elim (below-or-not b (1076 * 2 ^ 52)) [ inl u ↦ u | inr u ↦ absurd (not-le-of-lt h (value-grows (1076 * 2 ^ 52) b (lit≤ tt) u)) ]
 

@@ -153,7 +153,7 @@ finite-under a c y b d k l = elim (below-or-not (G a c) (2 ^ 2098)) [
   | inr h ↦ absurd (no-infinity (R a c) y b d (round-is binary64 false a c ∙ over (kept 53 (a * U) c) (drop 53 (a * U) c) h) k l)
 ]
 
--- ---- so what is at most such a fraction rounds to at most it, and the same of at least
+-- ---- so a value that is at most such a fraction rounds to at most it, and likewise for at least
 
 pub record AtMost (a c u d : ℕ) : Type 0 where
   pub value : HasValue (R a c) false (G a c) U

@@ -1,4 +1,4 @@
--- The code's own words for the root, the sums and the distances, and their laws.
+-- The code's definitions for the square root, the sums and the distances, and their laws.
 pub mod RootWords
 pub mod NewtonLaws
 pub mod PatternLaws

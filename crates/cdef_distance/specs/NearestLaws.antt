@@ -1,4 +1,4 @@
--- `rootOf` is the f64 nearest to the root: every other f64 is further away.
+-- `rootOf` is the f64 nearest to the square root: every other f64 is further away.
 use mathlib.Core.Path.{_≡_, refl, sym, ap, _∙_, subst}
 use mathlib.Core.Logic.{inl, inr}
 use Prim.Native.Nat.{ℕ, _+_, _-_, _*_, _/_, _%_, _^_, _≤_, _<_}
@@ -19,7 +19,7 @@ use Rattle.cdef_distance.specs.FloatLaws.{U}
 use Rattle.cdef_distance.specs.SequenceLaws.{moved-any}
 use Rattle.cdef_distance.specs.UnitLaws.{counted, cross-lt, below-of, above-of}
 
--- ---- a number of 53 digits from 2 ^ 52 * 2 ^ k up is a multiple of 2 ^ k
+-- ---- a value of 53 significant bits, at least 2 ^ 52 * 2 ^ k, is a multiple of 2 ^ k
 multiple : (n j k : ℕ) → n < 2 ^ 53 → 2 ^ 52 * 2 ^ k ≤ n * 2 ^ j → (q : ℕ) × (n * 2 ^ j ≡ q * 2 ^ k)
 multiple n j k s h = elim (below-or-not j k) [
   | inl l ↦ absurd (not-le-of-lt (low l) h)
@@ -75,7 +75,7 @@ square-above M n q K p w l =
     shape : (a b k : ℕ) → (a * k + b * k) * (a * k + b * k) ≡ (a + b) * (a + b) * (k * k)
     shape a b k = ap (λ (z : ℕ). z * z) (sym (add-mul a b k)) ∙ mul-mul-mul-comm (a + b) k (a + b) k
 
--- where n is 2 ^ 52, the root is n at least, since M is 2 ^ 104 at least: a value below n is further away whatever its distance
+-- where n is 2 ^ 52, the square root is at least n, since M is at least 2 ^ 104: a value below n is further away whatever its distance
 square-edge : (M n K Y : ℕ) → 0 < K → n * n ≤ M → Y < n * K → (n * K + Y) * (n * K + Y) < 4 * (M * (K * K))
 square-edge M n K Y p h l =
     let a = n * K + Y in
@@ -87,7 +87,7 @@ square-edge M n K Y p h l =
     let f : n * n * (K * K) ≤ M * (K * K) = mul-le-mul-right (K * K) h in
     lt-of-le-of-lt t (lt-of-lt-of-le s (le-trans (le-of-eq e) (mul-le-mul-left 4 f)))
 
--- ---- the numbers of a pattern and of its root's
+-- ---- the numbers of a pattern and of its square root's
 root-value : (F n : ℕ) → 2 ^ 52 ≤ n → n < 2 ^ 53 → unitsOf (F * 2 ^ 52 + (n - 2 ^ 52)) ≡ n * 2 ^ (F - 1)
 root-value F n l u =
     let b = F * 2 ^ 52 + (n - 2 ^ 52) in
@@ -95,7 +95,7 @@ root-value F n l u =
     let f : 2 ^ 52 + b % 2 ^ 52 ≡ n = omega arith in
     ap (λ (z : ℕ). z * 2 ^ (b / 2 ^ 52 - 1)) f ∙ ap (λ (z : ℕ). n * 2 ^ (z - 1)) e
 
--- the value of v is M times the square of the root's unit
+-- the value of v is M times the square of the square root's unit
 squared-unit : (b : ℕ) → 2 ^ 52 ≤ b → unitsOf b * U ≡ Wide b * (2 ^ ((b / 2 ^ 52 + 1023) / 2 - 1) * 2 ^ ((b / 2 ^ 52 + 1023) / 2 - 1))
 squared-unit b l =
     let E = b / 2 ^ 52 in

@@ -1,4 +1,4 @@
--- A guess at a root, and the next: from any guess above 0 the next is the root at least.
+-- A guess at a square root, and the next: from any guess above 0 the next is at least the square root.
 use mathlib.Core.Path.{_≡_, sym, subst}
 use mathlib.Core.Logic.{_⊎_, inl, inr}
 use Prim.Native.Nat.{ℕ, _+_, _-_, _*_, _/_, _%_, _≤_, _<_}
@@ -27,7 +27,7 @@ product-low x y = elim (below-or-not x y) [ inl l ↦ go x (y - x) (omega arith)
     turn : 2 * (y * x) ≤ y * y + x * x → 2 * (x * y) ≤ x * x + y * y
     turn h = let e : x * y ≡ y * x = mul-comm x y in omega arith
 
--- a product is at most the square of a number that is half the factors' sum at least
+-- a product is at most the square of a number that is at least half the factors' sum
 under-square : (a b s : ℕ) → a + b ≤ 2 * s → a * b ≤ s * s
 under-square a b s h =
     let m : (a + b) * (a + b) ≤ 2 * s * (2 * s) = mul-le-mul h h in

@@ -17,7 +17,7 @@ use Rattle.cdef_spec.specs.Root.{leastNormal}
 use Rattle.cdef_distance.specs.RootWords.{normal}
 use Rattle.cdef_distance.specs.NewtonLaws.{below-or-not}
 
--- the 53 digits of a pattern, moved up by its exponent's field less 1
+-- the 53-bit significand of a pattern, shifted left by its exponent field less 1
 abbrev pub unitsOf : ℕ → ℕ
 unitsOf b = (2 ^ 52 + b % 2 ^ 52) * 2 ^ (b / 2 ^ 52 - 1)
 

@@ -1,4 +1,4 @@
--- From blocks to planes: the block at a corner, cut to the plane, and the distances that document 01 asks of it.
+-- From blocks to planes: the block at a corner, cropped to the plane, and its distances (RULES, Distance).
 use mathlib.Core.Path.{_≡_, refl, ap, _∙_}
 use mathlib.Core.Bool.{Bool, true, false, _&&_}
 use mathlib.Core.Logic.{inl, inr}
@@ -42,7 +42,7 @@ module _ (s : List ℕ) (w h depth y x : ℕ) (full : length s ≡ w * h) (hx : 
   unfolding cutTaken lookedAt sampleTaken
   looked i j hi hj = ltb-true _ (2 ^ depth) (every-at _ _ (every-at _ _ cut i (omega arith)) j (omega arith))
 
-  -- the block cut to the plane
+  -- the block cropped to the plane
   pub cut-within : Within s (y * w + x) w (min 8 (h - y)) (min 8 (w - x)) (2 ^ depth)
   cut-within = record {
     held = λ i hi. row-held w h (length s) y x i (min 8 (w - x)) full (omega arith) (omega arith);

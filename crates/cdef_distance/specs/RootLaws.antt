@@ -1,4 +1,4 @@
--- `nearestWhole` is the one whole number nearest to the root, and `rootBits` the pattern of a number that is not subnormal.
+-- `nearestWhole` is the one whole number nearest to the square root, and `rootBits` the pattern of a number that is not subnormal.
 use mathlib.Core.Path.{_≡_, refl, sym, ap, _∙_, subst}
 use mathlib.Core.Logic.{inl, inr}
 use Prim.Native.Nat.{ℕ, zero, suc, _+_, _-_, _*_, _/_, _%_, _^_, _≤_, _<_}
@@ -66,7 +66,7 @@ nearest-whole M p h =
             none x y = omega arith
         strict (suc r) g l = omega arith
 
--- a root from P up, of a number that is P² - P at most. (`omega` stops at numbers of more than 38 digits, so P is a variable.)
+-- a square root of at least P, of a number that is at most P² - P. (`omega` stops at numbers of more than 38 digits, so P is a variable.)
 many : (P M n : ℕ) → 0 < P → P ≤ n → M + P ≤ P * P → n * n < M + n → ⊥
 many P M n pp h m a =
     let d = n - P in
@@ -76,7 +76,7 @@ many P M n pp h m a =
     let u : 1 * d ≤ P * d = mul-le-mul-right d pp in
     omega arith
 
--- ---- the root of a number of 105 or 106 bits, as `rootBits` has it, has 53
+-- ---- the square root of a number of 105 or 106 bits, as `rootBits` has it, has 53
 pub root-range : (M n : ℕ) → 2 ^ 104 ≤ M → M + 2 ^ 53 ≤ 2 ^ 106 → NearestWhole M n → (2 ^ 52 ≤ n) × (n < 2 ^ 53)
 root-range M n lo hi p = (
   elim (below-or-not n (2 ^ 52)) [ inl l ↦ absurd (few l) | inr h ↦ h ],
@@ -89,7 +89,7 @@ root-range M n lo hi p = (
         let b : M ≤ n * n + n = p .below in
         omega arith
 
--- ---- the two places that the digits are moved to
+-- ---- the two shifts of the significand
 pub moved-even : (m x : ℕ) → x % 2 ≡ 0 → m * 2 * 2 ^ 52 ≡ m * 2 ^ (52 + (x + 1) % 2)
 moved-even m x e =
     let o : (x + 1) % 2 ≡ 1 = omega arith in
@@ -103,7 +103,7 @@ moved-odd m x e =
 abbrev pub Wide : ℕ → ℕ
 Wide b = (2 ^ 52 + b % 2 ^ 52) * 2 ^ (52 + (b / 2 ^ 52 + 1) % 2)
 
--- h is b's digits, moved up by one place where the exponent's field is even
+-- h is b's significand, shifted left by one where the exponent field is even
 pub record Moved (b h : ℕ) : Type 0 where
   pub low : 2 ^ 52 ≤ h
   pub high : h + 2 ≤ 2 ^ 54
@@ -115,14 +115,14 @@ even-case b h e q = record { low = omega arith; high = omega arith; wide = ap (�
 pub odd-case : (b h : ℕ) → (b / 2 ^ 52 % 2 ≡ 0 → ⊥) → h ≡ 2 ^ 52 + b % 2 ^ 52 → Moved b h
 odd-case b h e q = record { low = omega arith; high = omega arith; wide = ap (λ (z : ℕ). z * 2 ^ 52) q ∙ moved-odd (2 ^ 52 + b % 2 ^ 52) (b / 2 ^ 52) e }
 
--- so its moved number is in the range of `root-range`
+-- so its shifted number is in the range of `root-range`
 pub wide-low : (h : ℕ) → 2 ^ 52 ≤ h → 2 ^ 104 ≤ h * 2 ^ 52
 wide-low h l = mul-le-mul-right (2 ^ 52) l
 
 pub wide-high : (h : ℕ) → h + 2 ≤ 2 ^ 54 → h * 2 ^ 52 + 2 ^ 53 ≤ 2 ^ 106
 wide-high h l = le-trans (le-of-eq (sym (add-mul h 2 (2 ^ 52)))) (mul-le-mul-right (2 ^ 52) l)
 
--- what the root of h is
+-- what the square root of h is
 pub found-range : (b h n : ℕ) → Moved b h → NearestWhole (h * 2 ^ 52) n → (2 ^ 52 ≤ n) × (n < 2 ^ 53)
 found-range b h n m p = root-range (h * 2 ^ 52) n (wide-low h (m .low)) (wide-high h (m .high)) p
 

@@ -1,4 +1,4 @@
--- Words of the root's contracts. Definitions only.
+-- Terms of the square root's contracts. Definitions only.
 use Prim.Native.Nat.{ℕ, _+_, _*_, _≤_, _<_}
 use mathlib.Core.Bool.{Bool, false, _&&_}
 use lib.IntN.{pos}
@@ -9,11 +9,11 @@ use Rattle.cdef_spec.specs.Root.{leastNormal}
 abbrev pub normal : Float → Bool
 normal v = le leastNormal v && lt v (inf false)
 
--- 2 ^ 53, up to which an f64 has every whole number
+-- 2 ^ 53, up to which every whole number is an f64
 abbrev pub two53 : Float
 two53 = fin false 1 (pos 53)
 
--- n is the whole number nearest to the root of M: n - 1/2 < √M < n + 1/2, that is (2 n - 1)² < 4 M < (2 n + 1)², with the 4 divided out. No whole M lies at a tie
+-- n is the whole number nearest to the square root of M: n - 1/2 < √M < n + 1/2, that is (2 n - 1)² < 4 M < (2 n + 1)², with the 4 divided out. No whole M lies at a tie
 pub record NearestWhole (M n : ℕ) : Type 0 where
   pub above : n * n < M + n
   pub below : M ≤ n * n + n

@@ -1,4 +1,4 @@
--- The values in the weighted distance's sequence of operations: each is finite, and within bounds that make the root and the cut defined.
+-- The values in the weighted distance's sequence of operations: each is finite, and within bounds that make the square root and the truncation defined.
 use mathlib.Core.Path.{_≡_, refl, sym, ap, _∙_, subst}
 use mathlib.Core.Logic.{inl, inr}
 use Prim.Native.Nat.{ℕ, _+_, _-_, _*_, _/_, _%_, _^_, _≤_, _<_}
@@ -40,7 +40,7 @@ below-inf nan a c v = absurd v
 below-inf (inf s) a c v = absurd v
 below-inf (fin s m e) a c v = tt
 
--- from a half up
+-- at least 0.5
 pub normal-of : (x : Float) (n : ℕ) → HasValue x false n U → U ≤ n * 2 → T (normal x)
 normal-of x n v h =
     and-i (le leastNormal x) (lt x (inf false))
@@ -84,7 +84,7 @@ within x a c u C h l e =
     let g = high a c u C h l in
     record { num = G a c; value = subst (λ (z : Float). HasValue z false (G a c) U) (sym e) (g .value); most-u = le-trans (le-of-eq (sym (mul-one (G a c)))) (g .high) }
 
--- ---- the root of a value from 20000 up is at least 128
+-- ---- the square root of a value that is at least 20000 is at least 128
 pub moved-any : (b : ℕ) → (h : ℕ) × Moved b h
 moved-any b = elim (below-or-not (b / 2 ^ 52 % 2) 1) [
   | inl l ↦ ((2 ^ 52 + b % 2 ^ 52) * 2, even-case b ((2 ^ 52 + b % 2 ^ 52) * 2) (zeroed (b / 2 ^ 52 % 2) l) refl)
@@ -97,7 +97,7 @@ moved-any b = elim (below-or-not (b / 2 ^ 52 % 2) 1) [
     clash : (r : ℕ) → r ≡ 0 → 1 ≤ r → ⊥
     clash r z g = omega arith
 
--- the digits of the root, in 53 places
+-- the square root's significand, of 53 bits
 pub record Rooted (b n : ℕ) : Type 0 where
   pub is-bits : (b / 2 ^ 52 + 1023) / 2 * 2 ^ 52 + (n - 2 ^ 52) ≡ rootBits b
   pub n-low : 2 ^ 52 ≤ n
@@ -218,7 +218,7 @@ module _ (C1 C2 a b e : ℕ) (c1 c2 : Float) (h1 : HasValue c1 false C1 1) (h2 :
   abbrev pub X : Float
   X = add binary64 half (mul binary64 (whole e) W)
 
-  -- what is cut, in units of 2 ^ -1074: from a half up, and below 2 ^ 53
+  -- the value that is truncated, in units of 2 ^ -1074: at least 0.5, and below 2 ^ 53
   pub record CutValue : Type 0 where
     pub num : ℕ
     pub value : HasValue X false num U

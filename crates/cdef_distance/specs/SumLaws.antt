@@ -1,4 +1,4 @@
--- Sums: of 64 samples row by row, of squares and products (Cauchy and Schwarz among them), and what the weighted distance asks of them.
+-- Sums: of 64 samples row by row, of squares and products (the Cauchy-Schwarz inequality among them), and what the weighted distance requires of them.
 use mathlib.Core.Path.{_≡_, refl, ap, _∙_}
 use mathlib.Core.Logic.{inl, inr}
 use Prim.Native.Nat.{ℕ, zero, suc, _+_, _-_, _*_, _^_, _≤_, _<_, min, max}

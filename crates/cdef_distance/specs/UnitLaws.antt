@@ -25,7 +25,7 @@ units (negsuc a) h =
     let l : suc a ≤ 1074 = pow-back (suc a) 1074 h in
     (1074 - suc a, λ n. ap (λ (z : ℕ). z * U) (mul-one n) ∙ ap (λ (z : ℕ). n * z) (ap (λ (z : ℕ). 2 ^ z) (sym (sub-add-cancel l)) ∙ pow-add 2 (1074 - suc a) (suc a)) ∙ sym (mul-assoc n (2 ^ (1074 - suc a)) (2 ^ suc a)))
 
--- Y units, which is n * 2 ^ j for an n of 53 digits at most
+-- Y units, which is n * 2 ^ j for an n of at most 53 bits
 pub record Counted (y : Float) : Type 0 where
   pub n : ℕ
   pub j : ℕ

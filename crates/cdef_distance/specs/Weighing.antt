@@ -1,11 +1,11 @@
--- Words of the weighted distance's contracts. Definitions only.
+-- Terms of the weighted distance's contracts. Definitions only.
 use mathlib.Core.Path.{_≡_}
 use Prim.Native.Nat.{ℕ, _+_, _-_, _*_, _≤_}
 use Rattle.cdef_spec.specs.declared.DistanceConstants.{DistanceConstants}
 use Rattle.cdef_spec.specs.Words.{_>>_}
 use Rattle.cdef_spec.specs.Distance.{constantsOf, squaresLimit}
 
--- the constants are those of a depth that question 1 takes
+-- the constants are those of a depth that passes question 1
 pub record OfDepth (c : DistanceConstants) (depth : ℕ) : Type 0 where
   pub deep : 8 ≤ depth
   pub flat : depth ≤ 12
@@ -15,7 +15,7 @@ pub record OfDepth (c : DistanceConstants) (depth : ℕ) : Type 0 where
 abbrev pub most : ℕ
 most = 1073217600
 
--- s2 - ((s * s + 32) >> 6), as `spread` takes it of a block
+-- s2 - ((s * s + 32) >> 6), as `spread` computes it for a block
 unfoldable pub spreadOf : ℕ → ℕ → ℕ
 spreadOf s2 s = s2 - ((s * s + 32) >> 6)
 

@@ -1,4 +1,4 @@
--- The constants and the limit of a depth, as the laws of the sequence ask them; 0.5; and the weighted distance stays below 2 ^ 53.
+-- The constants and the limit of a depth, as the laws of the sequence require them; 0.5; and the weighted distance stays below 2 ^ 53.
 use mathlib.Core.Path.{_≡_, refl, sym, subst}
 use mathlib.Core.Bool.{false}
 use Prim.Native.Nat.{ℕ, _-_, _*_, _/_, _^_, _≤_, _<_}
@@ -60,7 +60,7 @@ limit-most depth h =
     let x : 2 ^ depth - 1 ≤ 4095 = omega arith in
     mul-le-mul-left 64 (mul-le-mul x x)
 
--- the code has a literal by its bits
+-- the code writes the literal by its bits
 pub half-is : ofBits binary64 0x3fe0_0000_0000_0000 ≡ half
 unfolding ofBits
 half-is = refl

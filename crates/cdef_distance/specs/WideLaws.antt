@@ -1,4 +1,4 @@
--- From t, the whole root of h, to the whole number nearest to the root of h * B², with B = 2 ^ 26 (Zimmermann's root by halves).
+-- From t, the integer square root of h, to the whole number nearest to the square root of h * B², with B = 2 ^ 26 (Zimmermann's square root by halves).
 use mathlib.Core.Path.{_≡_, refl, ap, _∙_}
 use Prim.Native.Nat.{ℕ, _+_, _-_, _*_, _/_, _%_, _^_, _≤_, _<_}
 use native.Mathlib.Nat.{lt-of-not-le, not-le-of-lt, add-comm, add-assoc, add-left-comm, mul-comm, mul-assoc, mul-left-comm, mul-add, add-mul, mul-le-mul, mul-le-mul-right, div-add-mod', mod-lt, div-lt-iff-lt-mul}
@@ -9,7 +9,7 @@ use Rattle.cdef_distance.specs.RootWords.{NearestWhole}
 pub lt-of-squares : (a b : ℕ) → a * a < b * b → a < b
 lt-of-squares a b h = lt-of-not-le (λ (g : b ≤ a). not-le-of-lt h (mul-le-mul g g))
 
--- the root of a number of 53 or 54 bits has 27
+-- the square root of a number of 53 or 54 bits has 27
 pub top-range : (h t : ℕ) → 2 ^ 52 ≤ h → h < 2 ^ 54 → t * t ≤ h → h < (t + 1) * (t + 1) → (2 ^ 26 ≤ t) × (t < 2 ^ 27)
 top-range h t lo hi a b =
     let x : 2 ^ 26 < t + 1 = lt-of-squares (2 ^ 26) (t + 1) (omega arith) in

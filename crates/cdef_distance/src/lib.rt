@@ -1,4 +1,4 @@
-// The distance of two 8 by 8 blocks: plain squares, and the weighted distance.
+// The distance of two 8 by 8 blocks: plain squares, that is the sum of squared differences (SSE), and the weighted distance.
 ghost use mathlib.Core.Path.{_≡_};
 ghost use mathlib.Core.Bool.{true};
 ghost use Prim.Native.Nat.{ℕ, _+_, _*_, _^_, _≤_, _<_};
@@ -10,7 +10,7 @@ ghost use Rattle.cdef_distance.specs.Weighing.{OfDepth};
 ghost use Rattle.cdef_distance.specs.Blocks.{cell, Below, weightedBy};
 use cdef_spec::DistanceConstants;
 
-pub mod root; // root.rt: the root and the cut of an f64
+pub mod root; // root.rt: the square root and the truncation of an f64
 pub mod sums; // sums.rt: sums over blocks
 pub mod weight; // weight.rt: the weighted distance from sums
 
@@ -27,7 +27,7 @@ pub fn block_distance(a: &[u16; 64], b: &[u16; 64], c: DistanceConstants) -> u64
     weight::cdef_dist_from_sums(ss, sd, ss2, sd2, ssd, c)
 }
 
-// The squared differences of the 8 by 8 blocks at (x, y), cut to the plane.
+// The sum of squared differences of the 8 by 8 blocks at (x, y), cropped to the plane.
 pub fn block_sse_8x8(
     orig: &[u16],
     other: &[u16],
@@ -52,7 +52,7 @@ pub fn block_sse_8x8(
     sums::block_squares(&a, &b) as u64
 }
 
-// The weighted distance of the 8 by 8 blocks at (x, y); past the plane's right or bottom edge, plain squares.
+// The weighted distance of the 8 by 8 blocks at (x, y); plain squares where they cross the plane's right or bottom edge.
 pub fn cdef_dist_8x8(
     orig: &[u16],
     other: &[u16],

@@ -1,4 +1,4 @@
-// The root of an f64, worked out in whole numbers, and the cut of an f64 to a whole number.
+// The square root of an f64, computed in whole numbers, and the truncation of an f64 to a whole number.
 ghost use mathlib.Core.Path.{_≡_};
 ghost use Prim.Native.Nat.{_+_, _*_, _^_, _<_, _≤_};
 ghost use lib.Dec.{T};
@@ -6,7 +6,7 @@ ghost use lib.Ieee as Ieee;
 ghost use Rattle.cdef_spec.specs.Root.{rootOf, IsNearestRoot};
 ghost use Rattle.cdef_distance.specs.RootWords.{NearestWhole, normal, two53};
 
-// A guess at the root of h, within one part in 190: with x for h / 2^52, 2^26 times
+// A guess at the square root of h, within one part in 190: with x for h / 2^52, 2^26 times
 // 0.51855 + 0.52601 x - 0.03954 x². Only its range is promised.
 fn first_guess(h: u64) -> u64
     requires { ⌜ (2 ^ 52 ≤ h) × (h < 2 ^ 54) ⌝ }
@@ -16,7 +16,7 @@ fn first_guess(h: u64) -> u64
     34799610 + t * 34473 / 0x4000 - t * t / 0x10_0000 * 2591 / 0x4_0000
 }
 
-// The whole root of h, by guesses from above, which settle where the next is no smaller.
+// The integer square root of h, by guesses from above, which settle where the next is no smaller.
 fn whole_root(h: u64) -> u64
     requires { ⌜ (2 ^ 52 ≤ h) × (h < 2 ^ 54) ⌝ }
     ensures { λ r. ⌜ (r * r ≤ h) × (h < (r + 1) * (r + 1)) ⌝ }
@@ -33,7 +33,7 @@ fn whole_root(h: u64) -> u64
     root
 }
 
-// The whole number nearest to the root of h * 2^52: the root of h, then 26 bits more by one division.
+// The whole number nearest to the square root of h * 2^52: the square root of h, then 26 bits more by one division.
 fn wide_root(h: u64) -> u64
     requires { ⌜ (2 ^ 52 ≤ h) × (h < 2 ^ 54) ⌝ }
     ensures { λ r. ⌜ NearestWhole (h * 2 ^ 52) r ⌝ }
@@ -47,8 +47,8 @@ fn wide_root(h: u64) -> u64
     if q * q + s < u * 0x400_0000 { s + 1 } else { s }
 }
 
-// The f64 nearest to the root of v, by v's bits: the 53 digits, moved up by one place where the exponent's
-// field is even, the root of them moved up by 52 places, and half the exponent.
+// The f64 nearest to the square root of v, by v's bits: the 53-bit significand, shifted left by one where the exponent
+// field is even, the square root of that shifted left by 52, and half the exponent.
 pub fn root(v: f64) -> f64
     requires { ⌜ T (normal v) ⌝ }
     ensures { λ r. ⌜ (r ≡ rootOf v) × IsNearestRoot v r ⌝ }
@@ -61,7 +61,7 @@ pub fn root(v: f64) -> f64
     f64::from_bits((field + 1023) / 2 * 0x10_0000_0000_0000 + (n - 0x10_0000_0000_0000))
 }
 
-// x cut to a whole number, by its bits: the digits, moved down by as many places as the exponent says.
+// x truncated to a whole number, by its bits: the significand, shifted right as far as the exponent says.
 pub fn cut(x: f64) -> u64
     requires { ⌜ (T (normal x)) × (T (Ieee.lt x two53)) ⌝ }
     ensures { λ r. ⌜ r ≡ Ieee.toUnsigned 64 x ⌝ }

@@ -34,7 +34,7 @@ pub fn total(a: &[u16; 64]) -> u32
     t
 }
 
-// The sum of the products of 64 samples and 64 others. The remainders change nothing; by them the compiler sees that each number is small.
+// The sum of the products of 64 samples and 64 others. The remainders change nothing; from them the compiler sees that each number is small.
 pub fn products(a: &[u16; 64], b: &[u16; 64]) -> u32
     requires { ⌜ Below (now a) 4096 × Below (now b) 4096 ⌝ }
     ensures { λ r. ⌜ r ≡ sum 64 (λ k. getD (now (a .entry)) k 0 * getD (now (b .entry)) k 0) ⌝ }
@@ -56,7 +56,7 @@ fn squared_difference(a: u16, b: u16) -> u32
     w * w
 }
 
-// The squared differences of 64 samples and 64 others.
+// The sum of squared differences of 64 samples and 64 others.
 pub fn block_squares(a: &[u16; 64], b: &[u16; 64]) -> u32
     requires { ⌜ Below (now a) 4096 × Below (now b) 4096 ⌝ }
     ensures { λ r. ⌜ r ≡ sum 64 (λ k. squaredDifference (getD (now (a .entry)) k 0) (getD (now (b .entry)) k 0)) ⌝ }
@@ -68,7 +68,7 @@ pub fn block_squares(a: &[u16; 64], b: &[u16; 64]) -> u32
     t
 }
 
-// The squared differences of n samples and n others.
+// The sum of squared differences of n samples and n others.
 fn row_squares(o: &[u16], from: usize, d: &[u16], to: usize, n: usize) -> u32
     requires { ⌜ (from + n ≤ length (now o)) × (to + n ≤ length (now d)) × (n ≤ 8) ⌝ }
     requires { ⌜ ((j : ℕ) → j < n → (getD (now o) (from + j) 0 < 4096) × (getD (now d) (to + j) 0 < 4096)) ⌝ }
@@ -81,7 +81,7 @@ fn row_squares(o: &[u16], from: usize, d: &[u16], to: usize, n: usize) -> u32
     t
 }
 
-// The squared differences of two blocks, each at a start and with a row pitch of its own.
+// The sum of squared differences of two blocks, each at a start and with a row pitch of its own.
 pub fn squares(
     o: &[u16],
     from: usize,

@@ -1,4 +1,4 @@
-// The weighted distance from sums, each operation on f64 rounded once, in document 01's order.
+// The weighted distance from sums, each f64 operation rounded once, in the order of RULES, Distance.
 ghost use mathlib.Core.Path.{_≡_};
 ghost use Prim.Native.Nat.{ℕ, _+_, _-_, _*_, _≤_};
 ghost use Rattle.cdef_spec.specs.Distance.{constantsOf, weight as weightOf, weighted as weightedOf, squaresLimit};
@@ -20,7 +20,7 @@ pub fn constants_of(depth: u8) -> DistanceConstants
     }
 }
 
-// (0.5 * (a + b + c1)) / root(c2 + a * b).
+// (0.5 * (a + b + c1)) / sqrt(c2 + a * b).
 pub fn weight(a: u64, b: u64, c: DistanceConstants) -> f64
     requires { ⌜ ((depth : ℕ) × OfDepth c depth × (a ≤ squaresLimit depth) × (b ≤ squaresLimit depth)) ⌝ }
     ensures { λ r. ⌜ r ≡ weightOf c a b ⌝ }
@@ -30,7 +30,7 @@ pub fn weight(a: u64, b: u64, c: DistanceConstants) -> f64
     0.5 * (fa + fb + c.c1) / root::root(c.c2 + fa * fb)
 }
 
-// 0.5 + e * weight, cut to a whole number.
+// 0.5 + e * weight, truncated to a whole number.
 pub fn weighted(a: u64, b: u64, e: u64, c: DistanceConstants) -> u64
     requires { ⌜ ((depth : ℕ) × OfDepth c depth × (a ≤ squaresLimit depth) × (b ≤ squaresLimit depth) × (e ≤ squaresLimit depth)) ⌝ }
     ensures { λ r. ⌜ r ≡ weightedOf c a b e ⌝ }

@@ -9,11 +9,11 @@ use Rattle.cdef_rows.specs.declared.Taps.{Taps}
 use Rattle.cdef_rows.specs.declared.Strength.{Strength}
 use Rattle.cdef_kernel.specs.Kernel.{tapsOf, priOf, secOf, kernelAt}
 
--- a row of eight samples, at column x on
+-- a row of eight samples, from column x on
 unfoldable pub rowTap : List ℕ → ℕ → ℕ → ℕ → Tap
 rowTap row x r c = unmarked (getD row (c - x) 0)
 
--- the kernel's samples of a window, at row y and column x on
+-- the kernel's samples of a window, from row y and column x on
 unfoldable pub windowTap : List ℕ → Taps → Strength → Strength → ℕ → ℕ → ℕ → ℕ → Tap
 windowTap w t f g y x r c = unmarked (kernelAt w ((r - y + 2) * 12 + 2 + (c - x)) t f g)
 
@@ -21,7 +21,7 @@ windowTap w t f g y x r c = unmarked (kernelAt w ((r - y + 2) * 12 + 2 + (c - x)
 unfoldable pub blockTap : List ℕ → FilterParams → ℕ → ℕ → ℕ → ℕ → Tap
 blockTap w q y x = windowTap w (tapsOf (q .dir)) (priOf (q .pri) (max 1 (q .damping .0)) (q .depth)) (secOf (q .sec) (max 1 (q .damping .0))) y x
 
--- what the filter takes (question 8, and depths 8 to 12)
+-- the parameters that the filter accepts (question 8, and depths 8 to 12)
 pub record Usable (q : FilterParams) : Type 0 where
   pub pri : q .pri ≤ 240
   pub sec : q .sec ≤ 240

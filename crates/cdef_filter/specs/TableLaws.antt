@@ -1,4 +1,4 @@
--- The block that is stored row by row is the reader's table: every place of the destination.
+-- The block that is stored row by row equals the definition's table: every sample of the destination.
 use mathlib.Core.Path.{_≡_, refl, sym, ap, _∙_}
 use mathlib.Core.Bool.{Bool, true, false, cond, _&&_}
 use mathlib.Core.List.{List}
@@ -70,7 +70,7 @@ module _ (p : Plane) (b : Block) (q : FilterParams) (y0 : ℕ) (d : List ℕ) (h
       ∙ at-place (k / p .width) (k % p .width) (mod-lt k w) (omega arith) (leb (b .y) (y0 + k / p .width)) (ltb (y0 + k / p .width) (b .y + b .height)) (leb (b .x) (k % p .width)) (ltb (k % p .width) (b .x + b .width)) refl refl refl refl
       ∙ rw e
 
-  -- the destination, place by place
+  -- the destination, sample by sample
   pub block-table : putBlock d (p .width) (λ r c. filtered p q (y0 + r) c) (b .y - y0) (b .x) (min (b .width) (p .width - b .x)) (min (b .height) (p .height - b .y)) ≡ table (length d) (filteredPlace p b q y0 d)
   unfolding stored
   block-table =

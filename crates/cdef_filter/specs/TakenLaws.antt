@@ -1,4 +1,4 @@
--- Question 9 by the window: each entry is a sample of the depth or the mark exactly where each sample looked at is.
+-- Question 9 by the window: each entry is a sample of the depth or the mark exactly where each examined sample is.
 use mathlib.Core.Path.{_≡_, refl, sym, ap, subst, _∙_}
 use mathlib.Core.Bool.{Bool, true, false, cond, _&&_, _||_}
 use mathlib.Core.List.{List}
@@ -35,7 +35,7 @@ mark-taken depth = go (ltb 16384 (2 ^ depth))
     go true = refl
     go false = refl
 
--- a row or column looked at, counted in the window
+-- an examined row or column, counted in the window
 entry-low : (at n m i : ℕ) → n ≤ 8 → i < min (at + n + 2) m - (at - 2) → at - 2 + i + 2 - at < 12
 entry-low at n m i hn hi = let k : i < at + n + 2 - (at - 2) = omega arith in go at n i hn k
   where
@@ -60,7 +60,7 @@ taken-low depth hd v t = by (ltb v (2 ^ depth)) refl t
     by false f t = omega (arith, eqb-true v mark t)
 
 module _ (p : Plane) (b : Block) (depth : ℕ) (hx : b .x < p .width) (hy : b .y < p .height) (hw : b .width ≤ 8) (hh : b .height ≤ 8) where
-  -- the rows and columns looked at
+  -- the examined rows and columns
   abbrev r0 : ℕ
   r0 = b .y - 2
 
@@ -73,7 +73,7 @@ module _ (p : Plane) (b : Block) (depth : ℕ) (hx : b .x < p .width) (hy : b .y
   abbrev c1 : ℕ
   c1 = min (b .x + b .width + 2) (p .width)
 
-  -- the sample at row r and column c stands in the window
+  -- the sample at row r and column c is in the window
   in-window : (r c : ℕ) → r0 ≤ r → r < r1 → c0 ≤ c → c < c1 → windowAt p b ((r + 2 - b .y) * 12 + (c + 2 - b .x)) ≡ getD (p .samples) (r * p .width + c) 0
   in-window r c a d e f =
       let i : b .y + (r + 2 - b .y) ≡ r + 2 = omega arith in
@@ -91,7 +91,7 @@ module _ (p : Plane) (b : Block) (depth : ℕ) (hx : b .x < p .width) (hy : b .y
       let g : sampleOrMark depth (getD (upto (windowAt p b) 144) k 0) ≡ true = every-at 144 (λ k. sampleOrMark depth (getD (upto (windowAt p b) 144) k 0)) e k h in
       rw (← in-window (r0 + i) (c0 + j) (le-add r0 i) (under r1 r0 i hi) (le-add c0 j) (under c1 c0 j hj), ← getD-upto (windowAt p b) 144 k 0 h) g))
 
-  -- an entry is the mark, or a sample looked at
+  -- an entry is the mark, or an examined sample
   entry-taken : widenedTaken p depth b ≡ true → (i j : ℕ) → j < 12 → sampleOrMark depth (windowAt p b (i * 12 + j)) ≡ true
   unfolding widenedTaken lookedAt
   entry-taken e i j hj = go (decLt i (b .height + 4)) (decLt j (b .width + 4)) (decLe 2 (b .y + i)) (decLt (b .y + i) (p .height + 2)) (decLe 2 (b .x + j)) (decLt (b .x + j) (p .width + 2))

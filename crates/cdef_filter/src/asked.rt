@@ -1,4 +1,4 @@
-// What the block filter's own questions are made of.
+// The tests of the questions that only the block filter checks.
 ghost use mathlib.Core.Path.{_≡_};
 ghost use mathlib.Core.List.{List};
 ghost use Prim.Native.Nat.{ℕ, _≤_, _<_};

@@ -1,5 +1,5 @@
 // The block filter: a block of a plane filtered into rows of a destination.
-pub mod asked; // asked.rt: the questions of the block filter alone
+pub mod asked; // asked.rt: the checks of the block filter alone
 
 ghost use mathlib.Core.Path.{_≡_};
 ghost use Prim.Native.Nat.{ℕ, _+_, _-_, _*_, _≤_, _<_, min};
@@ -18,7 +18,7 @@ use cdef_rows::Taps;
 use cdef_spec::Block;
 use cdef_spec::FilterParams;
 
-// What a place holds after v is stored: the mark is never written.
+// The value of a sample after v is stored: the mark is never written.
 fn keep(old: u16, v: u16) -> u16
     ensures { λ r. ⌜ r ≡ orElse old (unmarked v) ⌝ }
 {

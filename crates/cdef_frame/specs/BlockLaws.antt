@@ -1,4 +1,4 @@
--- A block of a lent plane: where it lies, and what it and its window hold.
+-- A block of a plane: where it lies, and what it and its window hold.
 use mathlib.Core.Path.{_≡_, refl, _∙_}
 use mathlib.Core.Bool.{Bool, true, false, cond, _&&_}
 use mathlib.Core.List.{List}
@@ -50,14 +50,14 @@ module _ (f : Frame) (h : Shaped f) (s d vs : List ℕ) where
     pub rows-in : by * blockHeight (pictureOf f s d vs) + blockHeight (pictureOf f s d vs) ≤ planeHeight (pictureOf f s d vs)
     rows-in = rw (tiles f h s d vs .high) (unfold pictureOf in omega (arith, mul-le-mul-right (blockHeight (pictureOf f s d vs)) hy))
 
-    -- its number, and the counts that loops run to
+    -- its index, and the counts that loops run to
     pub number-low : by * (f .width / 8) + bx < blocksOf f
     number-low = digits-lt {q = by} {m = f .height / 8} {r = bx} {c = f .width / 8} hy hx
 
     pub counts-low : (by ≤ 512) × (bx ≤ 512)
     counts-low = (omega (arith, side-facts (f .height) (h .high) .1, hy), omega (arith, side-facts (f .width) (h .wide) .1, hx))
 
-    -- as the window and the filter ask it
+    -- as the window and the filter require it
     pub block-in : (l : List ℕ) → Sampled f l → InPlane l (planeWidth (pictureOf f s d vs)) (planeHeight (pictureOf f s d vs)) (blockOf (pictureOf f s d vs) by bx)
     unfolding blockOf
     block-in l g = record {

@@ -1,4 +1,4 @@
--- What the cores of the frame calls are handed, as a picture of Picture. Definitions only.
+-- What the cores of the frame calls receive, as a picture of Picture. Definitions only.
 use mathlib.Core.Path.{_≡_}
 use mathlib.Core.Bool.{true, cond}
 use mathlib.Core.List.{List}
@@ -16,14 +16,14 @@ use Rattle.cdef_spec.specs.Picture.{PlaneKind, luma, chroma, Picture, blockWidt
 use Rattle.cdef_spec.specs.Questions.{lumaSideTaken}
 use Rattle.cdef_frame.specs.declared.Frame.{Frame}
 
--- luma with its variances, or chroma with its halving flags
+-- luma with its variances, or chroma with its subsampling flags
 unfoldable pub kindOf : Frame → List ℕ → PlaneKind
 kindOf f vars = cond (f .luma) (luma vars) (chroma (f .sx) (f .sy))
 
 unfoldable pub pictureOf : Frame → List ℕ → List ℕ → List ℕ → Picture
 pictureOf f skip dirs vars = record { kind = kindOf f vars; depth = f .depth; width = f .width; height = f .height; skip = skip; dirs = dirs }
 
--- what questions 1, 2 and 3 take; a luma plane is not halved
+-- what passes questions 1, 2 and 3; a luma plane is not subsampled
 pub record Shaped (f : Frame) : Type 0 where
   pub deep : 8 ≤ f .depth
   pub flat : f .depth ≤ 12
@@ -37,7 +37,7 @@ pub record Shaped (f : Frame) : Type 0 where
 unfoldable pub blockOf : Picture → ℕ → ℕ → Block
 blockOf q by bx = record { x = bx * blockWidth q; y = by * blockHeight q; width = blockWidth q; height = blockHeight q }
 
--- how block b is tried: the way of asking, its direction in the plane, the working damping
+-- how block b is tried: the kind of trial, its direction in the plane, the working damping
 unfoldable pub wayOf : PlaneKind → ℕ → TrialWay
 wayOf (luma vars) b = Luma (getD vars b 0)
 wayOf (chroma sx sy) b = Chroma

@@ -28,7 +28,7 @@ side-facts n e =
     let s = and-both (leb 1 n) (leb n 4096) (b .0) in
     (leb-true 1 n (s .0), leb-true n 4096 (s .1), eqb-true (n % 8) 0 (b .1))
 
--- halved by a flag
+-- subsampled by a flag
 pub shifted : (n s : ℕ) → s < 2 → n >> s ≡ n / (1 + s)
 shifted n zero h = omega arith
 shifted n (suc zero) h = omega arith
@@ -40,7 +40,7 @@ rounded n (suc zero) h = omega arith
 rounded n (suc (suc s)) h = absurd (omega arith)
 
 module _ (f : Frame) (h : Shaped f) (vars : List ℕ) where
-  -- the halving flags
+  -- the subsampling flags
   pub sub-x : subX (kindOf f vars) ≡ f .sx
   unfolding kindOf subX
   sub-x = go (f .luma) (λ e. h .whole e .0)
@@ -57,7 +57,7 @@ module _ (f : Frame) (h : Shaped f) (vars : List ℕ) where
       go true e = sym (e refl)
       go false e = refl
 
--- what does not hang on the lists
+-- what does not depend on the lists
 module _ (f : Frame) (h : Shaped f) (s d vs : List ℕ) where
   pub width-is : planeWidth (pictureOf f s d vs) ≡ f .width / (1 + f .sx)
   unfolding planeWidth pictureOf
@@ -104,14 +104,14 @@ pub kind-chroma : (f : Frame) (vs : List ℕ) → f .luma ≡ false → kindOf f
 unfolding kindOf
 kind-chroma f vs e = rw e
 
--- what a block is filtered with, part by part
+-- a block's filter parameters, part by part
 pub params-are : (k : PlaneKind) (depth : ℕ) (dirs : List ℕ) (d : SignalledDamping) (p : UnitPair) (b : ℕ)
     → paramsFor k depth dirs d p b ≡ record { pri = primaryOf k depth b (p .primary); sec = p .secondary << (depth - 8); dir = cond (eqb (p .primary) 0) 0 (dirOf k dirs b); damping = dampingOf k d depth; depth = depth }
 unfolding paramsFor primaryOf dirOf dampingOf lumaParams chromaParams
 params-are (luma vars) depth dirs d p b = refl
 params-are (chroma sx sy) depth dirs d p b = refl
 
--- a block is tried with what its pair has
+-- a block is tried with its pair's parameters
 pub tried-with : (k : PlaneKind) (depth : ℕ) (dirs : List ℕ) (d : SignalledDamping) (t b : ℕ) → trialParams (wayOf k b) depth (dirOf k dirs b) (dampingOf k d depth) t ≡ paramsFor k depth dirs d (trialPair t) b
 unfolding wayOf dirOf dampingOf
 tried-with (luma vars) depth dirs d t b = trial-luma vars depth dirs d t b

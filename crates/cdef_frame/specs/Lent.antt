@@ -1,4 +1,4 @@
--- What the cores require of the lists that they are lent. Definitions only.
+-- What the cores require of the lists passed to them. Definitions only.
 use mathlib.Core.Path.{_≡_}
 use mathlib.Core.Bool.{true}
 use mathlib.Core.List.{List}
@@ -8,7 +8,7 @@ use Rattle.cdef_spec.specs.declared.SignalledDamping.{SignalledDamping}
 use Rattle.cdef_spec.specs.declared.Visible.{Visible}
 use Rattle.cdef_frame.specs.declared.Frame.{Frame}
 
--- how many blocks, units and samples
+-- the numbers of blocks, units and samples
 abbrev pub blocksOf : Frame → ℕ
 blocksOf f = f .height / 8 * (f .width / 8)
 
@@ -18,7 +18,7 @@ unitsOf f = (f .height + 63) / 64 * ((f .width + 63) / 64)
 abbrev pub samplesOf : Frame → ℕ
 samplesOf f = f .width / (1 + f .sx) * (f .height / (1 + f .sy))
 
--- a flag, a direction and, in luma, a variance a block
+-- per block a flag, a direction and, in luma, a variance
 pub record Listed (f : Frame) (skip dirs vars : List ℕ) : Type 0 where
   pub skip-long : length skip ≡ blocksOf f
   pub dirs-long : length dirs ≡ blocksOf f
@@ -40,7 +40,7 @@ pub record InForce (d : SignalledDamping) : Type 0 where
   pub least : 3 ≤ d .0
   pub most : d .0 ≤ 6
 
--- a primary and a secondary a unit
+-- a primary and a secondary strength per unit
 pub record Paired (f : Frame) (pris secs : List ℕ) : Type 0 where
   pub pris-long : length pris ≡ unitsOf f
   pub secs-long : length secs ≡ unitsOf f

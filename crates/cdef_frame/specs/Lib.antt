@@ -1,4 +1,4 @@
--- A plane of a picture, as the cores are handed it.
+-- A plane of a picture, as the cores receive it.
 pub mod Frame
 -- What the cores require.
 pub mod Lent

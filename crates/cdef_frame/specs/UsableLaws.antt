@@ -1,4 +1,4 @@
--- The filter takes what a pair gives.
+-- The filter accepts the parameters of every pair.
 use mathlib.Core.Path.{refl}
 use mathlib.Core.Bool.{Bool, true, false, cond, _&&_}
 use mathlib.Core.List.{List, []}
@@ -18,7 +18,7 @@ use Rattle.cdef_kernel.specs.ShapeLaws.{limit-low, adjust-low}
 use Rattle.cdef_filter.specs.Store.{Usable}
 use Rattle.cdef_frame.specs.Lent.{InForce}
 
--- a direction stays one
+-- a mapped direction is below 8
 mapped-low : (i : ℕ) → i < 8 → getD (getD (getD Cdef-Uv-Dir 1 []) 0 []) i 0 < 8
 unfolding Cdef-Uv-Dir every
 mapped-low i h = ltb-true _ 8 (every-at 8 (λ k. ltb (getD (getD (getD Cdef-Uv-Dir 1 []) 0 []) k 0) 8) refl i h)

@@ -9,7 +9,7 @@ use crate::Frame;
 use cdef_spec::Block;
 use cdef_spec::Visible;
 
-// A visible side of n luma samples in a plane's own samples, rounded up on halving.
+// A visible side of n luma samples in a plane's own samples, rounded up when subsampled.
 fn visible_side(n: usize, flag: u8) -> usize
     requires { ⌜ (n ≤ 4096) × (flag < 2) ⌝ }
     ensures { λ r. ⌜ (r ≡ (n + flag) / (1 + flag)) ⌝ }
@@ -35,7 +35,7 @@ pub fn visible_cols(f: Frame, v: Visible) -> usize
     visible_side(v.width, f.sx)
 }
 
-// A side of a block: 8, or 4 where it is halved.
+// A side of a block: 8, or 4 where it is subsampled.
 fn block_side(flag: u8) -> usize
     requires { ⌜ flag < 2 ⌝ }
     ensures { λ r. ⌜ (r ≡ 8 / (1 + flag)) × (r ≤ 8) ⌝ }
@@ -58,7 +58,7 @@ pub fn block_of(f: Frame, by: usize, bx: usize) -> Block
     }
 }
 
-// The number of a block's unit.
+// The index of a block's unit.
 pub fn unit_at(f: Frame, by: usize, bx: usize) -> usize
     requires { ⌜ Shaped f × (by ≤ 512) × (bx ≤ 512) ⌝ }
     ensures { λ r. ⌜ ((s d vs : List ℕ) → r ≡ unitAt (pictureOf f s d vs) by bx) ⌝ }
@@ -66,7 +66,7 @@ pub fn unit_at(f: Frame, by: usize, bx: usize) -> usize
     by / 8 * ((f.width + 63) / 64) + bx / 8
 }
 
-// Does a block count: not skipped, and begun inside the visible part?
+// Whether a block counts: it is not skipped and begins inside the visible part.
 pub fn counted(f: Frame, v: Visible, skip: &[u8], by: usize, bx: usize) -> bool
     requires { ⌜ Shaped f × (v .width ≤ 4096) × (v .height ≤ 4096) × (by ≤ 512) × (bx ≤ 512) × (by * (f .width / 8) + bx < length (now skip)) ⌝ }
     ensures { λ r. ⌜ ((d vs : List ℕ) → r ≡ countedIn (pictureOf f (now (skip .entry)) d vs) v by bx) ⌝ }

@@ -1,9 +1,9 @@
-// What the cores of the frame calls share: the geometry of a plane and what its blocks are filtered with.
-// The cores ask nothing and take the figure in force.
+// What the cores of the frame calls share: the geometry of a plane and its blocks' filter parameters.
+// The cores validate nothing and are given the figure in force.
 pub mod geometry; // geometry.rt: blocks, units, the visible part
-pub mod params; // params.rt: what a block is filtered with
+pub mod params; // params.rt: a block's filter parameters
 
-// A plane of a picture: luma, or chroma with its halving flags (both 0 in luma); the depth and luma's sides.
+// A plane of a picture: luma, or chroma with its subsampling flags (both 0 in luma); the depth and luma's sides.
 pub struct Frame {
     pub luma: bool,
     pub sx: u8,

@@ -1,4 +1,4 @@
-// What a block is filtered with. b is the block's number.
+// A block's filter parameters. b is the block's index.
 ghost use mathlib.Core.Path.{_≡_};
 ghost use mathlib.Core.Bool.{true, cond};
 ghost use mathlib.Core.List.{List};
@@ -36,7 +36,7 @@ pub fn dir_of(f: Frame, dirs: &[u8], b: usize) -> u8
     cdef_leaf::tables::chroma_direction(f.sx, f.sy, dirs[b])
 }
 
-// The way of asking for the block's trial.
+// The kind of the block's trial.
 pub fn way_of(f: Frame, vars: &[u32], b: usize) -> TrialWay
     requires { ⌜ (f .luma ≡ true → b < length (now vars)) ⌝ }
     ensures { λ r. ⌜ r ≡ wayOf (kindOf f (now (vars .entry))) b ⌝ }
@@ -70,7 +70,7 @@ fn dir_for(f: Frame, dirs: &[u8], b: usize, s: u8) -> u8
     dir_of(f, dirs, b)
 }
 
-// What block b is filtered with, for a pair.
+// The filter parameters of block b, for a pair.
 pub fn params_for(
     f: Frame,
     dirs: &[u8],
@@ -92,7 +92,7 @@ pub fn params_for(
     }
 }
 
-// Is it the pair 0, 0?
+// Whether it is the pair 0, 0.
 pub fn is_off(p: UnitPair) -> bool
     ensures { λ r. ⌜ r ≡ isOff p ⌝ }
 {

@@ -1,4 +1,4 @@
--- What a yes to all questions of a frame call leaves: what its core requires. Definitions only.
+-- What follows where all checks of a frame call pass: what its core requires. Definitions only.
 use mathlib.Core.Path.{_≡_}
 use mathlib.Core.List.{List}
 use Prim.Native.Nat.{ℕ, _*_, _/_, _%_, _^_, _≤_, _<_}

@@ -1,4 +1,4 @@
--- What a yes to all leaves as facts.
+-- What follows, as facts, where all checks pass.
 pub mod Facts
 pub mod YesLaws
 pub mod PassLaws

@@ -1,4 +1,4 @@
--- The direction pass: its questions by the parts that the code asks them in, and what a yes to all leaves.
+-- The direction pass: its questions by the parts that the code checks them in, and what follows where all pass.
 use mathlib.Core.Path.{_≡_, sym, _∙_}
 use mathlib.Core.Bool.{true, false, _&&_}
 use mathlib.Core.List.{List, [], _∷_}

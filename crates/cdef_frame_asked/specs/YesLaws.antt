@@ -1,4 +1,4 @@
--- A yes to all questions of a frame call leaves what its core requires.
+-- Where all checks of a frame call pass, what its core requires holds.
 use mathlib.Core.Path.{_≡_, refl, _∙_}
 use mathlib.Core.Bool.{Bool, true, false, cond, _&&_, _||_}
 use mathlib.Core.List.{List, [], _∷_}

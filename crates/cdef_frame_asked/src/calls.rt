@@ -1,4 +1,4 @@
-// The questions of each frame call, in order: the number of the first no, or 0.
+// The checks of each frame call, in order: the error code of the first that fails, or 0.
 ghost use mathlib.Core.Path.{_≡_};
 ghost use mathlib.Core.Bool.{true, _&&_};
 ghost use mathlib.Core.List.{List};
@@ -44,7 +44,7 @@ pub fn direction_pass_no(
     0
 }
 
-// Trying, 7: twelve totals a unit, and the visible size.
+// Trying, 7: twelve totals per unit, and the visible size.
 fn trying_listed(f: Frame, v: Visible, totals: &[i64]) -> bool
     requires { ⌜ Shaped f ⌝ }
     ensures { λ r. ⌜ ((s d vs : List ℕ) → r ≡ eqb (length (now (totals .entry))) (12 * units (pictureOf f s d vs)) && visibleTaken (pictureOf f s d vs) v) ⌝ }
@@ -55,7 +55,7 @@ fn trying_listed(f: Frame, v: Visible, totals: &[i64]) -> bool
     cdef_frame_picture::visible_taken(f, v)
 }
 
-// Trying, the questions of two planes.
+// Trying, the checks of two planes.
 pub fn trying_no(
     f: Frame,
     damping: DampingChoice,
@@ -83,7 +83,7 @@ pub fn trying_no(
     cdef_frame_picture::planes_no(snapshot, original, f.depth)
 }
 
-// Measuring, 7: a total a unit, the scratch, and the visible size.
+// Measuring, 7: one total per unit, the scratch, and the visible size.
 fn measuring_listed(f: Frame, v: Visible, totals: &[i64], scratch: &[u16]) -> bool
     requires { ⌜ Shaped f ⌝ }
     ensures { λ r. ⌜ ((s d vs : List ℕ) → r ≡ (eqb (length (now (totals .entry))) (units (pictureOf f s d vs)) && eqb (length (now (scratch .entry))) (scratchLength (pictureOf f s d vs))) && visibleTaken (pictureOf f s d vs) v) ⌝ }
@@ -98,7 +98,7 @@ fn measuring_listed(f: Frame, v: Visible, totals: &[i64], scratch: &[u16]) -> bo
     cdef_frame_picture::visible_taken(f, v)
 }
 
-// Measuring, the questions of two planes and one pair.
+// Measuring, the checks of two planes and one pair.
 pub fn measuring_no(
     f: Frame,
     damping: DampingChoice,
@@ -129,7 +129,7 @@ pub fn measuring_no(
     cdef_frame_picture::planes_no(plane, original, f.depth)
 }
 
-// Applying, 7: a primary and a secondary a unit.
+// Applying, 7: a primary and a secondary strength per unit.
 fn applying_listed(f: Frame, pris: &[u8], secs: &[u8]) -> bool
     requires { ⌜ Shaped f ⌝ }
     ensures { λ r. ⌜ ((s d vs : List ℕ) → r ≡ eqb (length (now (pris .entry))) (units (pictureOf f s d vs)) && eqb (length (now (secs .entry))) (units (pictureOf f s d vs))) ⌝ }
@@ -151,7 +151,7 @@ fn applying_taken(pris: &[u8], secs: &[u8]) -> bool
     cdef_frame_lists::all_secondary(secs)
 }
 
-// Applying: the destination's length is asked, its contents are not looked at.
+// Applying: the destination's length is checked, its contents are not examined.
 pub fn applying_no(
     f: Frame,
     damping: DampingChoice,

@@ -1,2 +1,2 @@
-// Document 01's questions as the frame calls ask them. All is examined before anything is written.
-pub mod calls; // calls.rt: the number of the first no of each call
+// RULES, Questions, as the frame calls check them. All input is examined before anything is written.
+pub mod calls; // calls.rt: the error code of each call's first failed check

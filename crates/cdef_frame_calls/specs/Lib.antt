@@ -1,2 +1,2 @@
--- What a frame call leaves, from the number of its first no.
+-- What a frame call leaves, from the error code of its first failed check.
 pub mod OutcomeLaws

@@ -1,4 +1,4 @@
--- What a frame call leaves, from the number of its first no.
+-- What a frame call leaves, from the error code of its first failed check.
 use mathlib.Core.Path.{_≡_, refl}
 use mathlib.Core.List.{List}
 use Prim.Native.Nat.{ℕ, _*_, _/_, _%_}

@@ -1,4 +1,4 @@
-// The frame calls for luma and chroma at once: the questions, then the core. Each gives the number of the first no, or 0 where the work is done.
+// The frame calls for luma and chroma at once: the checks, then the core. Each returns the error code of the first failed check, or 0 where the work is done.
 ghost use mathlib.Core.Path.{_≡_};
 ghost use mathlib.Core.Bool.{true};
 ghost use Rattle.cdef_spec.specs.FrameCalls.{tryingNo, tryingOutcome, measuringNo, measuringOutcome, applyingListsNo, applyingListsOutcome};
@@ -8,7 +8,7 @@ use cdef_spec::DampingChoice;
 use cdef_spec::UnitPair;
 use cdef_spec::Visible;
 
-// Trying: twelve totals a unit.
+// Trying: twelve totals per unit.
 pub fn try_frame(
     totals: &mut [i64],
     snapshot: &[u16],
@@ -43,7 +43,7 @@ pub fn try_frame(
     0
 }
 
-// Measuring: one total a unit; the scratch comes back all zero.
+// Measuring: one total per unit; the scratch is returned all zero.
 pub fn measure_frame(
     totals: &mut [i64],
     scratch: &mut [u16],

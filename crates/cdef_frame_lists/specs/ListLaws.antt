@@ -1,4 +1,4 @@
--- Laws of the tests on whole lists, as a loop asks them entry by entry.
+-- Laws of the tests on whole lists, as a loop checks them entry by entry.
 use mathlib.Core.Path.{_≡_, refl, sym, _∙_}
 use mathlib.Core.Bool.{Bool, true, false, _&&_}
 use mathlib.Core.List.{List, [], _∷_}
@@ -29,13 +29,13 @@ every-front zero f = and-one (f 0)
 every-front (suc n) f = rw (every-front n f) (and-assoc (f 0) (every n (λ k. f (suc k))) (f (suc n)))
 
 module _ (f : ℕ → Bool) where
-  -- every entry passes, by the places
+  -- every entry passes, by its index
   pub all-every : (l : List ℕ) → every (length l) (λ k. f (getD l k 0)) ≡ allTaken f l
   unfolding every allTaken
   all-every [] = refl
   all-every (x ∷ xs) = every-front (length xs) (λ k. f (getD (x ∷ xs) k 0)) ∙ rw (all-every xs)
 
-  -- none asked yet, one more, and a no at k
+  -- none checked yet, one more, and a failure at k
   pub every-none : every 0 f ≡ true
   unfolding every
   every-none = refl

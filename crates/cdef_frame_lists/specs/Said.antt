@@ -1,9 +1,9 @@
--- What the questions' functions say of their tests.
+-- What the results of the check functions say of their tests.
 use mathlib.Core.Path.{_≡_, sym, _∙_}
 use mathlib.Core.Bool.{Bool, true, false, not}
 use borrow.Author.Tests.{not-true, not-false}
 
--- `if !said` taken is a no, left a yes
+-- where `if !said` is entered the test failed, where it is not the test passed
 pub no-so : {said test : Bool} → said ≡ test → not said ≡ true → test ≡ false
 no-so {said} e h = sym e ∙ not-true said h
 

@@ -26,7 +26,7 @@ pub fn all_below_u32(list: &[u32], m: u32) -> bool
     true
 }
 
-// 9: every sample is below 2^depth. The bits of all samples are taken together and tested once.
+// 9: every sample is below 2^depth. The bits of all samples are combined and tested once.
 pub fn samples_below(list: &[u16], depth: u8) -> bool
     requires { ⌜ depth ≤ 12 ⌝ }
     ensures { λ r. ⌜ r ≡ allBelow (2 ^ depth) (now (list .entry)) ⌝ }
@@ -60,7 +60,7 @@ pub fn secondary_taken(n: u8) -> bool
     n == 4
 }
 
-// 8: every secondary strength is taken.
+// 8: every secondary strength is 0, 1, 2 or 4.
 pub fn all_secondary(list: &[u8]) -> bool
     ensures { λ r. ⌜ r ≡ allTaken secondaryTaken (now (list .entry)) ⌝ }
 {

@@ -1,3 +1,3 @@
--- The questions in the parts that the code asks them in, and their laws.
+-- The questions in the parts that the code checks them in, and their laws.
 pub mod Parts
 pub mod PartLaws

@@ -1,4 +1,4 @@
--- What the parts say: a no of a part is the call's, past a yes the next part is asked.
+-- What the parts say: a part's error code is the call's; where a part passes, the next one is checked.
 use mathlib.Core.Path.{_≡_, sym, _∙_}
 use mathlib.Core.Bool.{Bool}
 use mathlib.Core.List.{List, [], _∷_, _++_}
@@ -38,7 +38,7 @@ module _ (depth width height : ℕ) (rest : List Question) where
   pub sides-passed : firstNo (sidesFirst depth width height) ≡ 0 → firstNo (sidesFirst depth width height ++ rest) ≡ firstNo rest
   sides-passed = part-passed (sidesFirst depth width height) rest sides-numbered
 
--- the call's own answers put in
+-- with the results of the call's own tests put in
 pub lent-as : (q : Picture) (planes : List (List ℕ)) {d e : SignalledDamping} {a b x y : Bool} (n : ℕ) → n ≡ firstNo (lentFirst q d planes a x) → d ≡ e → a ≡ b → x ≡ y → n ≡ firstNo (lentFirst q e planes b y)
 lent-as q planes n h p r s = rw (p, r, s) at h
 

@@ -1,4 +1,4 @@
-// The questions that the frame calls share. 1, 2 and 3 come first; what follows them requires a yes to these.
+// The checks that the frame calls share. 1, 2 and 3 come first; what follows them requires that these passed.
 ghost use mathlib.Core.Path.{_≡_};
 ghost use mathlib.Core.Bool.{true};
 ghost use mathlib.Core.List.{List, [], _∷_};
@@ -46,7 +46,7 @@ pub fn sides_no(depth: u8, width: usize, height: usize) -> u8
     0
 }
 
-// 3: the halving flags of chroma.
+// 3: the subsampling flags of chroma.
 fn flags_taken(f: Frame) -> bool
     ensures { λ r. ⌜ ((vs : List ℕ) → r ≡ flagsTaken (kindOf f vs)) ⌝ }
 {
@@ -73,7 +73,7 @@ pub fn shape_no(f: Frame) -> u8
     0
 }
 
-// 4: a plane holds exactly its own sides' product of samples.
+// 4: a plane holds exactly as many samples as its own sides multiply to.
 fn full(f: Frame, plane: &[u16]) -> bool
     requires { ⌜ Shaped f ⌝ }
     ensures { λ r. ⌜ ((s d vs : List ℕ) → r ≡ eqb (length (now (plane .entry))) (planeWidth (pictureOf f s d vs) * planeHeight (pictureOf f s d vs))) ⌝ }
@@ -81,7 +81,7 @@ fn full(f: Frame, plane: &[u16]) -> bool
     plane.len() == cdef_frame::geometry::plane_width(f) * cdef_frame::geometry::plane_height(f)
 }
 
-// 7: a flag, a direction and, in luma, a variance a block.
+// 7: per block a flag, a direction and, in luma, a variance.
 fn picture_listed(f: Frame, skip: &[u8], dirs: &[u8], vars: &[u32]) -> bool
     requires { ⌜ Shaped f ⌝ }
     ensures { λ r. ⌜ r ≡ pictureListed (pictureOf f (now (skip .entry)) (now (dirs .entry)) (now (vars .entry))) ⌝ }
@@ -99,7 +99,7 @@ fn picture_listed(f: Frame, skip: &[u8], dirs: &[u8], vars: &[u32]) -> bool
     true
 }
 
-// 7: how many units, for the lists that have an entry a unit.
+// 7: the number of units, for the lists that have one entry per unit.
 pub fn units(f: Frame) -> usize
     requires { ⌜ Shaped f ⌝ }
     ensures { λ r. ⌜ ((s d vs : List ℕ) → r ≡ unitsIn (pictureOf f s d vs)) × (r ≤ 4096) ⌝ }
@@ -159,7 +159,7 @@ pub fn pair_taken(p: UnitPair) -> bool
     cdef_frame_lists::secondary_taken(p.secondary)
 }
 
-// 4, 7 and 8 of two planes; own and vals: the answers of a call's own parts of 7 and 8.
+// 4, 7 and 8 of two planes; own and vals: the results of a call's own parts of 7 and 8.
 pub fn lent_no(
     f: Frame,
     d: SignalledDamping,

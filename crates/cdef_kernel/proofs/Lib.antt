@@ -1,2 +1,2 @@
--- Laws that belong to no one function.
+-- Lemmas that several proofs share.
 pub mod Shapes

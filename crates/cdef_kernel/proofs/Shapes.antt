@@ -1,4 +1,4 @@
--- The kernel's row by the strengths that are 0. Assumes nothing.
+-- The kernel's row, by which strengths are 0. Assumes nothing.
 use mathlib.Core.Path.{_≡_, refl, sym, ap, _∙_}
 use mathlib.Core.List.{List}
 use Prim.Native.Nat.{ℕ, _+_, _≤_, _<_}

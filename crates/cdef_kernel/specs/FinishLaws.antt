@@ -1,4 +1,4 @@
--- The finish of a sample: the code's holding between two bounds is the standard's clip, its rounding the standard's.
+-- The last step of a sample: the code's bounds equal the standard's clip, and its rounding the standard's.
 use mathlib.Core.Path.{_≡_, refl, sym, ap, _∙_}
 use mathlib.Core.Bool.{Bool, true, false, cond}
 use mathlib.Core.List.{List, [], _∷_}
@@ -48,7 +48,7 @@ pub finish-is : (c : ℕ) (z : ℤ) (lo hi : ℕ) → (c ≡ 16384 → ⊥) → 
 finish-is c z lo hi n h =
     finish-on c z lo hi n ∙ ap mag (held-nat (movedOf c z) lo hi) ∙ held-clip (movedOf c z) lo hi h ∙ ap (Clip3 lo hi) (moved-is c z)
 
--- a moved sample that is a number needs no holding
+-- where the centre plus the rounded sum is a natural number, no bound is needed
 pub free-is : (c : ℕ) (z : ℤ) (v : ℕ) → (c ≡ 16384 → ⊥) → pos v ≡ pos c +ℤ rounded z → freeOf c z ≡ v
 unfolding overOf
 free-is c z v n e = free-on c z n ∙ rw (moved-is c z, ← e) (rw (le-ltb v 0 (omega arith)))

@@ -1,4 +1,4 @@
--- The kernel as the code has it: offsets of the taps in a window of pitch 12, strengths with their shifts, and a sample of the window filtered. Definitions only.
+-- The kernel in the code's form: offsets of the taps in a window of pitch 12, strengths with their shifts, and a sample of the window filtered. Definitions only.
 use mathlib.Core.Bool.{cond}
 use mathlib.Core.List.{List}
 use Prim.Native.Nat.{ℕ, _+_, _-_, _*_, _/_, _%_, _^_, min}
@@ -29,7 +29,7 @@ tapsOf dir = record {
   r1 = offAt ((dir + 6) % 8) 1;
 }
 
--- the shift of a strength s at damping d, held to 15: no difference of samples is 2 ^ 15
+-- the shift of a strength s at damping d, capped at 15: no difference of samples is 2 ^ 15
 unfoldable pub shiftOf : ℕ → ℕ → ℕ
 shiftOf s d = min (d - FloorLog2 s) 15
 
@@ -40,7 +40,7 @@ priOf s d depth = record { s = s; sh = shiftOf s d; w0 = 4 - s / 2 ^ (depth - 8)
 unfoldable pub secOf : ℕ → ℕ → Strength
 secOf s d = record { s = s; sh = shiftOf s d; w0 = 2; w1 = 1 }
 
--- the sample at place k of the window, filtered: with a strength 0 its taps are passed over, and nothing is clipped
+-- the sample at index k of the window, filtered: the taps of a strength 0 are left out, and nothing is then clipped
 unfoldable pub kernelAt : List ℕ → ℕ → Taps → Strength → Strength → ℕ
 kernelAt w k t f g =
     cond (eqb (f .s) 0)

@@ -37,7 +37,7 @@ module _ (p : Plane) (b : Block) (q : FilterParams) (i j : ℕ) (hh : b .height 
   win : List ℕ
   win = upto (windowAt p b) 144
 
-  -- its place in the window, and in the plane
+  -- its index in the window, and in the plane
   abbrev at : ℕ
   at = (i + 2) * 12 + 2 + j
 

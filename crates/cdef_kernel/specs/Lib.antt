@@ -1,4 +1,4 @@
--- The kernel: what a row is filtered with, and the filtered sample of the window.
+-- The kernel: the parameters of a filtered row, and the filtered sample of the window.
 pub mod Kernel
 -- Laws: the kernel's sample is the filtered sample of the plane.
 pub mod ScaleLaws

@@ -1,4 +1,4 @@
--- A wrapped offset, added to a place of the window or taken from it, lands on the entry that holds the plane's sample at the intended row and column, or the mark where that is off the plane.
+-- A wrapped offset, added to an index of the window or subtracted from it, gives the entry with the plane's sample at the intended row and column, or the mark where that is off the plane.
 use mathlib.Core.Path.{_≡_, _∙_}
 use mathlib.Core.Logic.{_⊎_, inl, inr}
 use Prim.Native.Nat.{ℕ, _+_, _-_, _*_, _%_, _^_, _≤_, _<_}
@@ -89,7 +89,7 @@ module _ (p : Plane) (b : Block) (i j : ℕ) (hh : b .height ≤ 8) (hw : b .wid
       let e : (i + 2) * 12 + 2 + j ≡ (i + 2) * 12 + (j + 2) = omega arith in
       rw e (entry-is 2 2 (omega arith) (omega arith))
 
-  -- the tap on, and the opposite one
+  -- the tap forward, and the opposite one
   module _ (dir k c : ℕ) (hd : dir < 8) (hk : k < 2) where
     pub on-tap : tapOn (upto (windowAt p b) 144) ((i + 2) * 12 + 2 + j) (offAt dir k) c ≡ orCentre (sampleAt p (b .y + i + rowOf dir k) (b .x + j + colOf dir k)) c
     unfolding tapOn offAt

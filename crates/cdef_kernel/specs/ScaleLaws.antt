@@ -18,7 +18,7 @@ scale-add (suc k) a b =
     ∙ add-cross (pos k *ℤ a) (pos k *ℤ b) a b
     ∙ sym (ap (λ (z : ℤ). z +ℤ pos (suc k) *ℤ b) (sucℤ-*ℤ (pos k) a) ∙ ap (λ (z : ℤ). (pos k *ℤ a +ℤ a) +ℤ z) (sucℤ-*ℤ (pos k) b))
 
--- four in a row, the last of them nothing more
+-- four in a row, and a 0 after them
 pub four : (a b c d : ℤ) → a +ℤ (b +ℤ (c +ℤ (d +ℤ pos 0))) ≡ (a +ℤ b) +ℤ (c +ℤ d)
 four a b c d = ap (λ (z : ℤ). a +ℤ (b +ℤ (c +ℤ z))) (+ℤ-idr d) ∙ sym (+ℤ-assoc a b (c +ℤ d))
 

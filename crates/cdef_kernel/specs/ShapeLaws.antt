@@ -1,4 +1,4 @@
--- Shapes of the sums, and ranges of strengths and samples.
+-- Forms of the sums, and ranges of strengths and samples.
 use mathlib.Core.Path.{_≡_, refl, sym}
 use mathlib.Core.Bool.{Bool, true, false, cond}
 use mathlib.Core.List.{[]}
@@ -16,7 +16,7 @@ use Rattle.cdef_rows.specs.Sums.{InRange}
 use Rattle.cdef_kernel.specs.Kernel.{shiftOf, priOf, secOf}
 use Rattle.cdef_kernel.specs.ScaleLaws.{scale-add, four, eight}
 
--- the sums' two shapes
+-- the sums' two forms
 pub pri-shape : (v w : ℕ) (a b c d : ℤ) → pos v *ℤ (a +ℤ b) +ℤ pos w *ℤ (c +ℤ d) ≡ pos v *ℤ a +ℤ (pos v *ℤ b +ℤ (pos w *ℤ c +ℤ (pos w *ℤ d +ℤ pos 0)))
 pri-shape v w a b c d = rw (scale-add v a b, scale-add w c d) (sym (four (pos v *ℤ a) (pos v *ℤ b) (pos w *ℤ c) (pos w *ℤ d)))
 

@@ -59,10 +59,10 @@ module _ (c : ℕ) (hc : c ≤ 16384) (n : c ≡ 16384 → ⊥) where
   lowest-is (more {t = t} {s = s} {ts = ts} e h k) m l =
       ap (λ (x : Tap). lowest ts (lower x m)) e ∙ ap (lowest ts) (lower-is s c h hc n m l) ∙ lowest-is k (min m (orCentre s c)) (omega arith)
 
--- ---- the taps of a place of the plane
+-- ---- the taps of a sample of the plane
 
 module _ (p : Plane) (y x : ℕ) where
-  -- the sample on along a direction, and the one back
+  -- the sample forward along a direction, and the one back
   unfoldable pub onSample : ℕ → ℕ → ℕ
   onSample dir k = sampleAt p (y + rowOf dir k) (x + colOf dir k)
 

@@ -1,4 +1,4 @@
--- One tap: the code's constrained difference, with its shift held to 15 and a marked tap taken as the centre, is what the standard adds.
+-- One tap: the code's constrained difference, with its shift capped at 15 and a marked tap replaced by the centre, is what the standard adds.
 use mathlib.Core.Path.{_≡_, sym, ap, _∙_}
 use mathlib.Core.Bool.{cond}
 use Prim.Native.Nat.{ℕ, zero, suc, _+_, _-_, _/_, _^_, _≤_, _<_, min, max}

@@ -1,4 +1,4 @@
-// What a row of the window is filtered with, and the filtered row.
+// The parameters of a filtered row of the window, and the filtered row.
 ghost use mathlib.Core.Path.{_≡_};
 ghost use Prim.Native.Nat.{ℕ, _+_, _≤_, _<_, max};
 ghost use lib.ListN.{getD};
@@ -47,7 +47,7 @@ pub fn from_one(damping: WorkingDamping) -> u32
     damping.0 as u32
 }
 
-// The shift of a strength, held to 15.
+// The shift of a strength, capped at 15.
 fn shift_of(s: u16, damping: u32) -> u32
     requires { ⌜ damping ≤ 31 ⌝ }
     ensures { λ r. ⌜ r ≡ shiftOf s damping ⌝ }
@@ -87,7 +87,7 @@ pub fn secondary(s: u16, damping: u32) -> Strength
     }
 }
 
-// The filtered row that starts at `row` of the window. A strength 0 has its taps passed over.
+// The filtered row that starts at `row` of the window. The taps of a strength 0 are left out.
 pub fn kernel_row(w: &[u16; 144], row: usize, t: Taps, f: Strength, g: Strength) -> [u16; 8]
     requires { ⌜ (26 ≤ row) × (row ≤ 110) × Held (now w) × Near6 t × InRange f × InRange g ⌝ }
     ensures { λ r. ⌜ r ≡ upto (λ j. kernelAt (now (w .entry)) (row + j) t f g) 8 ⌝ }

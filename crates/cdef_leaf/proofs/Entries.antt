@@ -39,7 +39,7 @@ pub secondary-is : (i : ℕ) → i < 3 → i ≡ getD secondaries i 0
 unfolding every secondaries
 secondary-is = agree 3 (λ i. i) (λ i. getD secondaries i 0) refl
 
--- the steps, two more than they are
+-- the steps, with 2 added
 abbrev pub rowBy : ℕ → ℕ → ℕ
 rowBy d k = cond (eqb d 0) (1 - k) (cond (eqb d 1) (2 - k) (cond (eqb d 2) 2 (cond (eqb d 3) (2 + k) (3 + k))))
 

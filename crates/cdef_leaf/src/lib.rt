@@ -1,4 +1,4 @@
-// The leaves: cores that the calls are built on, below any question.
+// The leaf functions that the calls are built on; they validate nothing.
 ghost use mathlib.Core.Path.{_≡_};
 ghost use Prim.Native.Nat.{_≤_};
 ghost use lib.IntN.{natAbs};
@@ -9,7 +9,7 @@ use cdef_spec::WorkingDamping;
 pub mod damping; // damping.rt: the signalled and the working damping
 pub mod tables; // tables.rt: the standard's tables as functions
 
-// The place of the highest set bit, 0 for 0.
+// The index of the highest set bit, 0 for 0.
 pub fn log2_floor(v: u32) -> u32
     ensures { λ r. ⌜ r ≡ FloorLog2 v ⌝ }
 {
@@ -19,7 +19,7 @@ pub fn log2_floor(v: u32) -> u32
     31 - u32::leading_zeros(v)
 }
 
-// The size of a constrained difference of size a.
+// The magnitude of a constrained difference of magnitude a.
 pub fn constrain_mag(a: u32, strength: u32, damping: u32) -> u32
     requires { ⌜ damping ≤ 31 ⌝ }
     ensures { λ r. ⌜ r ≡ constrainMag a strength damping ⌝ }
@@ -43,7 +43,7 @@ pub fn constrain_mag(a: u32, strength: u32, damping: u32) -> u32
     left
 }
 
-// The constrained difference: its size, with the difference's sign.
+// The constrained difference: its magnitude, with the difference's sign.
 pub fn constrain_spec(diff: i32, strength: u32, damping: WorkingDamping) -> i32
     requires { ⌜ (natAbs diff ≤ 65535) × (damping .0 ≤ 31) ⌝ }
     ensures { λ r. ⌜ r ≡ constrain diff strength (damping .0) ⌝ }

@@ -72,7 +72,7 @@ pub fn trial_pair(t: u32) -> UnitPair
     UnitPair { primary, secondary }
 }
 
-// The row of step k of a direction, two more than it is.
+// The row of step k of a direction, with 2 added.
 pub fn direction_row(dir: usize, k: usize) -> usize
     requires { ⌜ (dir < 8) × (k < 2) ⌝ }
     ensures { λ r. ⌜ r ≡ rowOf dir k ⌝ }
@@ -86,7 +86,7 @@ pub fn direction_row(dir: usize, k: usize) -> usize
     }
 }
 
-// The column of step k of a direction, two more than it is.
+// The column of step k of a direction, with 2 added.
 pub fn direction_col(dir: usize, k: usize) -> usize
     requires { ⌜ (dir < 8) × (k < 2) ⌝ }
     ensures { λ r. ⌜ r ≡ colOf dir k ⌝ }

@@ -29,7 +29,7 @@ use Rattle.cdef_measure.specs.DistanceLaws.{measured-low}
 
 -- ---- one distance added
 
--- a list of signed numbers has one list of plain ones
+-- a list of signed numbers has one list of unsigned ones
 signed-once : (t z : List ℕ) → signed t ≡ signed z → (u : ℕ) → getD t u 0 ≡ getD z u 0
 signed-once t z e u = ap natAbs (sym (getD-signed t u) ∙ ap (λ (l : List ℤ). getD l u (pos 0)) e ∙ getD-signed z u)
 
@@ -50,7 +50,7 @@ module _ (l : List ℤ) (t : List ℕ) (e : l ≡ signed t) (s : Small t) (u n :
   unfolding addAt
   add-is = rw (sum-is, back w64 (pos (getD t u 0 + n)) sum-low, e) (set-signed t u (getD t u 0 + n))
 
--- ---- one turn
+-- ---- one iteration
 
 module _ (q : Picture) (v : Visible) (dist : ℕ → ℕ → ℕ) (by bx : ℕ) (z : List ℕ) where
   pub one-counted : counted q v by bx ≡ true → measureOne q v dist by bx z ≡ addAt z (unitAt q by bx) (dist by bx)

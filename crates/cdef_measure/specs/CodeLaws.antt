@@ -1,4 +1,4 @@
--- The rows of a block as the code asks for them.
+-- The rows of a block as the code selects them.
 use mathlib.Core.Path.{_≡_, ap}
 use mathlib.Core.Bool.{Bool, true}
 use mathlib.Core.List.{List}

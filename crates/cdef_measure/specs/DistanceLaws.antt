@@ -68,7 +68,7 @@ module _ (f : Frame) (h : Shaped f) (v : Visible) (s ds vs : List ℕ) (by bx : 
   unfolding blockDistance
   distance-as o d = kind-as (q .kind) (q .depth) rows cols _ _ kind-is depth-is
 
-  -- it looks at the block alone
+  -- it depends on the block alone
   pub distance-same : (o d e : ℕ → ℕ → ℕ) → ((i j : ℕ) → i < blockHeight q → j < blockWidth q → d (by * blockHeight q + i) (bx * blockWidth q + j) ≡ e (by * blockHeight q + i) (bx * blockWidth q + j)) → blockDistance q v by bx o d ≡ blockDistance q v by bx o e
   distance-same o d e g = distance-as o d ∙ cut-same (f .luma) (constantsOf (f .depth)) rows cols _ _ _ _ (λ i j hi hj. refl) (λ i j hi hj. g i j (omega arith) (omega arith)) ∙ sym (distance-as o e)
 
@@ -96,7 +96,7 @@ module _ (f : Frame) (h : Shaped f) (v : Visible) (s ds vs : List ℕ) (by bx : 
       abbrev dist : ℕ → ℕ → ℕ
       dist = measuredDistance q d v plane original p
 
-      -- the rows taken hold the filtered block or, with 0, 0, the plane's
+      -- the selected rows hold the filtered block or, with 0, 0, the plane's
       pub measured : (on : Bool) → on ≡ not (isOff p) → (on ≡ true → Filled q d plane p by bx scratch) → blockDistance q v by bx (atPlace q original) (rowSample q on scratch plane (by * blockHeight q)) ≡ measuredDistance q d v plane original p by bx
       unfolding measuredDistance rowSample Filled
       measured on e g = rw e (distance-same _ _ _ (λ i j hi hj. go (isOff p) i j (λ t. g (e ∙ t) i j hi hj)))

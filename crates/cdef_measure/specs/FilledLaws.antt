@@ -1,4 +1,4 @@
--- A block filtered into the scratch: the filter takes it, and the scratch then holds what Picture says, in samples of the depth.
+-- A block filtered into the scratch: the filter accepts it, and the scratch then holds what Picture says, in samples of the depth.
 use mathlib.Core.Path.{_≡_, refl, ap, _∙_}
 use mathlib.Core.List.{List}
 use Prim.Native.Nat.{ℕ, _+_, _-_, _*_, _/_, _^_, _≤_, _<_, min}
@@ -27,7 +27,7 @@ module _ (f : Frame) (h : Shaped f) (s dirs vars plane : List ℕ) (g : Sampled 
   abbrev q : Picture
   q = pictureOf f s dirs vars
 
-  -- the block's number is small
+  -- the block's index is small
   pub number-small : by * (f .width / 8) + bx < 2 ^ 32
   number-small =
       let k : by ≤ 512 = counts-low f h s dirs vars by bx hy hx .0 in

@@ -1,4 +1,4 @@
--- What measuring adds up, as its code makes it. Definitions only.
+-- What measuring adds up, in the code's form. Definitions only.
 use mathlib.Core.Path.{_≡_}
 use mathlib.Core.Bool.{Bool, cond}
 use mathlib.Core.List.{List}
@@ -14,7 +14,7 @@ use Rattle.cdef_frame.specs.declared.Frame.{Frame}
 use Rattle.cdef_frame.specs.Frame.{Shaped}
 use Rattle.cdef_frame.specs.Lent.{Listed, Sampled, Seen, InForce}
 
--- what the cores of measuring are lent
+-- what is passed to the cores of measuring
 pub record Lent (f : Frame) (v : Visible) (plane original skip dirs vars : List ℕ) (p : UnitPair) (d : SignalledDamping) : Type 0 where
   pub shaped : Shaped f
   pub listed : Listed f skip dirs vars
@@ -53,7 +53,7 @@ Filled q d plane p by bx scratch =
 pub record LowBlock (f : Frame) (bx : ℕ) (scratch : List ℕ) : Type 0 where
   pub each : (i j : ℕ) → i < 8 / (1 + f .sy) → j < 8 / (1 + f .sx) → getD scratch (i * (f .width / (1 + f .sx)) + (bx * (8 / (1 + f .sx)) + j)) 0 < 2 ^ f .depth
 
--- the distance of the block (by, bx), filtered or, with 0, 0, as it stands
+-- the distance of the block (by, bx), filtered or, with 0, 0, unfiltered
 unfoldable pub measuredDistance : Picture → SignalledDamping → Visible → List ℕ → List ℕ → UnitPair → ℕ → ℕ → ℕ
 measuredDistance q d v plane original p by bx = blockDistance q v by bx (atPlace q original) (λ r c. cond (isOff p) (atPlace q plane r c) (orElse mark (filteredBy q d plane p by bx r c)))
 
@@ -61,10 +61,10 @@ measuredDistance q d v plane original p by bx = blockDistance q v by bx (atPlace
 pub record Small (z : List ℕ) : Type 0 where
   pub each : (u : ℕ) → getD z u 0 ≤ 64 * 2 ^ 53
 
--- at every turn of a row of blocks
+-- at every iteration over a row of blocks
 pub record SmallRow (q : Picture) (v : Visible) (dist : ℕ → ℕ → ℕ) (by : ℕ) (z : List ℕ) : Type 0 where
   pub turn : (n : ℕ) → n ≤ blockCols q → Small (measureRow q v dist by z n)
 
--- one turn: a counted block adds its distance
+-- one iteration: a counted block adds its distance
 unfoldable pub measureOne : Picture → Visible → (ℕ → ℕ → ℕ) → ℕ → ℕ → List ℕ → List ℕ
 measureOne q v dist by bx z = cond (counted q v by bx) (addAt z (unitAt q by bx) (dist by bx)) z

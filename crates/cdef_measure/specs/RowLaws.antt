@@ -59,7 +59,7 @@ module _ (f : Frame) (h : Shaped f) (s ds vs : List ℕ) (by bx : ℕ) (hy : by 
       low = λ i j hi hj. g .low _;
     }
 
-  -- in the rows taken
+  -- in the selected rows
   module _ (on : Bool) (scratch plane : List ℕ) (len : length scratch ≡ scratchOf f) (g : Sampled f plane) where
     scratch-long : blockHeight q * planeWidth q ≡ length scratch
     scratch-long = mul-comm (blockHeight q) (planeWidth q) ∙ rw (width-is f h s ds vs, block-height-is f h s ds vs) (sym len)

@@ -15,7 +15,7 @@ use cdef_spec::SignalledDamping;
 use cdef_spec::UnitPair;
 use cdef_spec::Visible;
 
-// Does a pair filter? All but 0, 0 do.
+// Whether a pair filters. All but 0, 0 do.
 fn filters(p: UnitPair) -> bool
     ensures { λ r. ⌜ r ≡ not (isOff p) ⌝ }
 {
@@ -45,7 +45,7 @@ fn filter_block(
     cdef_filter::cdef_filter_block(scratch, b.y, plane, w, h, b, q);
 }
 
-// The distance of the visible part of a block between the original and the rows taken.
+// The distance of the visible part of a block between the original and the selected rows.
 fn rows_distance<'a>(
     scratch: &'a [u16],
     plane: &'a [u16],
@@ -81,7 +81,7 @@ fn rows_distance<'a>(
     )
 }
 
-// The distance of a block, filtered with a pair or, with 0, 0, as it stands.
+// The distance of a block, filtered with a pair or, with 0, 0, unfiltered.
 pub fn measure_block(
     scratch: &mut [u16],
     plane: &[u16],

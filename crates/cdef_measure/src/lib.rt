@@ -1,4 +1,4 @@
-// Measuring: for each unit, the distance between an original and a plane, filtered with one pair or as it stands.
+// Measuring: per unit, the distance between an original and a plane, filtered with one pair or unfiltered.
 pub mod block; // block.rt: one block
 pub mod rows; // rows.rt: the rows of a block, and slices set to zero
 pub mod totals; // totals.rt: a row of blocks
@@ -17,7 +17,7 @@ use cdef_spec::SignalledDamping;
 use cdef_spec::UnitPair;
 use cdef_spec::Visible;
 
-// One total a unit, for luma and chroma; the scratch comes back all zero.
+// One total per unit, for luma and chroma; the scratch is returned all zero.
 pub fn measure_plane(
     totals: &mut [i64],
     scratch: &mut [u16],

@@ -1,10 +1,10 @@
-// The rows of a block, and lent slices set to zero.
+// The rows of a block, and slices set to zero.
 ghost use mathlib.Core.Path.{_≡_};
 ghost use Prim.Native.Nat.{_+_, _≤_};
 ghost use lib.ListN.{length, replicate};
 ghost use Rattle.cdef_measure.specs.Measure.{rowsOf};
 
-// Taken from the filtered scratch or from the plane, from start on; nothing is copied.
+// Borrowed from the filtered scratch or from the plane, from start on; nothing is copied.
 pub fn rows_of<'a>(scratch: &'a [u16], plane: &'a [u16], filters: bool, start: usize) -> &'a [u16]
     requires { ⌜ start + length (now scratch) ≤ length (now plane) ⌝ }
     ensures { λ r. ⌜ now r ≡ rowsOf filters (now (scratch .entry)) (now (plane .entry)) start ⌝ }

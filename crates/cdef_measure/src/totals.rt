@@ -22,7 +22,7 @@ fn add_at(totals: &mut [i64], u: usize, n: u64)
     totals[u] = totals[u] + n as i64;
 }
 
-// Adds a counted block's distance to its unit's total; another block is passed over.
+// Adds a counted block's distance to its unit's total; another block adds nothing.
 fn measure_one(
     totals: &mut [i64],
     scratch: &mut [u16],

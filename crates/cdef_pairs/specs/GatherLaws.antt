@@ -1,4 +1,4 @@
--- What is gathered turn by turn, and that an array stands for its list.
+-- What is gathered, iteration by iteration, and that an array stands for its list.
 use mathlib.Core.Path.{_≡_, refl, sym, ap, _∙_}
 use mathlib.Core.List.{List, [], _∷_}
 use Prim.Native.Nat.{ℕ, zero, suc, _+_, _≤_, _<_}

@@ -1,4 +1,4 @@
--- The strengths of an array's first n pairs as a call lends them to the twin with two lists: the first m primary and the first k secondary ones.
+-- The strengths of an array's first n pairs as a call passes them to the variant with two lists: the first m primary and the first k secondary ones.
 use mathlib.Core.Path.{_≡_, sym, ap, _∙_}
 use mathlib.Core.List.{List}
 use Prim.Native.Nat.{ℕ, _≤_, _<_}
@@ -52,7 +52,7 @@ module _ (a : List UnitPair) (l : List ℕ) (m : ℕ) (h : m ≤ 4096) where
 
 -- ---- applying with them
 
--- of m and k it is said what or_none and at_most promise
+-- m and k are as or_none and at_most promise
 pub applying-lent : (q : Picture) (d : DampingChoice) (snapshot dst : List ℕ) (n : ℕ) (a : List UnitPair) (m k : ℕ) (pris secs : List ℕ)
     → (pris ≡ primaries 4096 a) × (secs ≡ secondaries 4096 a)
     → (m ≤ 4096) × (n ≤ 4096 → m ≡ n) × (4096 < n → m ≡ 0)

@@ -1,4 +1,4 @@
--- Applying answers an array of pairs as it answers their list: with at most 4,096 pairs the lists are the same; more are refused alike, since no picture has so many units.
+-- Applying treats an array of pairs as it treats their list: with at most 4,096 pairs the lists are the same; more are rejected alike, since no picture has so many units.
 use mathlib.Core.Path.{_≡_, refl, sym, ap, _∙_}
 use mathlib.Core.Bool.{Bool, true, false, cond, _&&_}
 use mathlib.Core.List.{List, [], _∷_}
@@ -76,7 +76,7 @@ few-units q e =
     let c : unitCols q ≤ 64 = omega arith in
     mul-le-mul r c
 
--- ---- a refusal at question 7 or before
+-- ---- a rejection at question 7 or before
 
 pub number-back : (n : ℕ) → numberOf (resultOf n nothing) ≡ n
 unfolding resultOf numberOf
@@ -94,7 +94,7 @@ and-off true = refl
 and-off false = refl
 
 module _ (q : Picture) (d : DampingChoice) (snapshot dst : List ℕ) where
-  -- applying's first no, by what is asked of the pairs; and its outcome, by its first no
+  -- applying's error code, by the tests of the pairs; and its outcome, by its error code
   abbrev asked : Bool → Bool → ℕ
   asked lists values = firstNo (questions q (inForce d) (snapshot ∷ dst ∷ []) lists values (snapshot ∷ []))
 
@@ -134,7 +134,7 @@ module _ (q : Picture) (d : DampingChoice) (snapshot dst : List ℕ) where
           let long′ = too-long (length rs) (omega arith) in
           same-outcome _ _ ps rs (same-no _ _ (allTaken pairTaken ps) (allTaken pairTaken rs) long long′) (not-taken _ (allTaken pairTaken ps) long)
 
-  -- the first no, out of the outcome
+  -- the error code, out of the outcome
   number-of : (ps : List UnitPair) → numberOf ((applyingOutcome q d snapshot ps dst) .answer) ≡ applyingNo q d snapshot ps dst
   unfolding applyingOutcome
   number-of ps = number-back _
@@ -143,17 +143,17 @@ module _ (q : Picture) (d : DampingChoice) (snapshot dst : List ℕ) where
   unfolding applyingListsOutcome
   number-of-lists pris secs = number-back _
 
-  -- the twin's first no, where the lists are of one length
+  -- the variant's error code, where the lists have the same length
   pub twin-no : (pris secs : List ℕ) → length pris ≡ length secs → applyingListsNo q d snapshot pris secs dst ≡ applyingNo q d snapshot (pairsOf pris secs) dst
   twin-no pris secs e = sym (number-of-lists pris secs) ∙ ap (λ (o : ApplyingOutcome). numberOf (o .answer)) (twin-is q d snapshot pris secs dst e) ∙ number-of (pairsOf pris secs)
 
   pub alike-no : (ps rs : List UnitPair) → length ps ≡ length rs → (length ps ≤ 4096 → ps ≡ rs) → applyingNo q d snapshot ps dst ≡ applyingNo q d snapshot rs dst
   alike-no ps rs e same = sym (number-of ps) ∙ ap (λ (o : ApplyingOutcome). numberOf (o .answer)) (alike-outcome ps rs e same) ∙ number-of rs
 
-  -- ---- the first n pairs of an array, as two lists: m and k of its strengths are lent
+  -- ---- the first n pairs of an array, as two lists: m and k of its strengths are passed
 
   module _ (n : ℕ) (a : List UnitPair) (m k : ℕ) (m-few : n ≤ 4096 → m ≡ n) (m-many : 4096 < n → m ≡ 0) (k-few : n ≤ 4096 → k ≡ n) (k-many : 4096 ≤ n → k ≡ 4096) where
-    -- no picture has 0 units and 4,096
+    -- no picture has both 0 units and 4,096
     no-lists : 4096 < n → eqb (length (primaries m a)) (units q) && eqb (length (secondaries k a)) (units q) ≡ false
     no-lists h = rw (length-primaries m a, length-secondaries k a, m-many h, k-many (omega arith)) (go (ℕ-discrete 0 (units q)))
       where

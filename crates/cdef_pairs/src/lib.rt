@@ -1,12 +1,12 @@
-// The list of unit pairs (document 01: one primary and one secondary strength a unit) out of a lent slice of structs, and as two lists of bytes.
-// The borrow checker covers no function that is lent structs: `gather` is proved by hand, and copies the slice into an array by value, which covered code takes.
+// The list of unit pairs (RULES, Glossary: one primary and one secondary strength per unit) out of the caller's slice of structs, and as two lists of bytes.
+// The borrow checker covers no function that borrows structs: `gather` is proved by hand, and copies the slice into an array by value, which covered code accepts.
 ghost use mathlib.Core.Path.{_≡_};
 ghost use mathlib.Core.List.{[]};
 ghost use Prim.Native.Nat.{_≤_, _<_};
 ghost use Rattle.cdef_pairs.specs.Gather.{gathered, primaries, secondaries};
 use cdef_spec::UnitPair;
 
-// A primary and a secondary strength for each of 4,096 units, more than any picture has.
+// A primary and a secondary strength for each of 4,096 units, as many as the largest picture has.
 pub struct PairLists {
     pub pris: [u8; 4096],
     pub secs: [u8; 4096],

@@ -1,4 +1,4 @@
--- The direction and the variance of block b of a plane with cols blocks side by side. Definitions only.
+-- The direction and the variance of block b of a plane with cols blocks per row of blocks. Definitions only.
 use Prim.Native.Nat.{ℕ, _*_, _/_, _%_}
 use Rattle.cdef_spec.specs.Document01.{Plane, blockDirection, blockVariance}
 

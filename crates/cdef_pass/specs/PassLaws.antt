@@ -1,4 +1,4 @@
--- A plane whose samples are all low, a block's place in the lists, and the lists once they are filled.
+-- A plane whose samples all fit the depth, a block's index in the lists, and the lists once they are filled.
 use mathlib.Core.Path.{_≡_, sym, _∙_}
 use mathlib.Core.Bool.{true}
 use mathlib.Core.List.{List}
@@ -14,12 +14,12 @@ use Rattle.cdef_spec.specs.Document01.{Plane}
 use Rattle.cdef_spec.specs.Questions.{sampleTaken, lookedAt, cutTaken}
 use Rattle.cdef_sample.specs.Upto.{upto, length-upto, getD-upto, upto-all}
 
--- where every sample is low, so are those of each block
+-- where every sample fits the depth, so do those of each block
 pub low-cut : (p : Plane) (depth y x : ℕ) → ((k : ℕ) → getD (p .samples) k 0 < 2 ^ depth) → cutTaken p depth y x ≡ true
 unfolding cutTaken lookedAt sampleTaken
 low-cut p depth y x h = every-make _ _ (λ i a. every-make _ _ (λ j b. lt-ltb _ (2 ^ depth) (h _)))
 
--- the block in row by and column bx of the blocks has the number by * cols + bx
+-- the block in row by and column bx of the blocks has the index by * cols + bx
 pub at-block : (f : ℕ → ℕ → ℕ) (cols by bx : ℕ) → bx < cols → f (by * 8) (bx * 8) ≡ f ((by * cols + bx) / cols * 8) ((by * cols + bx) % cols * 8)
 at-block f cols by bx h = rw (digits-div by {m = cols} {r = bx} h, digits-mod by {m = cols} {r = bx} h)
 

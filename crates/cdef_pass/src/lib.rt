@@ -5,7 +5,7 @@ ghost use lib.ListN.{getD, length};
 ghost use Rattle.cdef_spec.specs.Words.{table};
 ghost use Rattle.cdef_spec.specs.Document01.{blockDirection, blockVariance};
 
-// Fills dirs and vars, an entry a block, row by row. The sides are multiples of 8.
+// Fills dirs and vars, one entry per block, row by row. The sides are multiples of 8.
 pub fn direction_pass(
     dirs: &mut [u8],
     vars: &mut [u32],

@@ -59,7 +59,7 @@ module _ (w : List ℕ) (k : ℕ) (t : Taps) (f : Strength) (m : InRange f) wher
   unfolding secAt
   size-sec = omega (arith, size-add (nearAt w k t f) (farAt w k t f), size-near, size-far)
 
-  -- the two parts, as they are handed to `add`, and what it gives
+  -- the two parts, as passed to `add`, and what it returns
   module _ {x y : ℤ} (ex : x ≡ nearAt w k t f) (ey : y ≡ farAt w k t f) where
     pub sec-ok : natAbs (toZ w16 (ofZ w16 x)) + natAbs (toZ w16 (ofZ w16 y)) ≤ 32767
     sec-ok = add-ok {m = 3840} {n = 3840} (record { is = ex; small = size-near }) (record { is = ey; small = size-far }) (omega arith)
@@ -80,7 +80,7 @@ module _ (w : List ℕ) (k : ℕ) (t : Taps) (h : Held w) where
   unfolding highAt
   high-le = omega (arith, h .all k, high (t .p0), high (t .p1), high (t .q0), high (t .q1), high (t .r0), high (t .r1))
 
--- the sums of taps as the window has them
+-- the sums of taps as the window holds them
 pub size-tap : (t c s sh : ℕ) → natAbs (conTap t c s sh) ≤ s
 unfolding conTap
 size-tap t c s sh = go (eqb t 16384)
@@ -105,7 +105,7 @@ module _ (e : Pairs) (c : ℕ) (f : Strength) (m : InRange f) where
   unfolding secSum weighed
   size-sec-sum = two (scaled (m .w0) (two (of (e .q0)) (of (e .r0)))) (scaled (m .w1) (two (of (e .q1)) (of (e .r1)))) .small
 
--- a number that is handed to a call
+-- a number that is passed to a call
 pub small-back : {x a : ℤ} {m n : ℕ} → Is x a m → m ≤ n → n ≤ 32767 → natAbs (toZ w16 (ofZ w16 x)) ≤ n
 small-back p h k = rw (back-is p (omega arith)) (omega (arith, p .small))
 

@@ -1,4 +1,4 @@
--- One sample from its taps as the window has them, marked ones among them. Definitions only.
+-- One sample from its taps as the window holds them, marked ones included. Definitions only.
 use mathlib.Core.Bool.{cond}
 use mathlib.Core.List.{List}
 use Prim.Native.Nat.{ℕ, _≤_, min, max}

@@ -1,4 +1,4 @@
--- Laws of the taps as the window has them: where the centre is not marked, they give the sums and the limits of `Sums`.
+-- Laws of the taps as the window holds them: where the centre is not marked, they give the sums and the limits of `Sums`.
 use mathlib.Core.Path.{_≡_, refl, sym, ap, _∙_}
 use mathlib.Core.Bool.{Bool, true, false, cond}
 use mathlib.Core.List.{List}
@@ -45,7 +45,7 @@ unmarked-le t = go (eqb t 16384)
     go true = omega arith
     go false = omega arith
 
--- the same limits beside a centre, as records, so that the numbers can be inferred
+-- the same limits together with a centre, as records, so that the numbers can be inferred
 record Low (c a b : ℕ) : Type 0 where
   low : min a c ≡ min b c
 
@@ -145,7 +145,7 @@ module _ (w : List ℕ) (k : ℕ) (t : Taps) (h : Held w) where
     unfolding highestOf pairsOf highAt
     highest-is = high-last (high-two (high-two (most (t .p0)) (most (t .p1))) (high-two (most (t .q0)) (most (t .q1)))) (high-two (most (t .r0)) (most (t .r1)))
 
-  -- the filtered sample; a marked centre stays, whatever the sums are
+  -- the filtered sample; a marked centre is kept, whatever the sums are
   pub both-is : (f g : Strength) → let e = pairsOf w k t in
       let c = getD w k 0 in
       finishOf c (priSum e c f +ℤ secSum e c g) (lowestOf e c) (highestOf e c) ≡ filteredAt w k t f g

@@ -9,7 +9,7 @@ ghost use Rattle.cdef_rows.specs.Pairs.{HeldPair, HeldPairs, pairOf, pai
 use crate::Strength;
 use crate::Taps;
 
-// a tap and its opposite, as the window has them
+// a tap and its opposite, as the window holds them
 pub struct Pair {
     pub on: u16,
     pub back: u16,
@@ -140,7 +140,7 @@ fn highest(e: Pairs, c: u16) -> u16
     cdef_sample::most(cdef_sample::most(p, q), cdef_sample::most(r, c))
 }
 
-// The filtered sample at k. It has one caller, a loop, so that the compiler lays it into that loop.
+// The filtered sample at k. It has one caller, a loop, so that the compiler inlines it there.
 pub fn both_at(w: &[u16; 144], k: usize, t: Taps, f: Strength, g: Strength) -> u16
     requires { ⌜ (26 ≤ k) × (k ≤ 117) × Held (now w) × Near6 t × InRange f × InRange g ⌝ }
     ensures { λ r. ⌜ r ≡ filteredAt (now (w .entry)) k t f g ⌝ }

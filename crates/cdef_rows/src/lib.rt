@@ -1,4 +1,4 @@
-// A row of eight samples of the window, each sum and the filtered row by value.
+// Rows of eight samples of the window: sums and filtered rows, returned by value.
 mod both; // both.rt: one sample, filtered with both strengths
 
 ghost use mathlib.Core.Path.{_≡_};
@@ -179,7 +179,7 @@ pub fn filtered_row(w: &[u16; 144], row: usize, t: Taps, f: Strength, g: Strengt
     out
 }
 
-// A row moved by its sums alone.
+// A row plus its rounded sums, not clipped.
 pub fn free_row(w: &[u16; 144], row: usize, s: [i16; 8]) -> [u16; 8]
     requires { ⌜ (26 ≤ row) × (row ≤ 110) × Held (now w) × Within s 7680 ⌝ }
     ensures { λ r. ⌜ r ≡ upto (λ j. freeOf (getD (now (w .entry)) (row + j) 0) (getD s j (pos 0))) 8 ⌝ }
@@ -192,7 +192,7 @@ pub fn free_row(w: &[u16; 144], row: usize, s: [i16; 8]) -> [u16; 8]
     out
 }
 
-// A row of the window as it stands.
+// A row of the window, unfiltered.
 pub fn centre_row(w: &[u16; 144], row: usize) -> [u16; 8]
     requires { ⌜ (26 ≤ row) × (row ≤ 110) ⌝ }
     ensures { λ r. ⌜ r ≡ upto (λ j. getD (now (w .entry)) (row + j) 0) 8 ⌝ }

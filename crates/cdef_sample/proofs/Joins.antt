@@ -1,4 +1,4 @@
--- An i16 that a call gave, handed to `add` or `scale`: what they ask, and what they give. Assumes nothing.
+-- An i16 that a call returned, passed to `add` or `scale`: what they require, and what they return. Assumes nothing.
 use mathlib.Core.Path.{_≡_, refl, sym, ap, _∙_}
 use Prim.Native.Nat.{ℕ, _+_, _*_, _≤_, _<_}
 use native.Mathlib.Omega.{arith}
@@ -9,7 +9,7 @@ use mir.Val.{toZ, ofZ}
 use Rattle.cdef_spec.specs.SignedLaws.{size-add, size-scale}
 use Rattle.cdef_sample.proofs.Sums16.{back}
 
--- x is the number a, of a size up to m
+-- x is the number a, of magnitude at most m
 pub record Is (x a : ℤ) (m : ℕ) : Type 0 where
   pub is : x ≡ a
   pub small : natAbs a ≤ m

@@ -1,3 +1,3 @@
--- Laws that belong to no one function.
+-- Lemmas that several proofs share.
 pub mod Sums16
 pub mod Joins

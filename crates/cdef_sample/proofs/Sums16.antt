@@ -59,7 +59,7 @@ module _ (a b : ℤ) (h : natAbs a + natAbs b ≤ 32767) where
   pub sum-back : toZ w16 (ofZ w16 (toZ w16 (ofZ w16 a) +ℤ toZ w16 (ofZ w16 b))) ≡ a +ℤ b
   sum-back = rw sum-is (back (a +ℤ b) sum-small)
 
--- a value that is weighed
+-- a value times its weight
 module _ (k : ℕ) (a : ℤ) (hk : k ≤ 32767) (ha : natAbs a ≤ 32767) (h : k * natAbs a ≤ 32767) where
   weighed-is : toZ w16 k *ℤ toZ w16 (ofZ w16 a) ≡ pos k *ℤ a
   weighed-is = rw (back-nat k hk, back a ha)
@@ -84,7 +84,7 @@ module _ (m : ℕ) (h : m ≤ 32767) where
   pub minus-back : toZ w16 (ofZ w16 (pos 0 -ℤ toZ w16 m)) ≡ negℤ (pos m)
   minus-back = rw minus-is (back (negℤ (pos m)) minus-small)
 
--- the centre moved by a rounded sum; g is 7 or 8
+-- the centre plus a rounded sum; g is 7 or 8
 module _ (c g : ℕ) (z : ℤ) (hc : c ≤ 16384) (hg : g ≤ 8) (hz : natAbs z ≤ 16000) where
   near : natAbs (z +ℤ pos g) ≤ 16008
   near = omega (arith, size-add z (pos g))

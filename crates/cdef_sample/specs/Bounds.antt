@@ -8,6 +8,6 @@ use lib.IntN.{ℤ, pos, natAbs}
 pub record Held (w : List ℕ) : Type 0 where
   pub all : (k : ℕ) → getD w k 0 ≤ 16384
 
--- no sum of a greater size than m
+-- no sum of magnitude above m
 pub record Within (l : List ℤ) (m : ℕ) : Type 0 where
   pub all : (k : ℕ) → natAbs (getD l k (pos 0)) ≤ m

@@ -1,4 +1,4 @@
--- One tap and the finish of a sample, and their laws.
+-- One tap and the rounding and clipping of a sample, and their laws.
 pub mod Sample
 pub mod SampleLaws
 pub mod Upto

@@ -1,4 +1,4 @@
--- Laws of one tap and of the finish.
+-- Laws of one tap and of the rounding and clipping of a sample.
 use mathlib.Core.Path.{_≡_, refl, sym, ap, _∙_}
 use Prim.Native.Nat.{ℕ, zero, suc, _+_, _-_, _*_, _/_, _^_, _≤_, _<_, min}
 use mathlib.Core.Bool.{Bool, true, false, cond}
@@ -74,7 +74,7 @@ pub moved-pos : (c : ℕ) (z : ℤ) → ltZ z (pos 0) ≡ false → movedOf c z 
 unfolding movedOf roundOf
 moved-pos c z e = rw e
 
--- what was held above a number is one, and held under one stays so
+-- a value raised to at least a natural number is one, and stays one under an upper bound
 over-nat : (z : ℤ) (lo : ℕ) → overOf z lo ≡ pos (mag (overOf z lo))
 unfolding overOf
 over-nat (pos n) lo = go (ltb n lo)
@@ -92,7 +92,7 @@ under-nat n hi = go (ltb hi n) refl
     go true e = let h : hi < n = ltb-true hi n e in ap pos (omega arith)
     go false e = let h : n ≤ hi = ltb-false hi n e in ap pos (omega arith)
 
--- the held value as a number
+-- the clipped value as a natural number
 pub held-nat : (z : ℤ) (lo hi : ℕ) → underOf (overOf z lo) hi ≡ pos (min (mag (overOf z lo)) hi)
 held-nat z lo hi = ap (λ (v : ℤ). underOf v hi) (over-nat z lo) ∙ under-nat (mag (overOf z lo)) hi
 
@@ -112,6 +112,6 @@ pub free-on : (c : ℕ) (z : ℤ) → (c ≡ 16384 → ⊥) → freeOf c z ≡ m
 unfolding freeOf
 free-on c z e = rw (ne-eqb c 16384 e)
 
--- what was held above a number is one
+-- a value raised to at least a natural number is one
 pub over-is-nat : (z : ℤ) (lo : ℕ) → overOf z lo ≡ pos (mag (overOf z lo))
 over-is-nat z lo = over-nat z lo

@@ -1,11 +1,11 @@
-// One sample of the filter: its taps as naturals, their sums as 16-bit signed numbers.
+// One sample of the filter: its taps unsigned, their sums 16-bit signed numbers.
 ghost use mathlib.Core.Path.{_≡_};
 ghost use Prim.Native.Nat.{ℕ, _+_, _-_, _*_, _≤_, _<_, min, max};
 ghost use lib.IntN.{natAbs, pos, _+ℤ_, _*ℤ_};
 ghost use lib.ListN.{length, getD};
 ghost use Rattle.cdef_sample.specs.Sample.{orCentre, sizeOf, conOf, movedOf, overOf, underOf, finishOf, freeOf};
 
-// The lesser of two sides or places.
+// The lesser of two sides or positions.
 pub fn lesser(a: usize, b: usize) -> usize
     ensures { λ r. ⌜ r ≡ min a b ⌝ }
 {
@@ -27,7 +27,7 @@ pub fn most(a: u16, b: u16) -> u16
     if (a as i16) < (b as i16) { b } else { a }
 }
 
-// How far apart two samples are.
+// The absolute difference of two samples.
 fn apart(p: u16, c: u16) -> u16
     requires { ⌜ (p ≤ 32767) × (c ≤ 32767) ⌝ }
     ensures { λ r. ⌜ r ≡ (p - c) + (c - p) ⌝ }
@@ -46,7 +46,7 @@ fn less(s: u16, t: u16) -> u16
     if s < t { 0 } else { s - t }
 }
 
-// The size of a constrained difference of size a.
+// The magnitude of a constrained difference of magnitude a.
 fn constrain_size(a: u16, s: u16, sh: u32) -> u16
     requires { ⌜ (a ≤ 32767) × (s ≤ 32767) × (sh ≤ 15) ⌝ }
     ensures { λ r. ⌜ r ≡ sizeOf a s sh ⌝ }
@@ -83,7 +83,7 @@ pub fn scale(k: u16, a: i16) -> i16
     (k as i16) * a
 }
 
-// The tap at a place of the window; the centre where the tap or the centre is marked.
+// The tap at an index of the window; the centre where the tap or the centre is marked.
 pub fn tap(w: &[u16; 144], at: usize, c: u16) -> u16
     requires { ⌜ at < 144 ⌝ }
     ensures { λ r. ⌜ r ≡ orCentre (getD (now (w .entry)) at 0) c ⌝ }
@@ -96,7 +96,7 @@ pub fn tap(w: &[u16; 144], at: usize, c: u16) -> u16
     }
 }
 
-// The centre moved by the rounded sum.
+// The centre plus the rounded sum.
 pub fn moved(c: u16, sum: i16) -> i16
     requires { ⌜ (c ≤ 16384) × (natAbs sum ≤ 16000) ⌝ }
     ensures { λ r. ⌜ r ≡ movedOf c sum ⌝ }
@@ -105,7 +105,7 @@ pub fn moved(c: u16, sum: i16) -> i16
     (c as i16) + ((sum + g) >> 4)
 }
 
-// Held to lo or above.
+// At least lo.
 pub fn at_least(v: i16, lo: u16) -> i16
     requires { ⌜ (natAbs v ≤ 32767) × (lo ≤ 32767) ⌝ }
     ensures { λ r. ⌜ r ≡ overOf v lo ⌝ }
@@ -113,7 +113,7 @@ pub fn at_least(v: i16, lo: u16) -> i16
     if v < (lo as i16) { lo as i16 } else { v }
 }
 
-// Held to hi or below.
+// At most hi.
 pub fn at_most(v: i16, hi: u16) -> i16
     requires { ⌜ (natAbs v ≤ 32767) × (hi ≤ 32767) ⌝ }
     ensures { λ r. ⌜ r ≡ underOf v hi ⌝ }
@@ -121,7 +121,7 @@ pub fn at_most(v: i16, hi: u16) -> i16
     if (hi as i16) < v { hi as i16 } else { v }
 }
 
-// The filtered sample; a marked centre stays.
+// The filtered sample; a marked centre is kept.
 pub fn finish(c: u16, sum: i16, lo: u16, hi: u16) -> u16
     requires { ⌜ (c ≤ 16384) × (natAbs sum ≤ 16000) × (lo ≤ 16384) × (hi ≤ 16384) ⌝ }
     ensures { λ r. ⌜ r ≡ finishOf c sum lo hi ⌝ }
@@ -130,7 +130,7 @@ pub fn finish(c: u16, sum: i16, lo: u16, hi: u16) -> u16
     if c == 16384 { c } else { v }
 }
 
-// A sample moved by its sum alone.
+// The centre plus its rounded sum, not clipped to the taps; a marked centre is kept.
 pub fn free(c: u16, sum: i16) -> u16
     requires { ⌜ (c ≤ 16384) × (natAbs sum ≤ 16000) ⌝ }
     ensures { λ r. ⌜ r ≡ freeOf c sum ⌝ }

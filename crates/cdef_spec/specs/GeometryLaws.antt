@@ -1,4 +1,4 @@
--- Laws of the geometry: blocks tile the plane, a place has a row and a column, a block has a unit.
+-- Laws of the geometry: blocks tile the plane, an index has a row and a column, a block has a unit.
 use mathlib.Core.Path.{_≡_, refl, sym, ap, _∙_}
 use mathlib.Core.Bool.{Bool, true, false, cond, not, _&&_, _||_}
 use mathlib.Core.List.{List, [], _∷_}
@@ -40,12 +40,12 @@ tiled q w h f = let l = flags-low (q .kind) f in record {
   high = halved (q .height) (subY (q .kind)) (l .1) (side-whole (q .height) h);
 }
 
--- the row and the column of a place
+-- the row and the column of an index
 pub row-of : (w h k : ℕ) → k < w * h → (k / w < h) × (k % w < w)
 row-of zero h k l = absurd (omega (arith, zero-mul h))
 row-of (suc w) h k l = (div-lt-iff-lt-mul {k = suc w} {x = k} {y = h} (omega arith) .1 (rw (mul-comm h (suc w)) l), mod-lt k (omega arith))
 
--- the place (r, c) of a plane made by a function
+-- the sample at (r, c) of a plane given by a function
 pub at-plane : (q : Picture) (f : ℕ → ℕ → ℕ) (r c : ℕ) → r < planeHeight q → c < planeWidth q → atPlace q (planeFrom q f) r c ≡ f r c
 unfolding atPlace planeFrom
 at-plane q f r c hr hc =

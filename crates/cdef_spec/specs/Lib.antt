@@ -1,4 +1,4 @@
--- What a reader must believe, in this order.
+-- The definitions that a reader must trust, in this order.
 pub mod Words
 pub mod Standard
 pub mod Document01
@@ -10,10 +10,10 @@ pub mod Questions
 pub mod BlockCalls
 pub mod FrameCalls
 pub mod Demand3
--- The forms that code takes.
+-- The forms that the code uses.
 pub mod CodeForm
 pub mod LoopForm
--- Laws: of the definitions, and that the code's forms are the reader's.
+-- Laws: of the definitions, and that the code's forms equal them.
 pub mod WordsLaws
 pub mod SignedLaws
 pub mod ConstrainLaws
@@ -36,5 +36,5 @@ pub mod TotalLaws
 pub mod PlaneLaws
 pub mod TrialCallLaws
 pub mod OutcomeLaws
--- The proof of demand 3.
+-- The proof of the agreement theorem (RULES, Agreement).
 pub mod Agreement

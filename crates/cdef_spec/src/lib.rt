@@ -1,18 +1,18 @@
-// The plain data that the calls take and hand back. No code.
+// The plain data that the calls take and return. No code.
 
 // The damping as the frame header carries it, 3 to 6.
 pub struct SignalledDamping(pub u8);
 
-// The damping as constrain takes it, 0 to 31: made from the signalled one by the luma or the chroma rule.
+// The damping as constrain takes it, 0 to 31: derived from the signalled one by the luma or the chroma rule.
 pub struct WorkingDamping(pub u8);
 
-// How a frame call is told its damping: the signalled figure, or a quality index to work it out from.
+// How a frame call is given its damping: the signalled figure, or a quality index to compute it from.
 pub enum DampingChoice {
     Given(SignalledDamping),
     FromQuality(u32),
 }
 
-// The pair (document 01) of a unit, a 64 by 64 luma square: its primary and its secondary strength, as signalled.
+// The pair (RULES, Glossary) of a unit, a 64 by 64 luma square: its primary and its secondary strength, as signalled.
 pub struct UnitPair {
     pub primary: u8,
     pub secondary: u8,
@@ -32,7 +32,7 @@ pub struct Visible {
     pub height: usize,
 }
 
-// What a block is filtered with: the working strengths (signalled, shifted left by depth - 8, in luma the primary adjusted), the direction, the working damping and the bit depth.
+// The parameters of a block's filter: the working strengths (signalled, shifted left by depth - 8, in luma the primary adjusted), the direction, the working damping and the bit depth.
 pub struct FilterParams {
     pub pri: u32,
     pub sec: u32,
@@ -41,7 +41,7 @@ pub struct FilterParams {
     pub depth: u8,
 }
 
-// The two ways of asking for a trial: with a luma block's variance, or, for chroma, without one.
+// The two kinds of trial: with a luma block's variance, or, for chroma, without one.
 pub enum TrialWay {
     Luma(u32),
     Chroma,
@@ -53,43 +53,43 @@ pub struct DistanceConstants {
     pub c2: f64,
 }
 
-// What a call hands back whose results lie in lent slices: done, or the number of the first question that says no.
+// What a call returns whose results are in the caller's slices: done, or the error code of the first failed check.
 pub enum Answer {
     Done,
     Refused(u8),
 }
 
-// What constrain hands back: the constrained difference, or a refusal.
+// What constrain returns: the constrained difference, or an error code.
 pub enum DifferenceAnswer {
     Difference(i32),
     NoDifference(u8),
 }
 
-// What adjust hands back: the adjusted strength, or a refusal.
+// What adjust returns: the adjusted strength, or an error code.
 pub enum StrengthAnswer {
     Strength(u32),
     NoStrength(u8),
 }
 
-// What the damping of a quality index is: a signalled damping, or a refusal.
+// What the damping of a quality index returns: a signalled damping, or an error code.
 pub enum DampingAnswer {
     Damping(SignalledDamping),
     NoDamping(u8),
 }
 
-// What the working damping of a plane is: a working damping, or a refusal.
+// What the working damping of a plane returns: a working damping, or an error code.
 pub enum WorkingAnswer {
     Working(WorkingDamping),
     NoWorking(u8),
 }
 
-// What the direction of a block is: the direction and the variance, or a refusal.
+// What the direction of a block returns: the direction and the variance, or an error code.
 pub enum DirectionAnswer {
     Direction(u8, u32),
     NoDirection(u8),
 }
 
-// What a distance is: a whole number, or a refusal.
+// What a distance returns: an integer, or an error code.
 pub enum DistanceAnswer {
     Distance(i64),
     NoDistance(u8),

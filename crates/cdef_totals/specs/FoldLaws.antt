@@ -1,4 +1,4 @@
--- The frame loops' folds turn by turn: none, one more; and folds over distances that agree.
+-- The frame loops' folds, iteration by iteration: none, one more; and folds over distances that agree.
 use mathlib.Core.Path.{_≡_, refl}
 use mathlib.Core.Bool.{Bool, true, false, cond}
 use mathlib.Core.List.{List}
@@ -10,7 +10,7 @@ use Rattle.cdef_spec.specs.Standard.{Tap}
 use Rattle.cdef_spec.specs.Picture.{Picture, blockRows, blockCols, blockWidth, blockHeight, planeWidth, unitAt, counted}
 use Rattle.cdef_spec.specs.LoopForm.{addAt, addTurns, measureRow, measureRows, tryRow, tryRows, putBlock, applyRow, applyRows}
 
--- ---- turns
+-- ---- iterations
 
 pub turns-none : (t : List ℕ) (base : ℕ) (d : ℕ → ℕ) → addTurns t base d 0 ≡ t
 unfolding addTurns
@@ -79,7 +79,7 @@ module _ (q : Picture) (g : ℕ → ℕ → Bool) (f : ℕ → ℕ → ℕ → �
   unfolding applyRow
   apply-row-none by d = refl
 
-  -- a block that g takes is written, another is passed over
+  -- a block that g selects is written, another is not
   pub apply-row-more : (by : ℕ) (d : List ℕ) (n : ℕ) → g by n ≡ true
       → applyRow q g f by d (n + 1) ≡ putBlock (applyRow q g f by d n) (planeWidth q) (f by n) (by * blockHeight q) (n * blockWidth q) (blockWidth q) (blockHeight q)
   unfolding applyRow

@@ -1,4 +1,4 @@
--- Laws of the frame loops' folds: their turns, and how large a unit's total may become.
+-- Laws of the frame loops' folds: their iterations, and how large a unit's total may become.
 pub mod FoldLaws
 pub mod TotalBounds
 -- A list set to zero.

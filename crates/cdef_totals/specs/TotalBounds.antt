@@ -52,7 +52,7 @@ unfolding sum
 sum-none zero f h = refl
 sum-none (suc n) f h = rw (sum-none n f (λ k b. h k (omega arith)), h n (omega arith))
 
--- a test that needs another gives no more
+-- a stricter test selects no more
 test-low : (i j k l x : ℕ) → (i ≡ j → k ≡ l) → cond (eqb i j) x 0 ≤ cond (eqb k l) x 0
 test-low i j k l x h = go (ℕ-discrete i j)
   where
@@ -60,14 +60,14 @@ test-low i j k l x h = go (ℕ-discrete i j)
     go (yes e) = rw (eq-eqb i j e, eq-eqb k l (h e)) (omega arith)
     go (no g) = rw (ne-eqb i j g) (omega arith)
 
--- ---- one addition, and turns
+-- ---- one addition, and iterations
 
 getD-zeros : (n i : ℕ) → getD {A = ℕ} (replicate n 0) i 0 ≡ 0
 getD-zeros zero i = refl
 getD-zeros (suc n) zero = refl
 getD-zeros (suc n) (suc i) = getD-zeros n i
 
--- where a list ends, nothing is added
+-- nothing is added past the end of a list
 add-low : (t : List ℕ) (i n j : ℕ) → getD (addAt t i n) j 0 ≤ getD t j 0 + cond (eqb i j) n 0
 unfolding addAt
 add-low t i n j = go (ℕ-discrete i j) (decLt j (length t))
@@ -77,7 +77,7 @@ add-low t i n j = go (ℕ-discrete i j) (decLt j (length t))
     go (yes e) (no g) = rw (eq-eqb i j e, e, set-out t j (getD t j 0 + n) (omega arith)) (omega arith)
     go (no g) l = rw (ne-eqb i j g, getD-set-other t i j (getD t i 0 + n) 0 (λ e. g (sym e))) (omega arith)
 
--- n turns leave the places outside base .. base + n - 1
+-- n iterations leave the entries outside base .. base + n - 1
 turns-out : (t : List ℕ) (base : ℕ) (d : ℕ → ℕ) (n i : ℕ) → (base ≤ i → i < base + n → ⊥) → getD (addTurns t base d n) i 0 ≤ getD t i 0
 unfolding addTurns
 turns-out t base d zero i h = omega arith
@@ -87,7 +87,7 @@ turns-out t base d (suc n) i h =
     let e = ne-eqb (base + n) i (λ z. h (omega arith) (omega arith)) in
     omega (arith, rw e at a, b)
 
--- a place gets at most one of the turns
+-- an entry gets at most one of the iterations
 turns-one : (t : List ℕ) (base : ℕ) (d : ℕ → ℕ) (n D i : ℕ) → ((k : ℕ) → k < n → d k ≤ D) → getD (addTurns t base d n) i 0 ≤ getD t i 0 + D
 unfolding addTurns
 turns-one t base d zero D i h = omega arith
@@ -100,7 +100,7 @@ turns-one t base d (suc n) D i h = go (ℕ-discrete (base + n) i) (add-low (addT
 pub turns-low : (t : List ℕ) (base : ℕ) (d : ℕ → ℕ) (k D B : ℕ) → ((j : ℕ) → j < k → d j ≤ D) → ((i : ℕ) → getD t i 0 ≤ B) → (i : ℕ) → getD (addTurns t base d k) i 0 ≤ B + D
 turns-low t base d k D B h b i = omega (arith, turns-one t base d k D i h, b i)
 
--- twelve turns at 12 * u reach the places of u alone
+-- twelve iterations at 12 * u reach the entries of u alone
 twelve-low : (t : List ℕ) (u : ℕ) (d : ℕ → ℕ) (D i : ℕ) → ((k : ℕ) → k < 12 → d k ≤ D) → getD (addTurns t (12 * u) d 12) i 0 ≤ getD t i 0 + cond (eqb u (i / 12)) D 0
 twelve-low t u d D i h = go (ℕ-discrete u (i / 12))
   where
@@ -110,7 +110,7 @@ twelve-low t u d D i h = go (ℕ-discrete u (i / 12))
 
 -- ---- the blocks of a unit
 
--- a block's unit fixes the eighths of its row and its column
+-- a block's unit fixes its row / 8 and its column / 8
 unit-parts : (q : Picture) (by bx u : ℕ) → bx < blockCols q → unitAt q by bx ≡ u → (by / 8 ≡ u / unitCols q) × (bx / 8 ≡ u % unitCols q)
 unfolding unitAt
 unit-parts q by bx u h e =
@@ -153,7 +153,7 @@ module _ (q : Picture) (v : Visible) (dist : ℕ → ℕ → ℕ) (D : ℕ) (h :
       let b = row-low q u D m (blockCols q) (omega arith) in
       omega (arith, a, b, measure-rows-sum t m u (omega arith))
 
-  -- at every turn of the loops, each total is at most 64 * D
+  -- at every iteration of the loops, each total is at most 64 * D
   pub measure-low : (m n u : ℕ) → m < blockRows q → n ≤ blockCols q → getD (measureRow q v dist m (measureRows q v dist (replicate (units q) 0) m) n) u 0 ≤ 64 * D
   measure-low m n u hm hn =
       let a = measure-row-sum m (measureRows q v dist (replicate (units q) 0) m) n u hm hn in
@@ -161,7 +161,7 @@ module _ (q : Picture) (v : Visible) (dist : ℕ → ℕ → ℕ) (D : ℕ) (h :
       let c = measure-rows-sum (replicate (units q) 0) m u (omega arith) in
       omega (arith, a, b, c, getD-zeros (units q) u, eights-more m (u / unitCols q) (8 * D))
 
--- ---- trying: the place i of the totals belongs to the unit i / 12 and the trial i % 12
+-- ---- trying: entry i of the totals belongs to the unit i / 12 and the trial i % 12
 
 module _ (q : Picture) (v : Visible) (dist : ℕ → ℕ → ℕ → ℕ) (D : ℕ) (h : (by bx t : ℕ) → by < blockRows q → bx < blockCols q → counted q v by bx ≡ true → t < 12 → dist by bx t ≤ D) where
   try-row-sum : (by : ℕ) (z : List ℕ) (n i : ℕ) → by < blockRows q → n ≤ blockCols q → getD (tryRow q v dist by z n) i 0 ≤ getD z i 0 + sum n (λ bx. cond (eqb (unitAt q by bx) (i / 12)) D 0)

@@ -1,4 +1,4 @@
--- Laws of a trial block stored.
+-- Laws of storing a trial block.
 use mathlib.Core.Path.{_≡_, refl, sym, ap, _∙_}
 use mathlib.Core.List.{List}
 use Prim.Native.Nat.{ℕ, zero, suc, _+_, _*_, _/_, _%_, _≤_, _<_}
@@ -21,19 +21,19 @@ use Rattle.cdef_rows.specs.Sums.{priAt, secAt, lowAt, highAt, filteredAt}
 use Rattle.cdef_trial.specs.TrialLaws.{place-is}
 use Rattle.cdef_trial.specs.Trial.{placeOf, HeldTo, WithinTo, laid, seen, laidTap, freeTap, bothTap, centreTap, priTap, secTap, fullTap}
 
--- one place more
+-- one entry more
 pub laid-more : (d l v : List ℕ) (t w x c n : ℕ) → d ≡ putRow l 64 (laidTap v w) t x c → n ≡ getD v ((x + c) / w * 8 + (x + c) % w) 0 → set d (t * 64 + (x + c)) n ≡ putRow l 64 (laidTap v w) t x (c + 1)
 unfolding put laidTap orElse
 laid-more d l v t w x c n e f = rw (row-more l 64 (laidTap v w) t x c, ← e, f)
 
--- the same from the first place on, in rows of eight
+-- the same from the first entry on, in rows of eight
 pub laid-first : (d l v : List ℕ) (t c : ℕ) → d ≡ putRow l 64 (laidTap v 8) t 0 c → set d (t * 64 + c) (getD v c 0) ≡ putRow l 64 (laidTap v 8) t 0 (c + 1)
 laid-first d l v t c e =
     let z : 0 + c ≡ c = omega arith in
     let i : c / 8 * 8 + c % 8 ≡ c = omega arith in
     rw (z, i) at (laid-more d l v t 8 0 c (getD v ((0 + c) / 8 * 8 + (0 + c) % 8) 0) e refl)
 
--- places stored in a row, then those after them
+-- entries stored in a row, then those after them
 pub row-join : (d : List ℕ) (w : ℕ) (f : ℕ → ℕ → Tap) (r a n : ℕ) → putRow (putRow d w f r 0 a) w f r a n ≡ putRow d w f r 0 (a + n)
 unfolding putRow
 row-join d w f r a zero = let z : a + 0 ≡ a = omega arith in rw z
@@ -46,7 +46,7 @@ row-join d w f r a (suc n) =
 pub laid-at : (v : List ℕ) (w i j : ℕ) → j < w → getD v (i * 8 + j) 0 ≡ getD v ((i * w + j) / w * 8 + (i * w + j) % w) 0
 laid-at v w i j h = rw (digits-div i {m = w} {r = j} h, digits-mod i {m = w} {r = j} h)
 
--- row i of w places lies in the 64 of a trial block
+-- row i of w entries lies in the 64 of a trial block
 pub laid-low : (i w h : ℕ) → i < h → w ≤ 8 → h ≤ 8 → i * w + w ≤ 64
 laid-low i w h hi hw hh = let a : i + 1 ≤ 8 = omega arith in omega (arith, mul-le-mul a hw)
 
@@ -61,14 +61,14 @@ held-to l f n e b = record { all = λ k h. rw (taken-at l f n k 0 e h) (b k) }
 pub within-to : (l : List ℤ) (f : ℕ → ℤ) (n m : ℕ) → take n l ≡ upto f n → ((k : ℕ) → natAbs (f k) ≤ m) → WithinTo l m n
 within-to l f n m e b = record { all = λ k h. rw (taken-at l f n k (pos 0) e h) (b k) }
 
--- a place of the block lies in its h rows of eight
+-- an entry of the block lies in its h rows of eight
 laid-in : (w h c : ℕ) → w ≤ 8 → c < h * w → (laid w c < h * 8) × (placeOf (laid w c) ≡ seen w c)
 laid-in w h c hw hc =
     let r = row-of w h c (rw (mul-comm w h) hc) in
     let b : c % w < 8 = omega (arith, r .1) in
     (omega (arith, r .0, b), place-is (c / w) (c % w) b)
 
--- what a known array holds at a place of the block
+-- what a known array holds at an entry of the block
 known-at : {A : Type 0} (l : List A) (f : ℕ → A) (w h c : ℕ) (d : A) → w ≤ 8 → c < h * w → take (h * 8) l ≡ upto (λ (k : ℕ). f (placeOf k)) (h * 8) → getD l (laid w c) d ≡ f (seen w c)
 known-at l f w h c d hw hc e = let p = laid-in w h c hw hc in taken-at l (λ (k : ℕ). f (placeOf k)) (h * 8) (laid w c) d e (p .0) ∙ ap f (p .1)
 

@@ -25,7 +25,7 @@ use Rattle.cdef_kernel.specs.KernelLaws.{centre-sample, pri-sample, sec-sample,
 use Rattle.cdef_trial.specs.Trial.{centreTap, priTap, secTap, fullTap, priBy, secBy, trialTap}
 use Rattle.cdef_trial.specs.Strengths.{adjustedBy, twelveOf}
 
--- what a trial of the pair a, b filters with
+-- the filter parameters of a trial of the pair a, b
 abbrev tried : TrialWay → ℕ → ℕ → WorkingDamping → ℕ → ℕ → FilterParams
 tried way depth dir damping a b = record { pri = adjustedBy way (a << (depth - 8)); sec = b << (depth - 8); dir = cond (eqb a 0) 0 dir; damping = damping; depth = depth }
 

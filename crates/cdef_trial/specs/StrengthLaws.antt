@@ -1,4 +1,4 @@
--- Laws of what the trials are filtered with.
+-- Laws of the trials' filter parameters.
 use mathlib.Core.Path.{_≡_}
 use Prim.Native.Nat.{ℕ, _-_, _≤_, _<_, max}
 use native.Mathlib.Omega.{arith}
@@ -21,7 +21,7 @@ unfolding adjustedBy
 adjusted-low (Luma var) s = adjust-low s var
 adjusted-low Chroma s = omega arith
 
--- what the code puts together
+-- the parameters that the code puts together
 pub strengths-is : (way : TrialWay) (dir : ℕ) (damping : WorkingDamping) (depth d x1 x2 x3 a1 a2 a3 : ℕ) (z o : Taps) (p1 p2 p3 s1 s2 : Strength) → d ≡ max 1 (damping .0) → x1 ≡ 1 << (depth - 8) → x2 ≡ 2 << (depth - 8) → x3 ≡ 4 << (depth - 8)
     → a1 ≡ adjustedBy way x1 → a2 ≡ adjustedBy way x2 → a3 ≡ adjustedBy way x3 → z ≡ tapsOf 0 → o ≡ tapsOf dir
     → p1 ≡ priOf a1 d depth → p2 ≡ priOf a2 d depth → p3 ≡ priOf a3 d depth → s1 ≡ secOf x1 d → s2 ≡ secOf x2 d

@@ -1,4 +1,4 @@
--- What the twelve trials are filtered with, as the code has it. Definitions only.
+-- The filter parameters of the twelve trials, in the code's form. Definitions only.
 use Prim.Native.Nat.{ℕ, _-_, max}
 use Rattle.cdef_spec.specs.declared.TrialWay.{TrialWay}
 use Rattle.cdef_spec.specs.declared.TrialWay.the-variants.{Luma, Chroma}
@@ -8,7 +8,7 @@ use Rattle.cdef_spec.specs.Standard.{adjustPri}
 use Rattle.cdef_kernel.specs.Kernel.{tapsOf, priOf, secOf}
 use Rattle.cdef_trial.specs.declared.Twelve.{Twelve}
 
--- a primary strength in each way of asking
+-- a primary strength, adjusted in luma and unchanged in chroma
 unfoldable pub adjustedBy : TrialWay → ℕ → ℕ
 adjustedBy (Luma var) s = adjustPri s var
 adjustedBy Chroma s = s

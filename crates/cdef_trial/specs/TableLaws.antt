@@ -1,4 +1,4 @@
--- The twelve trial blocks that are stored one after the other are the reader's table of 768 places.
+-- The twelve trial blocks, stored one after the other, equal the definition's table of 768 entries.
 use mathlib.Core.Path.{_≡_, refl, sym, ap, _∙_}
 use mathlib.Core.Bool.{Bool, true, false, cond}
 use mathlib.Core.List.{List}
@@ -42,7 +42,7 @@ module _ (p : Plane) (b : Block) (way : TrialWay) (dir : ℕ) (damping : Working
   turned : b .width * b .height ≡ n
   turned = mul-comm (b .width) (b .height)
 
-  -- place c of trial t
+  -- entry c of trial t
   at-place : (t c : ℕ) → t < 12 → c < 64 → (s : Bool) → ltb c (b .width * b .height) ≡ s
       → getD stored (t * 64 + c) 0 ≡ cond s (orElse mark (filtered p (trialParams way depth dir damping t) (b .y + c / b .width) (b .x + c % b .width))) (getD d (t * 64 + c) 0)
   unfolding stored orElse

@@ -1,4 +1,4 @@
--- The trial as the code makes it: twelve trial blocks from shared sums. Definitions only.
+-- The trial in the code's form: twelve trial blocks from shared sums. Definitions only.
 use mathlib.Core.Bool.{cond}
 use mathlib.Core.List.{List}
 use Prim.Native.Nat.{ℕ, _+_, _*_, _/_, _%_, _≤_, _<_}
@@ -18,7 +18,7 @@ use Rattle.cdef_trial.specs.declared.PriSums.{PriSums}
 use Rattle.cdef_trial.specs.declared.SecSums.{SecSums}
 use Rattle.cdef_trial.specs.declared.Limits.{Limits}
 
--- place k of a block in rows of eight, in the window
+-- entry k of a block in rows of eight, as an index of the window
 unfoldable pub placeOf : ℕ → ℕ
 placeOf k = (k / 8 + 2) * 12 + 2 + k % 8
 
@@ -29,7 +29,7 @@ pub record HeldTo (l : List ℕ) (n : ℕ) : Type 0 where
 pub record WithinTo (l : List ℤ) (m n : ℕ) : Type 0 where
   pub all : (k : ℕ) → k < n → natAbs (getD l k (pos 0)) ≤ m
 
--- ---- place c of a trial block w wide
+-- ---- entry c of a trial block w wide
 
 -- in rows of eight, and in the window
 abbrev pub laid : ℕ → ℕ → ℕ
@@ -38,7 +38,7 @@ laid w c = c / w * 8 + c % w
 abbrev pub seen : ℕ → ℕ → ℕ
 seen w c = (c / w + 2) * 12 + 2 + c % w
 
--- as it is handed over
+-- from samples that are passed in
 unfoldable pub laidTap : List ℕ → ℕ → ℕ → ℕ → Tap
 laidTap v w t c = sample (getD v (laid w c) 0)
 
@@ -76,7 +76,7 @@ trialTap win u w t c =
     (cond (eqb (t / 4) 0) (centreTap win w t c) (secTap win (u .zero) (secBy u (t / 4)) w t c))
     (cond (eqb (t / 4) 0) (priTap win (u .own) (priBy u (t % 4)) w t c) (fullTap win (u .own) (priBy u (t % 4)) (secBy u (t / 4)) w t c))
 
--- what the twelve are filtered with lies in range
+-- the parameters of the twelve lie in range
 pub record Ready (u : Twelve) : Type 0 where
   pub zero : Near6 (u .zero)
   pub own : Near6 (u .own)
@@ -114,18 +114,18 @@ pub record PriWithin (p : PriSums) (n : ℕ) : Type 0 where
   pub p2 : WithinTo (p .p2) 3840 n
   pub p3 : WithinTo (p .p3) 3840 n
 
--- the trials 0 to 3, n places each: as they stand, then by each of the three sums alone
+-- the trials 0 to 3, n entries each: unfiltered, then by each of the three sums alone
 abbrev pub firstLaid : List ℕ → List ℕ → PriSums → ℕ → ℕ → List ℕ
 firstLaid d c p w n = putRow (putRow (putRow (putRow d 64 (laidTap c w) 0 0 n) 64 (freeTap c (p .p1) w) 1 0 n) 64 (freeTap c (p .p2) w) 2 0 n) 64 (freeTap c (p .p3) w) 3 0 n
 
--- four trials, from trial t on, n places each: by a sum z alone, then by s with each of the three
+-- four trials, from trial t on, n entries each: by a sum z alone, then by s with each of the three
 abbrev pub fourLaid : List ℕ → List ℕ → List ℤ → List ℤ → PriSums → List ℕ → List ℕ → ℕ → ℕ → ℕ → List ℕ
 fourLaid d c z s p lo hi t w n =
     putRow (putRow (putRow (putRow d 64 (freeTap c z w) t 0 n) 64 (bothTap c (p .p1) s lo hi w) (t + 1) 0 n)
     64 (bothTap c (p .p2) s lo hi w) (t + 2) 0 n)
     64 (bothTap c (p .p3) s lo hi w) (t + 3) 0 n
 
--- the four trials of a secondary strength g, from trial t on, n places each
+-- the four trials of a secondary strength g, from trial t on, n entries each
 abbrev pub fourPut : List ℕ → List ℕ → Twelve → Strength → ℕ → ℕ → ℕ → List ℕ
 fourPut d win u g t w n =
     putRow (putRow (putRow (putRow d 64 (secTap win (u .zero) g w) t 0 n) 64 (fullTap win (u .own) (u .p1) g w) (t + 1) 0 n)

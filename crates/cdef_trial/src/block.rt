@@ -34,7 +34,7 @@ pub fn trial_window(
     crate::candidates(out, b.width, b.height, win, u);
 }
 
-// Twelve trial blocks of 64 places of a block of the plane src, w by h.
+// Twelve trial blocks of 64 entries of a block of the plane src, w by h.
 pub fn cdef_block_candidates(
     out: &mut [u16],
     src: &[u16],

@@ -1,4 +1,4 @@
-// Filtered samples from sums, n of the 64 places of a block.
+// Filtered samples from sums, n of the 64 entries of a block.
 ghost use mathlib.Core.Path.{_≡_};
 ghost use Prim.Native.Nat.{_≤_};
 ghost use lib.IntN.{pos, _+ℤ_};

@@ -1,8 +1,8 @@
 // The trial of a block: twelve pairs of strengths, from shared sums.
 pub mod block; // block.rt: the trial of a block of a plane
 pub mod finish; // finish.rt: filtered samples from sums
-pub mod put; // put.rt: a trial block stored
-pub mod strengths; // strengths.rt: what the twelve are filtered with
+pub mod put; // put.rt: storing a trial block
+pub mod strengths; // strengths.rt: the filter parameters of the twelve
 pub mod sums; // sums.rt: sums, least and largest taps of a block
 
 ghost use mathlib.Core.Path.{_≡_};
@@ -14,7 +14,7 @@ ghost use Rattle.cdef_trial.specs.Trial.{trialTap, firstLaid, fourLaid, 
 use cdef_rows::Strength;
 use cdef_rows::Taps;
 
-// What the twelve are filtered with: the taps of direction 0, where the signalled primary is 0, those of the block's own,
+// The filter parameters of the twelve: the taps of direction 0, used where the signalled primary is 0, those of the block's own direction,
 // three primary strengths and two secondary ones. The fourth primary and the third secondary are 0.
 pub struct Twelve {
     pub zero: Taps,
@@ -45,7 +45,7 @@ pub struct Limits {
     pub hi: [u16; 64],
 }
 
-// The four trials without a secondary strength: the samples as they stand, then by each of the three primary sums.
+// The four trials without a secondary strength: the samples unfiltered, then by each of the three primary sums.
 fn first_four(out: &mut [u16], w: usize, h: usize, c: &[u16; 64], p: PriSums)
     requires { ⌜ (length (now out) ≡ 768) × (w ≤ 8) × (h ≤ 8) × HeldTo (now c) (h * 8) × PriWithin p (h * 8) ⌝ }
     ensures { λ _. ⌜ now (out .exit) ≡ firstLaid (now (out .entry)) (now (c .entry)) p w (h * w) ⌝ }

@@ -1,4 +1,4 @@
-// A trial block stored: its own width is its row pitch.
+// Storing a trial block: its own width is its row pitch.
 ghost use mathlib.Core.Path.{_≡_};
 ghost use Prim.Native.Nat.{_+_, _*_, _≤_, _<_};
 ghost use lib.ListN.{length};
@@ -6,7 +6,7 @@ ghost use Rattle.cdef_spec.specs.LoopForm.{putRow};
 ghost use Rattle.cdef_trial.specs.Trial.{HeldTo, WithinTo, laidTap, freeTap, bothTap};
 use crate::finish;
 
-// Rows of eight: n places in a row.
+// Rows of eight: n entries in a row.
 fn put_whole(out: &mut [u16], t: usize, n: usize, v: &[u16; 64])
     requires { ⌜ (length (now out) ≡ 768) × (t < 12) × (n ≤ 64) ⌝ }
     ensures { λ _. ⌜ now (out .exit) ≡ putRow (now (out .entry)) 64 (laidTap (now (v .entry)) 8) t 0 n ⌝ }
@@ -17,7 +17,7 @@ fn put_whole(out: &mut [u16], t: usize, n: usize, v: &[u16; 64])
     }
 }
 
-// Rows of w places.
+// Rows of w entries.
 fn put_cut(out: &mut [u16], t: usize, w: usize, h: usize, v: &[u16; 64])
     requires { ⌜ (length (now out) ≡ 768) × (t < 12) × (w ≤ 8) × (h ≤ 8) ⌝ }
     ensures { λ _. ⌜ now (out .exit) ≡ putRow (now (out .entry)) 64 (laidTap (now (v .entry)) w) t 0 (h * w) ⌝ }

@@ -1,4 +1,4 @@
-// What the twelve trials are filtered with.
+// The filter parameters of the twelve trials.
 ghost use mathlib.Core.Path.{_≡_};
 ghost use Prim.Native.Nat.{_≤_, _<_};
 ghost use Rattle.cdef_trial.specs.Strengths.{adjustedBy, twelveOf};
@@ -6,7 +6,7 @@ use crate::Twelve;
 use cdef_spec::TrialWay;
 use cdef_spec::WorkingDamping;
 
-// A primary strength, adjusted by the variance in the luma way.
+// A primary strength, in luma adjusted by the variance.
 fn adjusted(way: TrialWay, s: u32) -> u32
     requires { ⌜ s ≤ 240 ⌝ }
     ensures { λ r. ⌜ r ≡ adjustedBy way s ⌝ }

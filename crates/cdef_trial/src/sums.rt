@@ -1,4 +1,4 @@
-// Sums, least and largest taps of the first rows of a block, eight places a row. Sums of the same taps are made in one loop.
+// Sums, least and largest taps of the first rows of a block, eight entries per row. Sums of the same taps are computed in one loop.
 ghost use mathlib.Core.Path.{_≡_};
 ghost use Prim.Native.Nat.{_*_, _≤_};
 ghost use lib.ListN.{getD, take};

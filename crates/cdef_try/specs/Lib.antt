@@ -1,4 +1,4 @@
--- Words of the contracts.
+-- Terms of the contracts.
 pub mod Totals
 pub mod Trying
 -- Laws of the totals, and of the trial blocks' distances.

@@ -1,4 +1,4 @@
--- The trial blocks of a block hold the filtered samples, and their distances are those that the totals take.
+-- The trial blocks of a block hold the filtered samples, and their distances are those that the totals add up.
 use mathlib.Core.Path.{_≡_, refl, ap, _∙_}
 use mathlib.Core.Bool.{cond}
 use mathlib.Core.List.{List}
@@ -44,7 +44,7 @@ unfolding dampingOf lumaDamping chromaDamping
 damping-low (luma vars) d depth i h = omega (arith, i .most)
 damping-low (chroma sx sy) d depth i h = omega (arith, i .most)
 
--- ---- as the code comes by them
+-- ---- as the code computes them
 
 pub block-parts : (q : Picture) (by bx : ℕ) (b : Block) → b ≡ blockOf q by bx → (b .x ≡ bx * blockWidth q) × (b .y ≡ by * blockHeight q) × (b .width ≡ blockWidth q)
 unfolding blockOf
@@ -155,7 +155,7 @@ module _ (f : Frame) (h : Shaped f) (skip dirs vars : List ℕ) (by bx : ℕ) (h
       unfolding triedDistance blockDistance visiblePart kindOf pictureOf
       back t = refl
 
-      -- the code's distance is the one that the totals take
+      -- the code's distance is the one that the totals add up
       pub distance-is : (t : ℕ) → t < 12
           → trialDistances (f .luma) (constantsOf (f .depth)) (visiblePart q v by bx .height) (visiblePart q v by bx .width) original (visiblePart q v by bx .y * planeWidth q + visiblePart q v by bx .x) (planeWidth q) (trialBlocks q d snapshot by bx out) (blockWidth q) t ≡ triedDistance q d v snapshot original by bx t
       unfolding trialDistances

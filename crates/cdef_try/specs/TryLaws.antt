@@ -68,7 +68,7 @@ module _ (q : Picture) (d : SignalledDamping) (v : Visible) (snapshot original :
   unfolding triedRows
   rows-none n e = rw (e, try-rows-none q v (triedDistance q d v snapshot original) (replicate (12 * units q) 0)) (signed-zeros (12 * units q))
 
-  -- to the totals of document 01
+  -- to the totals of RULES, Frame
   pub rows-all : (m : ℕ) → m ≡ blockRows q → signed (triedRows q d v snapshot original m) ≡ table (12 * units q) (λ k. pos (triedTotal q d v snapshot original (k / 12) (k % 12)))
   unfolding triedRows triedTotal triedDistance
   rows-all m e = rw e (ap signed (try-is q v (triedDistance q d v snapshot original)) ∙ signed-table (12 * units q) _)
@@ -101,7 +101,7 @@ module _ (f : Frame) (v : Visible) (d : SignalledDamping) (snapshot original ski
   unfolding triedBlocks triedRows
   low m n hm hn = low-signed _ (λ i. try-low q v (triedDistance q d v snapshot original) (2 ^ 53) each m n i (unfold pictureOf in hm) (unfold pictureOf in hn))
 
-  -- what geometry asks
+  -- what the geometry requires
   pub asked : (m n : ℕ) → m < f .height / 8 → n < f .width / 8 → (v .width ≤ 4096) × (v .height ≤ 4096) × (m ≤ 512) × (n ≤ 512) × (m * (f .width / 8) + n < length skip)
   asked m n hm hn =
       let c = counts-low f (r .shaped) skip dirs vars m n hm hn in
@@ -122,7 +122,7 @@ module _ (f : Frame) (v : Visible) (d : SignalledDamping) (snapshot original ski
       let b : n / 8 < (f .width + 63) / 64 = omega arith in
       omega (arith, digits-lt {q = m / 8} {m = (f .height + 63) / 64} {r = n / 8} {c = (f .width + 63) / 64} a b)
 
-  -- what a counted block leaves, as the code comes by it
+  -- what a counted block leaves, as the code computes it
   pub added : (m n : ℕ) → m < f .height / 8 → n < f .width / 8 → counted q v m n ≡ true → (l : List ℤ) → l ≡ signed (triedBlocks q d v snapshot original m n)
       → (base w step : ℕ) (p : Block) (c : DistanceConstants) (blocks out : List ℕ) → base ≡ 12 * unitAt q m n → w ≡ planeWidth q → step ≡ blockWidth q → p ≡ visiblePart q v m n → c ≡ constantsOf (f .depth) → blocks ≡ trialBlocks q d snapshot m n out
       → signed (addTurns (plainOf l) base (trialDistances (f .luma) c (p .height) (p .width) original (p .y * w + p .x) w blocks step) 12) ≡ signed (triedBlocks q d v snapshot original m (n + 1))

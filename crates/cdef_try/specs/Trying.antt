@@ -1,4 +1,4 @@
--- Words of trying: what it is lent, the trial blocks, the distances, and the totals block by block. Definitions only.
+-- Terms of trying: what is passed to it, the trial blocks, the distances, and the totals block by block. Definitions only.
 use mathlib.Core.List.{List}
 use Prim.Native.Nat.{ℕ, _-_, _*_, min}
 use lib.ListN.{replicate}
@@ -23,7 +23,7 @@ pub record Ready (f : Frame) (v : Visible) (d : SignalledDamping) (snapshot orig
   pub seen : Seen f v
   pub force : InForce d
 
--- the twelve trial blocks of a block, 64 places each
+-- the twelve trial blocks of a block, 64 entries each
 unfoldable pub trialBlocks : Picture → SignalledDamping → List ℕ → ℕ → ℕ → List ℕ → List ℕ
 trialBlocks q d snapshot by bx out = table 768 (trialPlace (planeOf q snapshot) (blockOf q by bx) (wayOf (q .kind) (blockAt q by bx)) (dirOf (q .kind) (q .dirs) (blockAt q by bx)) (dampingOf (q .kind) d (q .depth)) (q .depth) out)
 

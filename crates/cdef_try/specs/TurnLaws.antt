@@ -26,7 +26,7 @@ low-signed t h = record { is = rw (plain-signed t); each = λ i. rw (plain-signe
 
 -- ---- additions
 
--- a sum of two small numbers, as the code makes it
+-- a sum of two small numbers, as the code computes it
 pub sum-fits : (z : ℤ) (m n : ℕ) → z ≡ pos m → m ≤ 65 * 2 ^ 53 → n < 2 ^ 53 → SFits w64 (toZ w64 (ofZ w64 z) +ℤ toZ w64 n)
 sum-fits z m n e h k = rw (e, toZ-ofZ w64 (pos m) (record { sfits = omega arith }), toZ-pos w64 n (omega arith)) (record { sfits = omega arith })
 

@@ -35,7 +35,7 @@ module _ (s : List ℕ) (from : ℕ) where
     pub row-low : (k : ℕ) → k < 64 → getD s (from + k) 0 < 4096
     row-low k h = lt-of-lt-of-le (rw (in-row k h) (block-below s from 8 (2 ^ depth) w .each k h)) (pow-mono {i = depth} {j = 12} flat)
 
-  -- the sums, as the code comes by them
+  -- the sums, as the code computes them
   module _ (a : List ℕ) (ss sd ss2 sd2 ssd : ℕ) (e : ss ≡ sum 64 (λ k. getD a k 0)) (f : sd ≡ sum 64 (λ k. getD s (from + k) 0)) (g : ss2 ≡ sum 64 (λ k. getD a k 0 * getD a k 0))
       (i : sd2 ≡ sum 64 (λ k. getD s (from + k) 0 * getD s (from + k) 0)) (j : ssd ≡ sum 64 (λ k. getD a k 0 * getD s (from + k) 0)) where
     own : sd ≡ sum 64 (λ k. getD (blockOf s from 8) k 0)
@@ -56,7 +56,7 @@ module _ (s : List ℕ) (from : ℕ) where
         let k = weighted-64 c a (blockOf s from 8) ss sd ss2 sd2 ssd r e own g squares products l in
         (k ∙ weighted-same c (cell a) (cell a) _ _ (λ m n hm hn. refl) (block-cell s from 8), rw k (weighted-64-low c depth a (blockOf s from 8) o b (block-below s from 8 (2 ^ depth) w)))
 
--- ---- the totals take the same, whole block or not
+-- ---- the totals add up the same, whole block or not
 
 pub whole-turns : (l : List ℕ) (base : ℕ) (c : DistanceConstants) (rows cols : ℕ) (original a : List ℕ) (start pitch : ℕ) (blocks : List ℕ) (step : ℕ) → rows ≡ 8 → cols ≡ 8 → step ≡ 8 → a ≡ blockOf original start pitch
     → addTurns l base (wholeDistances c a blocks) 12 ≡ addTurns l base (trialDistances true c rows cols original start pitch blocks step) 12

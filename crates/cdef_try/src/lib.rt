@@ -1,4 +1,4 @@
-// Trying: for each unit of a plane, the twelve totals of distances between the original and the trial blocks of the snapshot.
+// Trying: per unit of a plane, the twelve totals of distances between the original and the trial blocks of the snapshot.
 ghost use mathlib.Core.Path.{_≡_};
 ghost use Prim.Native.Nat.{_+_, _*_, _/_, _%_, _<_};
 ghost use lib.IntN.{pos};

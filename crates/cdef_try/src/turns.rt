@@ -44,7 +44,7 @@ fn add_cut(
     }
 }
 
-// Adds to twelve totals, from `base` on, the distances between a block of the original and the trial blocks. A whole luma block's own sums are taken once.
+// Adds to twelve totals, from `base` on, the distances between a block of the original and the trial blocks. A whole luma block's own sums are computed once.
 pub fn add_trials(
     totals: &mut [i64],
     base: usize,

@@ -1,4 +1,4 @@
-// Whole luma blocks: the weighted distances of twelve trial blocks, with the original's own sums taken once.
+// Whole luma blocks: the weighted distances of twelve trial blocks, with the original's own sums computed once.
 ghost use mathlib.Core.Path.{_≡_};
 ghost use Prim.Native.Nat.{ℕ, _+_, _*_, _^_, _≤_, _<_};
 ghost use lib.ListN.{getD, length};
@@ -16,7 +16,7 @@ pub struct Sums {
     pub products: u32,
 }
 
-// Of the 64 samples from `from` on, with those of an original. The remainders change nothing; by them the compiler sees that each number is small.
+// Of the 64 samples from `from` on, with those of an original. The remainders change nothing; from them the compiler sees that each number is small.
 fn sums_at(a: &[u16; 64], s: &[u16], from: usize) -> Sums
     requires { ⌜ Below (now a) 4096 × (from + 64 ≤ length (now s)) × ((k : ℕ) → k < 64 → getD (now s) (from + k) 0 < 4096) ⌝ }
     ensures { λ r. ⌜ (r .own ≡ sum 64 (λ k. getD (now (s .entry)) (from + k) 0)) × (r .squares ≡ sum 64 (λ k. getD (now (s .entry)) (from + k) 0 * getD (now (s .entry)) (from + k) 0)) × (r .products ≡ sum 64 (λ k. getD (now (a .entry)) k 0 * getD (now (s .entry)) (from + k) 0)) ⌝ }

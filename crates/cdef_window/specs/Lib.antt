@@ -1,4 +1,4 @@
--- The window, what its functions are handed, and its laws.
+-- The window, what its functions receive, and its laws.
 pub mod Window
 pub mod Spans
 pub mod WindowLaws

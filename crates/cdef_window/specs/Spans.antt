@@ -1,4 +1,4 @@
--- What the window's functions are handed: a block that lies in its plane, and the rows or columns that are looked at. Definitions only.
+-- What the window's functions receive: a block that lies in its plane, and the rows or columns that are examined. Definitions only.
 use mathlib.Core.Path.{_≡_}
 use mathlib.Core.List.{List}
 use Prim.Native.Nat.{ℕ, _+_, _-_, _*_, _≤_, _<_, min}

@@ -8,10 +8,10 @@ use Rattle.cdef_spec.specs.declared.Block.{Block}
 use Rattle.cdef_spec.specs.Document01.{Plane}
 use Rattle.cdef_spec.specs.CodeForm.{sampleAt}
 
--- the plane that a call is lent
+-- the plane that a call receives
 abbrev pub planeOf : List ℕ → ℕ → ℕ → Plane
 planeOf s w h = record { samples = s; width = w; height = h }
 
--- entry k: row k / 12 and column k % 12. A sample that is looked at (the block widened by 2, cut to the plane), or the mark
+-- entry k: row k / 12 and column k % 12. An examined sample (the block widened by 2, cropped to the plane), or the mark
 unfoldable pub windowAt : Plane → Block → ℕ → ℕ
 windowAt p b k = cond (ltb (k / 12) (b .height + 4) && ltb (k % 12) (b .width + 4)) (sampleAt p (b .y + k / 12) (b .x + k % 12)) 16384

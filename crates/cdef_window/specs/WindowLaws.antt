@@ -62,7 +62,7 @@ module _ (p : Plane) (r c : ℕ) where
   unfolding sampleAt
   sample-in h g k l = rw (le-leb 2 r h, lt-ltb r (p .height + 2) g, le-leb 2 c k, lt-ltb c (p .width + 2) l)
 
--- ---- by the rows and columns that are looked at
+-- ---- by the rows and columns that are examined
 
 module _ (s : List ℕ) (w h : ℕ) (b : Block) (i j : ℕ) (hj : j < 12) where
   -- where there is no sample, the mark

@@ -1,4 +1,4 @@
-// The 12 by 12 samples round a block: those looked at, and 16384 elsewhere.
+// The 12 by 12 samples around a block: those examined, and 16384 elsewhere.
 ghost use mathlib.Core.Path.{_≡_};
 ghost use mathlib.Core.Bool.{true};
 ghost use Prim.Native.Nat.{ℕ, _+_, _-_, _*_, _^_, _≤_, _<_, min};
@@ -11,7 +11,7 @@ ghost use Rattle.cdef_window.specs.Window.{planeOf, windowAt};
 ghost use Rattle.cdef_window.specs.Spans.{SpanOf, InPlane};
 use cdef_spec::Block;
 
-// The window's rows or columns that are looked at: from lo on, below hi.
+// The window's rows or columns that are examined: from lo on, below hi.
 pub struct Span {
     pub lo: usize,
     pub hi: usize,
@@ -28,7 +28,7 @@ fn looked_at(at: usize, n: usize, m: usize) -> Span
     Span { lo, hi }
 }
 
-// Entry (i, j) of the window of a block; h is the plane's height, r and c are the rows and columns looked at.
+// Entry (i, j) of the window of a block; h is the plane's height, r and c are the examined rows and columns.
 fn entry(src: &[u16], w: usize, h: usize, b: Block, r: Span, c: Span, i: usize, j: usize) -> u16
     requires { ⌜ InPlane (now src) w h b ⌝ }
     requires { ⌜ SpanOf (b .y) (b .height) h r × SpanOf (b .x) (b .width) w c × (i < 12) × (j < 12) ⌝ }

@@ -1,2 +1,2 @@
--- The worked lines marked P (RULES, Worked lines): one list, one claim over it.
+-- The lines marked P of RULES, Worked lines: one list, one claim over it.
 pub mod Worked

@@ -1,1 +1,1 @@
-// Nothing but specs: document 01's lines marked P, computed from the definitions.
+// Specs only: the lines marked P of RULES, Worked lines, computed from the definitions.

@@ -16,7 +16,7 @@ use borrow.Author.Needs.{needs}
 use Rattle.cdef_cut.proofs.distance_cut.Statement.{statement}
 use Rattle.cdef_cut.proofs.distance_cut.Tie as tie
 
--- no side is cut
+-- no side is cropped
 whole : (c : tie.Then2) → let a = c .before .before .before .before .args in (a .rows ≡ 8) × (a .cols ≡ 8)
 whole c = let p = c .before .before .before .before .pre .0 in (omega (arith, c .if2 .taken, p .0, p .1), omega (arith, c .if2 .taken, p .0, p .1))
 
@@ -32,7 +32,7 @@ other-in c = eight _ _ _ _ _ _ (whole c) (c .before .before .before .before .pre
 low : (s : tie.Start) → let a = s .args in cutDistance (a .luma) (a .c) (a .rows) (a .cols) (at (a .original .now) (a .at) (a .pitch)) (at (a .other .now) (a .from) (a .step)) < 2 ^ 53
 low s = let p = s .pre .1 in cut-within _ _ (p .0) _ _ _ _ _ _ _ _ (s .pre .0 .0) (s .pre .0 .1) (p .1) (p .2) (p .3)
 
--- where squares are taken
+-- where plain squares are used
 plain : (c : tie.Joined1) → let a = c .before .before .before .args in cutDistance (a .luma) (a .c) (a .rows) (a .cols) (at (a .original .now) (a .at) (a .pitch)) (at (a .other .now) (a .from) (a .step)) ≡ squares (a .rows) (a .cols) (at (a .original .now) (a .at) (a .pitch)) (at (a .other .now) (a .from) (a .step))
 plain c = ⊎-elim (λ w. cut-part _ _ _ _ _ (λ e f. w .1 .left (omega (arith, e, f))) _) (λ w. rw (w .left) (cut-chroma _ _ _ _ _)) (c .if1 .came)
 

@@ -11,7 +11,7 @@ use borrow.Author.Needs.{needs}
 use Rattle.cdef_direction.proofs.cdef_direction.Statement.{statement}
 use Rattle.cdef_direction.proofs.cdef_direction.Tie as tie
 
--- the samples taken
+-- the input samples
 abbrev input : tie.Start → ℕ → ℕ → ℤ
 input s = directionInput (record { samples = s .args .plane .now; width = s .args .width; height = s .args .height }) (s .args .depth) (s .args .y) (s .args .x)
 

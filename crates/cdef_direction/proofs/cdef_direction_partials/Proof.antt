@@ -10,7 +10,7 @@ use borrow.Author.Needs.{needs}
 use Rattle.cdef_direction.proofs.cdef_direction_partials.Statement.{statement}
 use Rattle.cdef_direction.proofs.cdef_direction_partials.Tie as tie
 
--- the samples taken
+-- the input samples
 abbrev input : tie.Start → ℕ → ℕ → ℤ
 input s = directionInput (record { samples = s .args .plane .now; width = s .args .width; height = s .args .height }) (s .args .depth) (s .args .y) (s .args .x)
 

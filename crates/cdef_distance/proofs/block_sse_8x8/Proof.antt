@@ -19,7 +19,7 @@ orig-in s = let a = s .args in let p = s .pre .1 in lower _ _ _ _ _ (p .1 .0) (p
 other-in : (s : tie.Start) → let a = s .args in Within (a .other .now) (a .y * a .width + a .x) (a .width) (min 8 (a .height - a .y)) (min 8 (a .width - a .x)) 4096
 other-in s = let a = s .args in let p = s .pre .1 in lower _ _ _ _ _ (p .1 .0) (p .1 .1) (cut-within (a .other .now) (a .width) (a .height) (p .1 .0) (a .y) (a .x) (s .pre .0 .1) (p .0 .2) (p .0 .3) (p .1 .3))
 
--- no side is cut
+-- no side is cropped
 whole : (c : tie.Else1) → let a = c .before .before .before .before .before .args in (a .x + 8 ≤ a .width) × (a .y + 8 ≤ a .height)
 whole c = (omega (arith, c .before .before .lesser .ensures, c .before .lesser2 .ensures), omega (arith, c .before .before .lesser .ensures, c .before .lesser2 .ensures))
 

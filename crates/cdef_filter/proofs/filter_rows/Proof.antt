@@ -26,7 +26,7 @@ Inv-loop dst₀ w y x rows cols win t f g i₀ dst i = (dst ≡ putBlock dst₀ 
 abbrev μ-loop : tie.MeasureT-loop
 μ-loop dst₀ w y x rows cols win t f g i₀ dst i = rows - i
 
--- a turn's row
+-- an iteration's row
 turn : (l d last : List ℕ) (m : ℕ) (w : List ℕ) (t : Taps) (f g : Strength) (y x i n : ℕ) (r : List ℕ) → n ≤ 8 → r ≡ upto (λ (j : ℕ). kernelAt w ((i + 2) * 12 + 2 + j) t f g) 8 → d ≡ putBlock l m (windowTap w t f g y x) y x n i → last ≡ putRow d m (rowTap r x) (y + i) x n → last ≡ putBlock l m (windowTap w t f g y x) y x n (i + 1)
 turn l d last m w t f g y x i n r hn k e h = h ∙ stored-row d m w t f g y x i n hn r k ∙ rw (block-more l m (windowTap w t f g y x) y x n i, e)
 

@@ -25,7 +25,7 @@ on : (p v l : ℕ) → (v ≡ 0 → ⊥) → l ≡ min (FloorLog2 (v / 64)) 12 �
 unfolding adjustPri
 on p v l h e = rw (ne-eqb v 0 h, held (v / 64), ← e)
 
--- where the branch's two ways meet
+-- where the two branches join
 l-is : (c : tie.Joined2) → c .if2 .l ≡ min (FloorLog2 (c .before .before .before .args .var / 64)) 12
 l-is c = ⊎-elim (λ w. omega (arith, w .0 .taken, w .1, c .before .log2-floor .ensures)) (λ w. omega (arith, w .0 .left, w .1, c .before .log2-floor .ensures)) (c .if2 .came)
 

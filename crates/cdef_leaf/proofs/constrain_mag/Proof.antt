@@ -14,7 +14,7 @@ use Rattle.cdef_leaf.proofs.constrain_mag.Tie as tie
 core : (a s d sh : ℕ) → (s ≡ 0 → ⊥) → sh ≡ d - FloorLog2 s → constrainMag a s d ≡ min a (s - a / 2 ^ sh)
 core a s d sh h e = rw e (constrainMag-on a s d h)
 
--- where the branch's two ways meet
+-- where the two branches join
 shift-is : (c : tie.Joined2) → let a = c .before .before .before .args in c .if2 .shift ≡ a .damping - FloorLog2 (a .strength)
 shift-is c = ⊎-elim (λ w. w .1 ∙ rw (c .before .log2-floor .ensures)) (λ w. omega (arith, w .0 .left, w .1, c .before .log2-floor .ensures)) (c .if2 .came)
 

@@ -15,7 +15,7 @@ use Rattle.cdef_spec.specs.SignedLaws.{fits, back, minus-fits, minus-back, is-n
 use Rattle.cdef_leaf.proofs.constrain_spec.Statement.{statement}
 use Rattle.cdef_leaf.proofs.constrain_spec.Tie as tie
 
--- in the arm of a negative difference: it is, and what is passed on is its size
+-- in the branch of a negative difference: it is negative, and its magnitude is passed on
 negative : (c : tie.Then1) → c .before .before .args .diff ≡ negsuc (mag (c .before .before .args .diff))
 negative c = is-neg w32 (c .before .before .args .diff) (c .before .before .fits .diff) (c .if1 .taken)
 
@@ -25,7 +25,7 @@ turned c = minus-back w32 (c .before .before .args .diff) (omega (arith, c .befo
 positive : (c : tie.Else1) → c .before .before .args .diff ≡ pos (mag (c .before .before .args .diff))
 positive c = is-pos w32 (c .before .before .args .diff) (c .before .before .fits .diff) (c .if1 .left)
 
--- what each call gives, and its bound
+-- what each call returns, and its bound
 result-is : (c : tie.After-constrain-mag) → let a = c .before .before .before .args in c .constrain-mag .result ≡ constrainMag (suc (mag (a .diff))) (a .strength) (a .damping .0)
 result-is c = c .constrain-mag .ensures ∙ rw (turned (c .before))
 

@@ -25,7 +25,7 @@ Inv-loop totals₀ scratch₀ plane original f v skip dirs vars p d c by₀ by-e
 abbrev μ-loop : tie.MeasureT-loop
 μ-loop totals₀ scratch₀ plane original f v skip dirs vars p d c by₀ by-end totals scratch by = by-end - by
 
--- what the calls are lent
+-- what is passed to the calls
 lent : (s : tie.Start Inv-loop μ-loop) → let a = s .args in Lent (a .f) (a .v) (a .plane .now) (a .original .now) (a .skip .now) (a .dirs .now) (a .vars .now) (a .p) (a .d)
 lent s = let k = s .pre .0 in record { shaped = k .0; listed = k .1; given = k .2; wanted = k .3; seen = k .4; force = k .5; primary = k .6; secondary = k .7 }
 

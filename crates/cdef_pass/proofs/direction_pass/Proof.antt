@@ -26,7 +26,7 @@ abbrev μ-loop : tie.MeasureT-loop
 abbrev planeAt : tie.Start Inv-loop2 μ-loop2 Inv-loop μ-loop → Plane
 planeAt s = record { samples = s .args .plane .now; width = s .args .width; height = s .args .height }
 
--- a block's number
+-- a block's index
 place : (c : tie.In-loop2 Inv-loop2 μ-loop2 Inv-loop μ-loop) → let a = c .before .before .before .before .before .before .before .args in c .before .before .before .loop .by * (a .width / 8) + c .before .loop2 .bx < a .height / 8 * (a .width / 8)
 place c = let a = c .before .before .before .before .before .before .before .args in digits-lt {q = c .before .before .before .loop .by} {m = a .height / 8} {r = c .before .loop2 .bx} {c = a .width / 8} (c .before .before .loop-test .taken) (c .loop2-test .taken)
 

@@ -19,7 +19,7 @@ Inv-loop w row s out₀ j₀ out j = (take j out ≡ upto (λ (j : ℕ). freeOf 
 abbrev μ-loop : tie.MeasureT-loop
 μ-loop w row s out₀ j₀ out j = 8 - j
 
--- the sum of a turn
+-- the sum of an iteration
 sum : (c : tie.After-free-arg2 Inv-loop μ-loop) → let a = c .before .before .before .before .args in let j = c .before .before .before .loop .j in Is (getD (a .t3) j (pos 0)) (getD (a .t3) j (pos 0)) 7680
 sum c = record { is = refl; small = c .before .before .before .before .pre .3 .all (c .before .before .before .loop .j) }
 

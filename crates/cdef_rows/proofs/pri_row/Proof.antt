@@ -21,7 +21,7 @@ Inv-loop w row t f out₀ j₀ out j = (take j out ≡ upto (λ (j : ℕ). priAt
 abbrev μ-loop : tie.MeasureT-loop
 μ-loop w row t f out₀ j₀ out j = 8 - j
 
--- what a turn stores
+-- what an iteration stores
 stored : (c : tie.After-pri-at Inv-loop μ-loop) → let a = c .before .before .before .args in toZ w16 (ofZ w16 (c .pri-at .result)) ≡ priAt (a .w .now) (a .row + c .before .before .loop .j) (a .t) (a .f)
 stored c = let s = c .before .before .before in
     let a = s .args in

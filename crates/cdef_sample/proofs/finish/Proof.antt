@@ -37,7 +37,7 @@ over-small c = let s = c .before .before in size-over (movedOf (s .args .c) (s .
 over-back : (c : tie.After-at-least) → let a = c .before .before .args in toZ w16 (ofZ w16 (c .at-least .result)) ≡ overOf (movedOf (a .c) (a .sum)) (a .lo)
 over-back c = let a = c .before .before .args in rw (over-is c) (back (overOf (movedOf (a .c) (a .sum)) (a .lo)) (over-small c))
 
--- the held value
+-- the clipped value
 unfoldable held : (c : tie.After-at-most) → ℕ
 held c = let a = c .before .before .before .args in min (mag (overOf (movedOf (a .c) (a .sum)) (a .lo))) (a .hi)
 

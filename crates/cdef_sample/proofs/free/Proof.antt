@@ -26,7 +26,7 @@ moved-is c = c .moved .ensures ∙ rw (back (c .before .args .sum) (omega (arith
 moved-back : (c : tie.After-moved) → toZ w16 (ofZ w16 (c .moved .result)) ≡ movedOf (c .before .args .c) (c .before .args .sum)
 moved-back c = rw (moved-is c) (back (movedOf (c .before .args .c) (c .before .args .sum)) (moved-small c))
 
--- the value held at 0 or above, as a number
+-- the value, not below 0, as a natural number
 unfoldable held : (c : tie.After-at-least) → ℕ
 held c = let a = c .before .before .args in mag (overOf (movedOf (a .c) (a .sum)) 0)
 

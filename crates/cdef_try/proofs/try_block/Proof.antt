@@ -30,7 +30,7 @@ ask s = asked _ _ _ _ _ _ _ _ (ready s) _ _ (s .pre .0 .2) (s .pre .0 .3)
 counts : (c : tie.Else1) → let s = c .before .before .before .before .before .before .before .before in counted (picture s) (s .args .v) (s .args .by) (s .args .bx) ≡ true
 counts c = let a = c .before .before .before .before .before .before .before .before .args in sym (c .before .counted .ensures (a .dirs .now) (a .vars .now)) ∙ not-false _ (c .if1 .left)
 
--- the totals have twelve places a unit
+-- the totals have twelve entries per unit
 long : (s : tie.Start) → length (s .args .totals .now) ≡ 12 * units (picture s)
 long s = ap length (s .pre .1) ∙ blocks-long _ _ _ _ _ _ _
 

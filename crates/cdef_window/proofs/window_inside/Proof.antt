@@ -25,7 +25,7 @@ Inv-loop src w h b out₀ i₀ out i = (take (i * 12) out ≡ upto (windowAt (pl
 abbrev μ-loop : tie.MeasureT-loop
 μ-loop src w h b out₀ i₀ out i = 12 - i
 
--- the row of a turn lies in the plane
+-- the row of an iteration lies in the plane
 row-in : (s : tie.Start Inv-loop2 μ-loop2 Inv-loop μ-loop) (i j : ℕ) → i < 12 → j < 12 → let a = s .args in (a .b .y + i - 2) * a .w + (a .b .x - 2) + j < length (a .src .now)
 row-in s i j hi hj =
     let a = s .args in
@@ -33,7 +33,7 @@ row-in s i j hi hj =
     let d = digits-lt {q = a .b .y + i - 2} {m = a .h} {r = a .b .x - 2 + j} {c = a .w} (omega (arith, q)) (omega (arith, q)) in
     omega (arith, d, s .pre .0 .full, mul-comm (a .w) (a .h))
 
--- what a turn reads
+-- what an iteration reads
 read : (s : tie.Start Inv-loop2 μ-loop2 Inv-loop μ-loop) (i j : ℕ) → i < 12 → j < 12 → let a = s .args in getD (a .src .now) ((a .b .y + i - 2) * a .w + (a .b .x - 2) + j) 0 ≡ windowAt (planeOf (a .src .now) (a .w) (a .h)) (a .b) (i * 12 + j)
 read s i j hi hj =
     let a = s .args in

@@ -14,7 +14,7 @@ use borrow.Author.Needs.{needs}
 use Rattle.cdef.proofs.numbers.adjust.Statement.{statement}
 use Rattle.cdef.proofs.numbers.adjust.Tie as tie
 
--- the outcome, by the first no
+-- the outcome, by the error code
 module _ (s v : ℕ) where
   no-strength : strengthTaken s ≡ false → readStrength (NoStrength 8) ≡ adjustOutcome s v
   unfolding adjustOutcome adjustNo firstNo resultOf readStrength

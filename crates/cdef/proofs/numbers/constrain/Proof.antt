@@ -21,7 +21,7 @@ use borrow.Author.Needs.{needs}
 use Rattle.cdef.proofs.numbers.constrain.Statement.{statement}
 use Rattle.cdef.proofs.numbers.constrain.Tie as tie
 
--- the outcome, by the first no
+-- the outcome, by the error code
 module _ (z : ℤ) (s : ℕ) (d : WorkingDamping) where
   no-strength : strengthTaken s ≡ false → readDifference (NoDifference 8) ≡ constrainOutcome z s d
   unfolding constrainOutcome constrainNo firstNo resultOf readDifference
@@ -51,7 +51,7 @@ same c = toZ-ofZ w32 (c .before .before .before .before .before .args .differenc
 difference-yes : (c : tie.Else3) → differenceTaken (c .before .before .before .before .before .before .args .difference) ≡ true
 difference-yes c = rw (same (c .before)) at (yes-so (c .before .difference-taken .ensures) (c .if3 .left))
 
--- what the core gives
+-- what the core returns
 value : (c : tie.After-constrain-spec) → let a = c .before .before .before .before .before .before .before .args in c .constrain-spec .result ≡ constrain (a .difference) (a .strength) (a .damping .0)
 value c = c .constrain-spec .ensures ∙ rw (same (c .before .before))
 

@@ -19,7 +19,7 @@ use Rattle.cdef_frame.proofs.params.is_off.Reads as is-off-reads
 use Rattle.cdef_apply.proofs.block.pair_of.Reads as pair-of-reads
 use Rattle.cdef_frame.proofs.geometry.unit_at.Reads as unit-at-reads
 
--- the block's number
+-- the block's index
 number : (s : tie.Start) → let a = s .args in (a .by * (a .f .width / 8) + a .bx < length (a .skip .now)) × (a .by * (a .f .width / 8) + a .bx < 2 ^ 20)
 number s =
     let a = s .args in

@@ -17,7 +17,7 @@ use Rattle.cdef_filter.proofs.cdef_filter_block.Reads as cdef-filter-block-read
 use Rattle.cdef_frame.proofs.geometry.block_of.Reads as block-of-reads
 use Rattle.cdef_frame.proofs.params.params_for.Reads as params-for-reads
 
--- the block's number
+-- the block's index
 number : (s : tie.Start) → let a = s .args in (a .by * (a .f .width / 8) + a .bx < blocksOf (a .f)) × (a .by * (a .f .width / 8) + a .bx < 2 ^ 20)
 number s =
     let a = s .args in

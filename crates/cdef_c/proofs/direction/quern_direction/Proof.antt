@@ -6,7 +6,7 @@ use borrow.Author.Needs.{needs}
 use Rattle.cdef_c.proofs.direction.quern_direction.Statement.{statement}
 use Rattle.cdef_c.proofs.direction.quern_direction.Tie as tie
 
--- what stood behind both
+-- the old contents of both
 abbrev old : tie.Start → DirectionFound
 old s = record { direction = s .args .direction .now; variance = s .args .variance .now }
 

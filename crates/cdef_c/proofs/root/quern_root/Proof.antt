@@ -1,4 +1,4 @@
--- `cdef_c::root::quern_root` meets its contract: the two tests at the door are those of the definition.
+-- `cdef_c::root::quern_root` meets its contract: its two tests are those of the definition.
 use mathlib.Core.Path.{_≡_, refl, sym, ap, _∙_, subst}
 use mathlib.Core.Bool.{Bool, true, false, cond, _&&_}
 use lib.Dec.{T}
@@ -16,7 +16,7 @@ top-is : ofBits binary64 0x7ff0_0000_0000_0000 ≡ inf false
 unfolding ofBits
 top-is = refl
 
--- the tests with the definition's two ends
+-- the tests with the definition's two bounds
 from-low : (v : Float) (t : Bool) → le (ofBits binary64 0x10_0000_0000_0000) v ≡ t → le leastNormal v ≡ t
 from-low v t e = subst (λ (z : Float). le z v ≡ t) low-is e
 

@@ -15,7 +15,7 @@ Inv-loop cost direction₀ most₀ d₀ direction most d = (record { bestCost = 
 abbrev μ-loop : tie.MeasureT-loop
 μ-loop cost direction₀ most₀ d₀ direction most d = 8 - d
 
--- one cost more under the best
+-- one more cost that is at most the best
 up-to : (l : ℕ → ℕ) (d m m2 : ℕ) → ((k : ℕ) → k < d → l k ≤ m) → m ≤ m2 → l d ≤ m2 → (k : ℕ) → k < d + 1 → l k ≤ m2
 up-to l d m m2 h g e k b = go (ℕ-discrete k d)
   where

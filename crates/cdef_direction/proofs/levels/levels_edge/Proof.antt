@@ -24,7 +24,7 @@ Inv-loop plane width height x y depth shift b₀ i₀ b i = (take (i * 8) b ≡ 
 abbrev μ-loop : tie.MeasureT-loop
 μ-loop plane width height x y depth shift b₀ i₀ b i = 8 - i
 
--- the place of a turn
+-- the index of an iteration
 row-is : (c : tie.After-lesser Inv-loop2 μ-loop2 Inv-loop μ-loop) → let a = c .before .before .before .before .args in c .lesser .result * a .width ≡ min (a .y + c .before .before .loop .i) (a .height - 1) * a .width
 row-is c = ap (λ (n : ℕ). n * c .before .before .before .before .args .width) (c .lesser .ensures)
 
@@ -50,7 +50,7 @@ row-low c =
     let j : 0 < a .width = omega arith in
     omega (arith, row-is c, place-low (a .width) (a .height) _ _ i j, in-plane s, s .pre .0)
 
--- what a turn reads
+-- what an iteration reads
 read : (c : tie.After-lesser2 Inv-loop2 μ-loop2 Inv-loop μ-loop) → let a = c .before .before .before .before .before .before .before .args in getD (a .plane .now) (c .before .before .before .lesser .result * a .width + c .lesser2 .result) 0 ≡ edgeSample (record { samples = a .plane .now; width = a .width; height = a .height }) (a .y + c .before .before .before .before .before .loop .i) (a .x + c .before .before .loop2 .j)
 read c =
     let a = c .before .before .before .before .before .before .before .args in

@@ -24,7 +24,7 @@ Inv-loop plane width height x y depth shift b₀ i₀ b i = (take (i * 8) b ≡ 
 abbrev μ-loop : tie.MeasureT-loop
 μ-loop plane width height x y depth shift b₀ i₀ b i = 8 - i
 
--- the place of a turn
+-- the index of an iteration
 place : (c : tie.In-loop2 Inv-loop2 μ-loop2 Inv-loop μ-loop) → let a = c .before .before .before .before .before .args in (a .y + c .before .before .before .loop .i) * a .width + a .x + c .before .loop2 .j < length (a .plane .now)
 place c =
     let s = c .before .before .before .before .before in
@@ -42,7 +42,7 @@ in-plane c =
     let j : a .x < a .width = omega arith in
     omega (arith, place-low (a .width) (a .height) (a .y + c .before .loop .i) (a .x) i j, plane-low (a .width) (a .height) (s .pre .1 .0 .0) (s .pre .1 .0 .1))
 
--- what a turn reads
+-- what an iteration reads
 read : (c : tie.In-loop2 Inv-loop2 μ-loop2 Inv-loop μ-loop) → let a = c .before .before .before .before .before .args in let i = c .before .before .before .loop .i in let j = c .before .loop2 .j in getD (a .plane .now) ((a .y + i) * a .width + a .x + j) 0 ≡ edgeSample (record { samples = a .plane .now; width = a .width; height = a .height }) (a .y + i) (a .x + j)
 read c =
     let s = c .before .before .before .before .before in

@@ -24,7 +24,7 @@ Inv-loop b z₀ i₀ z i = (take (i * 24) z ≡ upto (λ (k : ℕ). padAt b (k /
 abbrev μ-loop : tie.MeasureT-loop
 μ-loop b z₀ i₀ z i = 8 - i
 
--- what a turn stores
+-- what an iteration stores
 stored : (c : tie.After-pad Inv-loop2 μ-loop2 Inv-loop μ-loop) → let b = c .before .before .before .before .before .args .b .now in let i = c .before .before .before .before .loop .i in let j = c .before .before .loop2 .j in toZ w16 (ofZ w16 (c .pad .result)) ≡ padAt b ((i * 24 + j) / 24) ((i * 24 + j) % 24)
 stored c =
     let s = c .before .before .before .before .before in

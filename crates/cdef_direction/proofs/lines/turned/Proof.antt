@@ -24,7 +24,7 @@ Inv-loop b t₀ i₀ t i = (take (i * 8) t ≡ upto (λ (k : ℕ). getD b (k % 8
 abbrev μ-loop : tie.MeasureT-loop
 μ-loop b t₀ i₀ t i = 8 - i
 
--- what a turn stores
+-- what an iteration stores
 stored : (c : tie.After-t Inv-loop2 μ-loop2 Inv-loop μ-loop) → let b = c .before .before .before .before .before .args .b .now in let i = c .before .before .before .before .loop .i in let j = c .before .before .loop2 .j in toZ w16 (ofZ w16 (getD b (j * 8 + i) (pos 0))) ≡ getD b ((i * 8 + j) % 8 * 8 + (i * 8 + j) / 8) (pos 0)
 stored c =
     let s = c .before .before .before .before .before in

@@ -18,7 +18,7 @@ row-in w h n y x rows cols e hy hx i hi =
     let a : y + i + 1 ≤ h = omega arith in
     omega (arith, mul-le-mul-right w a, mul-comm w h)
 
--- the bits of the block cut to the plane answer the question
+-- the bits of the block, cropped to the plane, decide question 9
 bits-say : (s : List ℕ) (w h d y x rows cols bits : ℕ) → y < h → x < w → rows ≡ min 8 (h - y) → cols ≡ min 8 (w - x) → bits ≡ orRows s w y x cols rows → eqb (bits / 2 ^ d) 0 ≡ cutTaken (record { samples = s; width = w; height = h }) d y x
 bits-say s w h d y x rows cols bits hy hx er ec eb = shifted-none bits d ∙ rw (eb, er, ec) (cut-bits s w h d y x hy hx)
 

@@ -36,7 +36,7 @@ mul-h c = search needs
 wide-root-requires : tie.Need-wide-root-requires
 wide-root-requires c κs = omega (arith, moved c)
 
--- the field, the root's range and the pattern's range, where the root is known
+-- the exponent field, the square root's range and the pattern's range, where the square root is known
 record Known (b n : ℕ) : Type 0 where
   b-low : 2 ^ 52 ≤ b
   b-high : b < 9218868437227405312

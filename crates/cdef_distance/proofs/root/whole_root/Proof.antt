@@ -6,7 +6,7 @@ use Rattle.cdef_distance.specs.NewtonLaws.{next-above}
 use Rattle.cdef_distance.proofs.root.whole_root.Statement.{statement}
 use Rattle.cdef_distance.proofs.root.whole_root.Tie as tie
 
--- a guess that one more of squares above n is not 0
+-- a guess x with n < (x + 1)² is not 0
 above-zero : (n x : ℕ) → 0 < n → n < (x + 1) * (x + 1) → 0 < x
 above-zero n zero p h = omega arith
 above-zero n (suc x) p h = zero-lt-suc x
@@ -32,7 +32,7 @@ div-g c = omega arith
 add-g : tie.Need-add-g Inv-loop μ-loop
 add-g c = omega (arith, div-le-self (c .before .args .h) (c .first-guess .result))
 
--- a step from any guess above 0 is at least the root
+-- a step from any guess above 0 is at least the square root
 loop-holds : tie.Need-loop-holds Inv-loop μ-loop
 loop-holds c =
     let h = c .before .args .h in

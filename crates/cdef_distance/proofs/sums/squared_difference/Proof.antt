@@ -9,7 +9,7 @@ use borrow.Author.Needs.{needs}
 use Rattle.cdef_distance.proofs.sums.squared_difference.Statement.{statement}
 use Rattle.cdef_distance.proofs.sums.squared_difference.Tie as tie
 
--- where the two ways meet
+-- where the two branches join
 is : (c : tie.After-row-known) → let a = c .before .before .args in c .before .if1 .d ≡ max (a .a) (a .b) - min (a .a) (a .b)
 is c = ⊎-elim (λ w. omega (arith, w .0 .taken, w .1)) (λ w. omega (arith, w .0 .left, w .1)) (c .before .if1 .came)
 

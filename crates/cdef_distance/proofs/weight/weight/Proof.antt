@@ -1,4 +1,4 @@
--- `cdef_distance::weight::weight` meets its contract: the code is the definition's sequence, with 0.5 by its bits, and the root is asked of a normal number.
+-- `cdef_distance::weight::weight` meets its contract: the code is the definition's sequence, with 0.5 by its bits, and the square root is that of a normal number.
 use mathlib.Core.Path.{ap, _∙_}
 use Prim.Native.Nat.{ℕ, _≤_}
 use native.Mathlib.Omega.{arith}
@@ -32,7 +32,7 @@ root-requires c κs =
     let k = known s in
     radicand (k .C1) (k .C2) (s .args .a) (s .args .b) 0 (s .args .c .c1) (s .args .c .c2) (k .h1) (k .h2) (k .l1) (k .l2) (k .u2) (a-low s) (b-low s) (lit≤ tt) .is-normal
 
--- the last line of the body, with 0.5 and the root as arguments
+-- the last line of the body, with 0.5 and the square root as arguments
 abbrev seq : Float → Float → Float → ℕ → ℕ → Float
 seq h r c1 a b = div binary64 (mul binary64 h (add binary64 (add binary64 (whole a) (whole b)) c1)) r
 

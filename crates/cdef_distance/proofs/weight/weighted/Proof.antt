@@ -1,4 +1,4 @@
--- `cdef_distance::weight::weighted` meets its contract: what is cut is the definition's value, from a half up and below 2 ^ 53.
+-- `cdef_distance::weight::weighted` meets its contract: the value that is truncated is the definition's, at least 0.5 and below 2 ^ 53.
 use mathlib.Core.Path.{_≡_, sym, ap, _∙_, subst}
 use Prim.Native.Nat.{ℕ, _≤_}
 use native.Mathlib.Omega.{arith}
@@ -25,7 +25,7 @@ weight-requires c κs = (c .pre .0, c .pre .1, c .pre .2, c .pre .3)
 int-to-float-cut : tie.Need-int-to-float-cut
 int-to-float-cut c = in-float (c .before .before .args .e) (omega (arith, low (c .before .before) _ (c .before .before .pre .4)))
 
--- what is cut, with 0.5 and the weight as arguments
+-- the value that is truncated, with 0.5 and the weight as arguments
 abbrev seq : Float → Float → ℕ → Float
 seq h w e = add binary64 h (mul binary64 (whole e) w)
 

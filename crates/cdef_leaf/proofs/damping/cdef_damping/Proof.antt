@@ -7,7 +7,7 @@ use Rattle.cdef_spec.specs.Document01.{qualityDamping}
 use Rattle.cdef_leaf.proofs.damping.cdef_damping.Statement.{statement}
 use Rattle.cdef_leaf.proofs.damping.cdef_damping.Tie as tie
 
--- where the branch's two ways meet
+-- where the two branches join
 step-is : (c : tie.Joined1) → c .if1 .step ≡ min (c .before .args .index / 64) 3
 step-is c = ⊎-elim (λ w. omega (arith, w .0 .taken, w .1)) (λ w. omega (arith, w .0 .left, w .1)) (c .if1 .came)
 

@@ -17,7 +17,7 @@ pair-is : (t p : ℕ) → t < 12 → p ≡ cond (eqb (t % 4) 3) 4 (t % 4) → _�
 unfolding trialPair
 pair-is t p h e = rw (e, primary-is (t % 4) (omega arith), ← secondary-is (t / 4) (omega arith))
 
--- where the branch's two ways meet
+-- where the two branches join
 primary-at : (c : tie.Joined1) → let t = c .before .args .t in c .if1 .primary ≡ cond (eqb (t % 4) 3) 4 (t % 4)
 primary-at c = ⊎-elim (λ w. w .1 ∙ rw (w .0 .taken)) (λ w. w .1 ∙ rw (ne-eqb _ 3 (w .0 .left))) (c .if1 .came)
 

@@ -25,7 +25,7 @@ use Rattle.cdef_measure.proofs.block.rows_distance.Reads as rows-distan
 width : (c : tie.After-plane-width) → let f = c .before .before .before .before .before .before .before .args .f in c .plane-width .result ≡ f .width / (1 + f .sx)
 width c = let s = c .before .before .before .before .before .before .before in c .plane-width .ensures [] [] [] ∙ width-is (s .args .f) (s .pre .0 .1 .shaped) [] [] []
 
--- where the two ways meet, the scratch has its length and, where the pair filters, the filtered block
+-- where the two branches join, the scratch has its length and, where the pair filters, the filtered block
 at-join : (c : tie.Joined1) → let a = c .before .before .before .before .before .before .before .before .args in (length (c .if1 .scratch) ≡ scratchOf (a .f)) × (c .before .before .filters .result ≡ true → (t : List ℕ) → Filled (pictureOf (a .f) t (a .dirs .now) (a .vars .now)) (a .d) (a .plane .now) (a .p) (a .by) (a .bx) (c .if1 .scratch))
 at-join c =
     let len = c .before .before .before .before .before .before .before .before .pre .1 .2 in

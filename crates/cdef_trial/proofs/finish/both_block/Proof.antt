@@ -20,7 +20,7 @@ Inv-loop n c p s lo hi out₀ k₀ out k = (take k out ≡ upto (λ (k : ℕ). f
 abbrev μ-loop : tie.MeasureT-loop
 μ-loop n c p s lo hi out₀ k₀ out k = n - k
 
--- the two sums of a turn
+-- the two sums of an iteration
 sums : (c : tie.After-add-arg2 Inv-loop μ-loop) → let a = c .before .before .before .before .before .args in let k = c .before .before .before .before .loop .k in Is (getD (a .p .now) k (pos 0)) (getD (a .p .now) k (pos 0)) 3840 × Is (getD (a .s .now) k (pos 0)) (getD (a .s .now) k (pos 0)) 7680
 sums c = let s = c .before .before .before .before .before in let k = c .before .before .before .before .loop .k in (record { is = refl; small = s .pre .2 .all k (omega arith) }, record { is = refl; small = s .pre .3 .all k (omega arith) })
 

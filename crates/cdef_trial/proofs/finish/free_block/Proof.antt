@@ -19,7 +19,7 @@ Inv-loop n c s out₀ k₀ out k = (take k out ≡ upto (λ (k : ℕ). freeOf (g
 abbrev μ-loop : tie.MeasureT-loop
 μ-loop n c s out₀ k₀ out k = n - k
 
--- the sum of a turn
+-- the sum of an iteration
 sum-of : (c : tie.After-free-arg2 Inv-loop μ-loop) → let s = c .before .before .before .before in let k = c .before .before .before .loop .k in Is (getD (s .args .s .now) k (pos 0)) (getD (s .args .s .now) k (pos 0)) 7680
 sum-of c = let s = c .before .before .before .before in record { is = refl; small = s .pre .2 .all (c .before .before .before .loop .k) (omega arith) }
 

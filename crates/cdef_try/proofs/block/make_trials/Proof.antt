@@ -15,7 +15,7 @@ use Rattle.cdef_try.proofs.block.make_trials.Tie as tie
 listed : (s : tie.Start) → Listed (s .args .f) (s .pre .1 .0) (s .args .dirs .now) (s .args .vars .now)
 listed s = s .pre .1 .1
 
--- the block's number
+-- the block's index
 number : (s : tie.Start) → let a = s .args in a .by * (a .f .width / 8) + a .bx < blocksOf (a .f)
 number s = let a = s .args in let p = s .pre .0 in number-low (a .f) (p .0) (s .pre .1 .0) (a .dirs .now) (a .vars .now) (a .by) (a .bx) (p .3) (p .4)
 

@@ -42,7 +42,7 @@ old-is c = turn-at _ (c .before .before .before .before .pre .0 .1) _ (dist c) _
 old-low : (c : tie.In-loop Inv-loop μ-loop) → old c ≤ 65 * 2 ^ 53
 old-low c = turn-low _ (c .before .before .before .before .pre .0 .1) _ (dist c) _ _ (c .before .loop .inv .0) (λ k h. each c k (omega (arith, c .loop-test .taken))) _
 
--- what a turn stores
+-- what an iteration stores
 step : (c : tie.After-distance-cut Inv-loop μ-loop) → let i = c .before in let a = i .before .before .before .before .args in let l = i .before .loop .totals in let k = a .base + i .before .loop .t in
     set l k (toZ w64 (ofZ w64 (toZ w64 (ofZ w64 (getD l k (pos 0))) +ℤ toZ w64 (c .distance-cut .result)))) ≡ signed (addTurns (plainOf (a .totals .now)) (a .base) (dist i) (i .before .loop .t + 1))
 unfolding trialDistances

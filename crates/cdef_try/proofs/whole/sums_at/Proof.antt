@@ -18,7 +18,7 @@ Inv-loop a s from own₀ squares₀ products₀ k₀ own squares products k =
 abbrev μ-loop : tie.MeasureT-loop
 μ-loop a s from own₀ squares₀ products₀ k₀ own squares products k = 64 - k
 
--- the two samples of a turn
+-- the two samples of an iteration
 abbrev first : (c : tie.In-loop Inv-loop μ-loop) → ℕ
 first c = getD (c .before .before .args .a .now) (c .before .loop .k) 0
 
@@ -37,7 +37,7 @@ small x y =
     let b : y % 4096 ≤ 4095 = omega arith in
     mul-le-mul a b
 
--- a turn's sums
+-- an iteration's sums
 add : {t n m : ℕ} (f : ℕ → ℕ) (k : ℕ) → t ≡ sum k f → n ≡ m → m ≡ f k → t + n ≡ sum (k + 1) f
 add f k e g h = rw (e, g, h) (sum-more f k)
 

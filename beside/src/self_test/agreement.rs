@@ -100,7 +100,7 @@ struct Part {
     height: usize,
 }
 
-/// The totals of RULES, Frame of a plane as it stands, from the distance of a block.
+/// The totals (RULES, Frame) of a plane as it stands, from the distance of a block.
 fn totals(f: &Frame, halved: (usize, usize), distance: impl Fn(Part) -> i64) -> Vec<i64> {
     let (x_by, y_by) = (1 << halved.0, 1 << halved.1);
     let visible = (

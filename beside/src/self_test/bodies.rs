@@ -1,4 +1,4 @@
-//! The bodies that the reference's files lack: `sample`, `Pel::narrow`, the sums.
+//! The reference's helpers `sample`, `Pel::narrow` and the sums do what the rules assume.
 
 use reference::MARK;
 use support::random::Random;

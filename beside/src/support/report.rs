@@ -78,7 +78,10 @@ impl<V: Value> Value for Answer<V> {
         if self.number == expected.number {
             self.value.apart(&expected.value)
         } else {
-            format!("got error code {}, expected {}", self.number, expected.number)
+            format!(
+                "got error code {}, expected {}",
+                self.number, expected.number
+            )
         }
     }
 }

@@ -77,6 +77,6 @@ impl PictureSeen {
             }
         }
         let quarter = 4 * self.cut >= self.pictures;
-        tally.number("a quarter of the pictures with partial units", i64::from(quarter), 1);
+        tally.number("a quarter with partial units", i64::from(quarter), 1);
     }
 }

@@ -8,14 +8,14 @@ fail() {
     exit 2
 }
 
-# The Rust's folder: the one given, or ../shared/docs/src where that is there.
+# The reference's folder: the one given, or ../shared/docs/src where that is there.
 rust_folder() {
     folder=${1:-$root/../shared/docs/src}
-    [ -f "$folder/src/cdef.rs" ] || fail "no src/cdef.rs in the Rust's folder; give it as the last argument (beside/README.md)"
+    [ -f "$folder/src/cdef.rs" ] || fail "no src/cdef.rs in the reference's folder; give it as the last argument (beside/README.md)"
     (cd "$folder" && pwd)
 }
 
-# Compiles one crate of src/: crate NAME ROOT-FILE WORDS...
+# Compiles one crate of src/: crate NAME ROOT-FILE ARGUMENTS...
 crate() {
     name=$1 file=$2
     shift 2
@@ -29,7 +29,7 @@ prepare() {
     mkdir -p "$out"
 }
 
-# Compiles the Rust of the folder given and what the programs share. The Rust's
+# Compiles the reference in the folder given and what the programs share. The reference's
 # functions under cfg(test) are wanted, its tests are not.
 build_reference() {
     prepare
@@ -43,37 +43,37 @@ build_ours() {
     crate ours ours/lib.rs --crate-type rlib --extern support -L "native=$root/target/staticlib"
 }
 
-# Compiles a program over them: build_program NAME WORDS...
+# Compiles a program that uses them: build_program NAME ARGUMENTS...
 build_program() {
     program=$1
     shift
     crate "$program" "$program/main.rs" --extern reference --extern support "$@"
 }
 
-# Prints where and beside what a measurement runs.
+# Prints the machine that a measurement runs on, and its load.
 machine() {
     echo "machine: $(sed -n 's/^model name[^:]*: //p' /proc/cpuinfo | head -n 1), $(nproc) cores, load $(cut -d ' ' -f 1 /proc/loadavg) at the start"
 }
 
-# Our static library, made where it is absent or older than the code.
+# Our static library, built where it is absent or older than the code.
 build_library() {
     library=$root/target/staticlib/libcdef_c.a
     if [ -f "$library" ] && [ -z "$(find "$root/crates" -name '*.rt' -newer "$library" 2>/dev/null)" ]; then
         return
     fi
-    command -v rt >/dev/null || fail "target/staticlib/libcdef_c.a is absent or old, and rt, which makes it, is not on PATH"
+    command -v rt >/dev/null || fail "target/staticlib/libcdef_c.a is absent or old, and rt, which builds it, is not on PATH"
     (cd "$root" && rt staticlib cdef_c) || fail "rt staticlib cdef_c failed"
 }
 
-# The refusals, which want nothing of the Rust's.
+# The program refusals, which needs none of the reference's files.
 build_refusals() {
     prepare
     build_library
     crate refusals refusals/main.rs -L "native=$root/target/staticlib"
 }
 
-# Runs them under valgrind, with lists from malloc that are exactly as long as they
-# are said to be; a load that is only partly past an end is an error too.
+# Runs it under valgrind, with lists from malloc of exactly the length given to the
+# call; a load that is only partly past an end is an error too.
 refusals_under_valgrind() {
     valgrind --error-exitcode=1 --partial-loads-ok=no --log-file="$out/valgrind.log" \
         "$out/refusals" exact "$@"
@@ -89,7 +89,7 @@ build_all() {
     build_program compare --extern ours
 }
 
-# Holds a stored sample against a fresh one, line by line: check_sample DATA-FOLDER
+# Compares a stored sample with a fresh one, line by line: check_sample DATA-FOLDER
 check_sample() {
     fresh=$out/fresh
     rm -rf "$fresh"

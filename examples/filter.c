@@ -1,6 +1,6 @@
 /*
- * Tries, applies and measures one unit of a made luma picture: an edge, and the same with
- * noise. filter.rs does the same and prints the same.
+ * Tries, applies and measures one unit of a synthetic luma picture: an edge, and the same
+ * with noise. filter.rs does the same and prints the same.
  */
 #include "cdef.h"
 
@@ -18,7 +18,7 @@ static uint8_t skip[BLOCKS], dirs[BLOCKS];
 static uint32_t vars[BLOCKS];
 static int64_t tried[TRIALS], measured;
 
-/* The original has a slanted edge, the snapshot noise besides. */
+/* The original is a slanted edge; the snapshot is the same with noise. */
 static void make_picture(void)
 {
     uint32_t state = 1;
@@ -30,11 +30,11 @@ static void make_picture(void)
     }
 }
 
-/* 1 where a call was refused, which is said. */
+/* 1 where a call was rejected; prints its error code. */
 static int refused(const char *call, uint32_t number)
 {
     if (number != 0)
-        printf("%s: question %" PRIu32 " says no\n", call, number);
+        printf("%s: error code %" PRIu32 "\n", call, number);
     return number != 0;
 }
 
@@ -51,7 +51,7 @@ static int try_pairs(void)
                                             BLOCKS, vars, BLOCKS, DAMPING, 0, BY_DAMPING));
 }
 
-/* Taps read the snapshot; a copy of it is written. */
+/* Taps read the snapshot; the result is written into a copy of it. */
 static int apply(uint8_t primary, uint8_t secondary)
 {
     memcpy(filtered, snapshot, sizeof filtered);

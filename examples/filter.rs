@@ -1,4 +1,4 @@
-//! Tries, applies and measures one unit of a made luma picture: an edge, and the same
+//! Tries, applies and measures one unit of a synthetic luma picture: an edge, and the same
 //! with noise. filter.c does the same and prints the same.
 
 #[allow(dead_code)] // The entries for chroma are declared there too.
@@ -13,10 +13,10 @@ const SAMPLES: usize = SIDE * SIDE;
 const BLOCKS: usize = SAMPLES / 64;
 const DEPTH: u8 = 8;
 const PRIMARIES: [u8; 4] = [0, 1, 2, 4];
-/// The signalled damping, a quality index that does not count, and that it does not.
+/// The signalled damping, an unused quality index, and from_quality = 0 (use the damping).
 const DAMPING: (u8, u32, u8) = (5, 0, 0);
 
-/// A plane, its original, and what the calls are told of each block.
+/// A plane, its original, and the flags, directions and variances of its blocks.
 struct Picture {
     original: Vec<u16>,
     snapshot: Vec<u16>,
@@ -25,7 +25,7 @@ struct Picture {
     vars: [u32; BLOCKS],
 }
 
-/// The original has a slanted edge, the snapshot noise besides.
+/// The original is a slanted edge; the snapshot is the same with noise.
 fn picture() -> Picture {
     let mut state = 1u32;
     let (mut original, mut snapshot) = (Vec::new(), Vec::new());
@@ -45,10 +45,10 @@ fn picture() -> Picture {
     }
 }
 
-/// Hands a slice to C: its address and its length.
+/// Calls a C entry, passing each slice as its address and its length.
 macro_rules! entry {
     ($name:ident: $($out:expr),*; $($list:expr),*; $($n:expr),*; $($later:expr),*; $($m:expr),*) => {
-        // SAFETY: the slices have the lengths given, and what is written is apart.
+        // SAFETY: the slices have the lengths given, and what is written overlaps nothing else.
         unsafe {
             $name($($out.as_mut_ptr(), $out.len(),)* $($list.as_ptr(), $list.len(),)* $($n,)*
                 $($later.as_ptr(), $later.len(),)* $($m,)*)
@@ -66,7 +66,7 @@ fn try_pairs(tried: &mut [i64; 12], p: &Picture) -> u32 {
         DAMPING.0, DAMPING.1, DAMPING.2)
 }
 
-/// Taps read the snapshot; a copy of it is written.
+/// Taps read the snapshot; the result is written into a copy of it.
 fn apply(filtered: &mut [u16], p: &Picture, primary: u8, secondary: u8) -> u32 {
     let (pris, secs) = ([primary], [secondary]);
     entry!(quern_apply_luma: filtered; p.snapshot;
@@ -82,11 +82,11 @@ fn measure(measured: &mut [i64; 1], filtered: &[u16], p: &Picture) -> u32 {
         0, 0, DAMPING.0, DAMPING.1, DAMPING.2)
 }
 
-/// What is said of a refusal.
+/// An error code as a message.
 fn done(call: &str, number: u32) -> Result<(), String> {
     match number {
         0 => Ok(()),
-        _ => Err(format!("{call}: question {number} says no")),
+        _ => Err(format!("{call}: error code {number}")),
     }
 }
 

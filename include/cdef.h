@@ -2,45 +2,47 @@
  * The CDEF step of an AV1 encoder: the C entries of libcdef_c.a.
  *
  * Rules
- * - Every call but the last two returns 0 when its work is done, or else the number of
- *   the first question below that says no. A call asks its questions in their order.
- * - After a no nothing lent is altered. Where 0 is returned only what is named as
- *   written is altered.
+ * - Every call but the last two validates its arguments by the questions below that concern
+ *   it, in their order. It returns 0 when its work is done, or else the error code: the
+ *   number of the first check that fails.
+ * - On an error nothing of the caller's is modified. Where 0 is returned only what is named
+ *   as written is modified.
  * - A list is a pointer and its length, counted in elements. The pointer is aligned, not
  *   null and valid for that length; not null also where the length is 0. A pointer
  *   without a length is to one number.
- * - What a call writes overlaps nothing else that it is lent.
- * - Sizes and places are in samples. A plane is row after row, without gaps. Lists with
- *   an entry a block, or a unit, hold them row after row too.
+ * - What a call writes overlaps none of its other arguments.
+ * - Sizes and positions are in samples. A plane is row after row, without gaps. Lists with
+ *   one entry per block, or per unit, hold them row after row too.
  *
  * The nine questions
  * 1. Is the bit depth 8 to 12?
  * 2. Are width and height 1 to 4,096, and in frame calls multiples of 8?
- * 3. Is each chroma halving flag 0 or 1?
+ * 3. Is each chroma subsampling flag 0 or 1?
  * 4. Does each plane hold exactly width x height samples (chroma: each side shifted
  *    right by its flag)?
  * 5. Is x below the width and y below the height, and each block side 1 to 8?
  * 6. Does the block filter's destination hold whole rows, starting at or above y and
  *    reaching the smaller of y + block height and the plane height?
- * 7. Has every list its exact length (one flag, direction and variance a block; one
- *    pair a unit; 12 totals a unit for trying, one for measuring; 768 trial numbers; the
- *    measuring scratch), and is the visible width 1 to the luma width, the visible
+ * 7. Has every list its exact length (one flag, direction and variance per block; one
+ *    pair per unit; 12 totals per unit for trying, one for measuring; 768 trial numbers;
+ *    the measuring scratch), and is the visible width 1 to the luma width, the visible
  *    height likewise?
  * 8. Are flags 0 or 1, directions below 8, variances 0 to 860,160, and strengths,
  *    damping and quality index in range?
- * 9. Is each sample looked at below 2^depth? Block filter and trial also take the mark
- *    16384, a sample that is not there.
+ * 9. Is each examined sample below 2^depth? Block filter and trial also accept the mark
+ *    16384, an unavailable sample.
  *
  * Ranges of question 8
  * - Frame calls: primary strengths 0 to 15, secondary ones 0, 1, 2 or 4; signalled
- *   damping 3 to 6. The block filter: working strengths 0 to 15 (primary) and 0 to 4
- *   (secondary), each shifted left by depth - 8. quern_constrain and quern_adjust_pri:
+ *   damping 3 to 6. The block filter: every working strength from 0 up to 15 (primary) or
+ *   4 (secondary) shifted left by depth - 8. quern_constrain and quern_adjust_pri:
  *   strengths 0 to 240. Working damping 0 to 31. Quality index 0 to 255.
  *
- * Looked at in question 9
- * - Direction and distances: the 8 by 8 block, cut to the plane. Block filter and trial:
- *   the block widened by 2 on each side, cut to the plane. Frame calls: the whole planes
- *   that are read. quern_constrain: a difference outside -4,095 to 4,095 is a no.
+ * Samples examined by question 9
+ * - Direction and distances: the 8 by 8 block, cropped to the plane. Block filter and
+ *   trial: the block widened by 2 on each side, cropped to the plane. Frame calls: the
+ *   whole planes that are read. quern_constrain: a difference outside -4,095 to 4,095 is
+ *   error code 9.
  */
 #ifndef CDEF_H
 #define CDEF_H
@@ -54,28 +56,28 @@ extern "C" {
 
 /* ---- single numbers */
 
-/* Constrains a difference with a strength and a working damping. Asks 8, 9.
+/* Constrains a difference with a strength and a working damping. Validates 8, 9.
  * Writes *out. */
 uint32_t quern_constrain(int32_t difference, uint32_t strength, uint8_t damping, int32_t *out);
 
-/* Adjusts a primary strength by a luma block's variance. Asks 8. Writes *out. */
+/* Adjusts a primary strength by a luma block's variance. Validates 8. Writes *out. */
 uint32_t quern_adjust_pri(uint32_t strength, uint32_t variance, uint32_t *out);
 
-/* The signalled damping of a quality index: 3 + min(index / 64, 3). Asks 8.
+/* The signalled damping of a quality index: 3 + min(index / 64, 3). Validates 8.
  * Writes *out. */
 uint32_t quern_damping(uint32_t index, uint8_t *out);
 
 /* ---- one block of a plane */
 
 /* Direction and variance of the 8 by 8 block at (x, y); past the right or bottom edge
- * the nearest sample repeats. Asks 1, 2, 4, 5, 9. Writes *direction and *variance. */
+ * the nearest sample repeats. Validates 1, 2, 4, 5, 9. Writes *direction and *variance. */
 uint32_t quern_direction(const uint16_t *plane, size_t plane_len, size_t width, size_t height,
                          size_t x, size_t y, uint8_t depth, uint8_t *direction,
                          uint32_t *variance);
 
 /* Filters the block at (x, y), bw by bh, with working strengths, a direction and a working
  * damping. dst holds whole rows, of which the first is the plane's row y0.
- * Asks 1, 2, 4, 5, 6, 8, 9. Writes the block's places in dst, but for marked ones. */
+ * Validates 1, 2, 4, 5, 6, 8, 9. Writes the block's positions in dst, except marked ones. */
 uint32_t quern_filter_block(uint16_t *dst, size_t dst_len, size_t y0, const uint16_t *plane,
                             size_t plane_len, size_t width, size_t height, size_t x, size_t y,
                             size_t bw, size_t bh, uint32_t pri, uint32_t sec, uint8_t dir,
@@ -83,29 +85,30 @@ uint32_t quern_filter_block(uint16_t *dst, size_t dst_len, size_t y0, const uint
 
 /* The block at (x, y), bw by bh, of a luma plane filtered with twelve pairs of strengths:
  * trial number secondary index x 4 + primary index, over primaries 0, 1, 2, 4 and
- * secondaries 0, 1, 2. out holds 768 places, 64 a trial; a trial block has bw as its row
- * pitch, and a marked or off-plane place is reported as 16384. The damping is the working
- * one. Asks 1, 2, 4, 5, 7, 8, 9. Writes the first bw x bh places of each trial. */
+ * secondaries 0, 1, 2. out holds 768 numbers, 64 per trial; a trial block has bw as its row
+ * pitch, and a marked or off-plane position is reported as 16384. The damping is the working
+ * damping. Validates 1, 2, 4, 5, 7, 8, 9. Writes the first bw x bh numbers of each trial. */
 uint32_t quern_trial_luma(uint16_t *out, size_t out_len, const uint16_t *plane,
                           size_t plane_len, size_t width, size_t height, size_t x, size_t y,
                           size_t bw, size_t bh, uint32_t variance, uint8_t dir,
                           uint8_t damping, uint8_t depth);
 
 /* The same of a chroma plane, whose primary strengths are not adjusted.
- * Asks 1, 2, 4, 5, 7, 8, 9. Writes the first bw x bh places of each trial. */
+ * Validates 1, 2, 4, 5, 7, 8, 9. Writes the first bw x bh numbers of each trial. */
 uint32_t quern_trial_chroma(uint16_t *out, size_t out_len, const uint16_t *plane,
                             size_t plane_len, size_t width, size_t height, size_t x, size_t y,
                             size_t bw, size_t bh, uint8_t dir, uint8_t damping,
                             uint8_t depth);
 
-/* The weighted distance of the 8 by 8 blocks at (x, y) of two planes; past the right or
- * bottom edge, plain squares. Asks 1, 2, 4, 5, 9, of both planes. Writes *out. */
+/* The weighted distance of the 8 by 8 blocks at (x, y) of two planes; for a block that
+ * crosses the right or bottom edge, the sum of squared differences as below.
+ * Validates 1, 2, 4, 5, 9, of both planes. Writes *out. */
 uint32_t quern_distance(const uint16_t *orig, size_t orig_len, const uint16_t *other,
                         size_t other_len, size_t width, size_t height, size_t x, size_t y,
                         uint8_t depth, int64_t *out);
 
-/* The sum of the squared differences of the same blocks, cut to the plane.
- * Asks 1, 2, 4, 5, 9, of both planes. Writes *out. */
+/* The sum of squared differences (SSE) of the same blocks, cropped to the plane.
+ * Validates 1, 2, 4, 5, 9, of both planes. Writes *out. */
 uint32_t quern_squares(const uint16_t *orig, size_t orig_len, const uint16_t *other,
                        size_t other_len, size_t width, size_t height, size_t x, size_t y,
                        uint8_t depth, int64_t *out);
@@ -113,14 +116,14 @@ uint32_t quern_squares(const uint16_t *orig, size_t orig_len, const uint16_t *ot
 /*
  * ---- frame calls: one plane of a picture
  *
- * width and height are luma's; a chroma call is lent one chroma plane with its halving
- * flags, sx across and sy down. A block is 8 by 8 luma samples, a unit 64 by 64 as far as
- * the picture reaches. skip, dirs and, in luma, vars hold a flag (1: skipped), a direction
- * and a variance a block. Where from_quality is 0 the signalled damping is damping, else
- * it is that of the index quality; the other one is not looked at.
+ * width and height are luma's; a chroma call is passed one chroma plane with its
+ * subsampling flags, sx horizontal and sy vertical. A block is 8 by 8 luma samples, a unit
+ * 64 by 64 as far as the picture reaches. skip, dirs and, in luma, vars hold one flag
+ * (1: skipped), direction and variance per block. Where from_quality is 0 the signalled
+ * damping is damping, else it is that of the index quality; the other one is not read.
  */
 
-/* Direction and variance of each block of a luma plane. Asks 1, 2, 4, 7, 9.
+/* Direction and variance of each block of a luma plane. Validates 1, 2, 4, 7, 9.
  * Writes dirs and vars. */
 uint32_t quern_direction_pass(uint8_t *dirs, size_t dirs_len, uint32_t *vars, size_t vars_len,
                               const uint16_t *plane, size_t plane_len, size_t width,
@@ -128,7 +131,7 @@ uint32_t quern_direction_pass(uint8_t *dirs, size_t dirs_len, uint32_t *vars, si
 
 /* Trying in luma: for each unit twelve totals, by trial number, of the distances between
  * the original and the filtered snapshot, over blocks that are not skipped and begin inside
- * the visible area. Asks 1, 2, 4, 7, 8, 9. Writes totals, 12 a unit. */
+ * the visible area. Validates 1, 2, 4, 7, 8, 9. Writes totals, 12 per unit. */
 uint32_t quern_try_luma(int64_t *totals, size_t totals_len, const uint16_t *snapshot,
                         size_t snapshot_len, const uint16_t *original, size_t original_len,
                         size_t width, size_t height, size_t visible_width,
@@ -137,8 +140,8 @@ uint32_t quern_try_luma(int64_t *totals, size_t totals_len, const uint16_t *snap
                         const uint32_t *vars, size_t vars_len, uint8_t damping,
                         uint32_t quality, uint8_t from_quality);
 
-/* Trying in a chroma plane, by plain squares; the visible sides are luma's.
- * Asks 1, 2, 3, 4, 7, 8, 9. Writes totals, 12 a unit. */
+/* Trying in a chroma plane, by the sum of squared differences; the visible sides are luma's.
+ * Validates 1, 2, 3, 4, 7, 8, 9. Writes totals, 12 per unit. */
 uint32_t quern_try_chroma(int64_t *totals, size_t totals_len, const uint16_t *snapshot,
                           size_t snapshot_len, const uint16_t *original, size_t original_len,
                           size_t width, size_t height, uint8_t sx, uint8_t sy,
@@ -149,7 +152,8 @@ uint32_t quern_try_chroma(int64_t *totals, size_t totals_len, const uint16_t *sn
 
 /* Measuring in luma: for each unit the total of the distances between the original and the
  * plane filtered with one pair; with 0, 0 the plane as it stands. scratch holds width x 8
- * samples. Asks 1, 2, 4, 7, 8, 9. Writes totals, one a unit, and sets scratch to zero. */
+ * samples. Validates 1, 2, 4, 7, 8, 9. Writes totals, one per unit, and sets scratch to
+ * zero. */
 uint32_t quern_measure_luma(int64_t *totals, size_t totals_len, uint16_t *scratch,
                             size_t scratch_len, const uint16_t *plane, size_t plane_len,
                             const uint16_t *original, size_t original_len, size_t width,
@@ -159,8 +163,9 @@ uint32_t quern_measure_luma(int64_t *totals, size_t totals_len, uint16_t *scratc
                             size_t vars_len, uint8_t primary, uint8_t secondary,
                             uint8_t damping, uint32_t quality, uint8_t from_quality);
 
-/* Measuring in a chroma plane, by plain squares. scratch holds the plane's width x (8 >> sy)
- * samples. Asks 1, 2, 3, 4, 7, 8, 9. Writes totals, one a unit, and sets scratch to zero. */
+/* Measuring in a chroma plane, by the sum of squared differences. scratch holds the plane's
+ * width x (8 >> sy) samples. Validates 1, 2, 3, 4, 7, 8, 9. Writes totals, one per unit, and
+ * sets scratch to zero. */
 uint32_t quern_measure_chroma(int64_t *totals, size_t totals_len, uint16_t *scratch,
                               size_t scratch_len, const uint16_t *plane, size_t plane_len,
                               const uint16_t *original, size_t original_len, size_t width,
@@ -171,8 +176,8 @@ uint32_t quern_measure_chroma(int64_t *totals, size_t totals_len, uint16_t *scra
                               uint32_t quality, uint8_t from_quality);
 
 /* Applying in luma: the snapshot filtered into dst, each unit with its pair of pris and
- * secs. Asks 1, 2, 4 (of dst too), 7, 8, 9. Writes the blocks of dst that are not skipped
- * and whose unit's pair is not 0, 0; what dst holds elsewhere stays. */
+ * secs. Validates 1, 2, 4 (of dst too), 7, 8, 9. Writes the blocks of dst that are not
+ * skipped and whose unit's pair is not 0, 0; the rest of dst is unchanged. */
 uint32_t quern_apply_luma(uint16_t *dst, size_t dst_len, const uint16_t *snapshot,
                           size_t snapshot_len, size_t width, size_t height, uint8_t depth,
                           const uint8_t *skip, size_t skip_len, const uint8_t *dirs,
@@ -181,7 +186,8 @@ uint32_t quern_apply_luma(uint16_t *dst, size_t dst_len, const uint16_t *snapsho
                           size_t secs_len, uint8_t damping, uint32_t quality,
                           uint8_t from_quality);
 
-/* Applying in a chroma plane. Asks 1, 2, 3, 4 (of dst too), 7, 8, 9. Writes as in luma. */
+/* Applying in a chroma plane. Validates 1, 2, 3, 4 (of dst too), 7, 8, 9. Writes as in
+ * luma. */
 uint32_t quern_apply_chroma(uint16_t *dst, size_t dst_len, const uint16_t *snapshot,
                             size_t snapshot_len, size_t width, size_t height, uint8_t sx,
                             uint8_t sy, uint8_t depth, const uint8_t *skip, size_t skip_len,
@@ -189,13 +195,13 @@ uint32_t quern_apply_chroma(uint16_t *dst, size_t dst_len, const uint16_t *snaps
                             size_t pris_len, const uint8_t *secs, size_t secs_len,
                             uint8_t damping, uint32_t quality, uint8_t from_quality);
 
-/* ---- numbers handed back themselves: nothing is asked or refused */
+/* ---- calls that return their result: nothing is validated or rejected */
 
-/* The place of the highest set bit of v; 0 for 0. */
+/* The position of the highest set bit of v; 0 for 0. */
 uint32_t quern_log2_floor(uint32_t v);
 
-/* The f64 nearest to the root of v; v itself where v is no finite number above 0 or is
- * subnormal. */
+/* The double nearest to the square root of v; v itself where v is not a finite number above
+ * 0, or is subnormal. */
 double quern_root(double v);
 
 #ifdef __cplusplus

@@ -1,4 +1,4 @@
-"""The walk of a public call that is lent unit pairs: it gathers them into an array, and calls its covered core."""
+"""The proof of a public call that takes a slice of unit pairs: it copies them into an array, and calls its covered core."""
 from script import Script, after_entry, low, operands, tuple_of
 from signature import lawful
 from walk import Walk
@@ -35,7 +35,7 @@ class Call(Walk):
         return f'Claims {" ".join(p.value for p in self.params)} a r{self.ends()}'
 
     def handed(self):
-        """What goes to the core: the array, the tokens, and what its lent parameters own."""
+        """What the core is given: the array, the tokens, and what its borrowed parameters own."""
         return ['own_a'] + self.core_tokens() + [f'own_{p.name}' if p.kind == 'mutable' else f'copy_{p.name}' for p in self.callee.lent()]
 
     def handed_items(self):
@@ -48,7 +48,7 @@ class Call(Walk):
             return f'_{self.length if p.name == "n" else self.array}'
         return f'_{self.thin[p.name] + 1}' if p.kind == 'mutable' else f'_{self.local[p.name]}'
 
-    # ---- the walk
+    # ---- the proof by hand over the MIR
 
     def walk(self):
         s = Script(after_entry(self.locals))
@@ -70,7 +70,7 @@ class Call(Walk):
         return s.text(8) + ')' * self.locals
 
     def gather(self, s):
-        """The call of `gather`; its array is landed, and its promise heard as `gathers`."""
+        """The call of `gather`; its array is stored, and its postcondition is named `gathers`."""
         p = self.pairs
         life = low(p.life)
         self.twice(s, p, 'copy')
@@ -114,7 +114,7 @@ class Call(Walk):
         return []
 
     def places(self):
-        """What the template has places for."""
+        """The values of the template's placeholders."""
         life = low(self.pairs.life)
         return {
             'CLAIM': self.callee.claim([('n', '(length pairs)')]), 'SAID': self.function.claim(),

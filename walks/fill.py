@@ -1,4 +1,4 @@
-"""The text of a walk: a template's places filled, and the names that it brings in but does not use left out."""
+"""The text of a proof: a template with its placeholders filled, without the imported names that it does not use."""
 import re
 
 from script import items_of, low, tuple_of
@@ -9,7 +9,7 @@ def dashed(path):
 
 
 class Cited:
-    """A contract that a walk cites: its name in the walk (gather or callee), and the function's path."""
+    """A contract that a proof cites: its name in the proof (gather or callee), and the function's path."""
 
     def __init__(self, name, path, inside):
         self.name, self.path, self.inside = name, path, inside
@@ -31,7 +31,7 @@ class Cited:
 
 
 def promise(w):
-    """The places that speak of the promise alone."""
+    """The placeholders that concern the contract alone."""
     mutable = w.function.mutable()
     return {
         'PURE': ' '.join(f'({p.name} : {p.pure})' for p in w.params),
@@ -47,7 +47,7 @@ def promise(w):
 
 
 def entry(w):
-    """The places that speak of what is passed."""
+    """The placeholders that concern what is passed."""
     numbers = range(w.lives)
     down = [' .1' * i + ' .0' for i in range(len(w.params))]
     passed = [f'(args{d})' + (' _' if p.kind == 'array' else '') for p, d in zip(w.params, down)]
@@ -87,7 +87,7 @@ def text(templates, w, crate, module, uses, answer, cited):
 
 
 def used(lines, body):
-    """The `use` lines that the body needs, with the names that it says."""
+    """The `use` lines that the body needs, with the names that it uses."""
     words = set(re.split(r'[\s(){};,]+', body))
     spoken = words | {word.split('.')[0] for word in words}
     kept = []

@@ -1,4 +1,4 @@
-"""The walk of `cdef_pairs::gather`: a loop that copies the lent pairs into an array, one a turn."""
+"""The proof of `cdef_pairs::gather`: a loop that copies the caller's pairs into an array, one per turn."""
 from script import Script, after_entry, low, operands
 
 LOCALS = 14
@@ -132,7 +132,7 @@ def last_turn():
 
 
 def call(s, contract, module, to, goes, result, claim, reads, of=('tt', 'tt')):
-    """A call of a function that is lent nothing; its promise is heard as `said`."""
+    """A call of a function without borrowed parameters; its postcondition is named `said`."""
     s.line()
     s.say(f'use0 W (raw ({contract} 𝓤 H A mem run .pre {to})) {goes} $')
     s.push('pre')
@@ -191,7 +191,7 @@ def take_apart(s):
 
 
 def look_in(s):
-    """The lent slice looked into: a share of its elements."""
+    """The borrowed slice opened: a share of its elements."""
     s.line()
     s.front('owned')
     s.parts('slice', 'end')

@@ -1,4 +1,4 @@
-"""The walk of a function that lends the first n pairs of an array to a call that is lent pairs."""
+"""The proof of a function that passes the first n pairs of an array as a slice to a call that takes one."""
 from script import Script, after_entry, low, operands, tuple_of
 from signature import vals
 from walk import Walk
@@ -57,7 +57,7 @@ class Lend(Walk):
             return f'_{self.slice}'
         return f'_{self.thin[p.name] + 1}' if p.kind == 'mutable' else f'_{self.local[p.name]}'
 
-    # ---- the walk
+    # ---- the proof by hand over the MIR
 
     def walk(self):
         s = Script(after_entry(self.locals))
@@ -108,7 +108,7 @@ class Lend(Walk):
         s.rewrite('parts', '(k : ℕ)', f'arr-parts (shares R) k .part fullShare a {self.block} 0', '(sym a-long)')
 
     def lend(self, s):
-        """The array lent for a new lifetime α, and of that slice the first n."""
+        """The array borrowed for a new lifetime α, and the first n elements of that slice."""
         block, tells = self.block, '(StructLaws.vals theUnitPair.the-type theUnitPair′.the-laws) (StructLaws.tells theUnitPair.the-type theUnitPair′.the-laws)'
         life = next(p.life for p in self.callee.lent() if p.pairs)
         s.line()

@@ -1,7 +1,7 @@
-"""The steps of a walk over MIR, and the context that they act on.
+"""The steps of a proof over the MIR, and the context that they act on.
 
 A step of the toolchain's calculus names an entry of the context by its position. Here an entry has a name, and the
-positions are worked out: a local i is `_i` once it holds a value or room for one, and `die_i` is the right to free it.
+positions are computed: a local i is `_i` once it holds a value or room for one, and `die_i` is the right to free it.
 """
 
 

@@ -1,4 +1,4 @@
-"""A function's signature and promise out of its source, and what the calculus needs to be told of each parameter."""
+"""A function's signature and contract, read from its source, and what the calculus needs to know of each parameter."""
 import re
 
 WIDTH = {'u8': 8, 'u16': 16, 'u32': 32, 'u64': 64, 'usize': 64, 'i64': 64}
@@ -33,7 +33,7 @@ class Param:
 
     @property
     def pure(self):
-        """The type of what the promise speaks of."""
+        """The type of what the contract speaks of."""
         return f'List {self.element}' if self.lent or self.kind == 'array' else self.element
 
     @property
@@ -74,7 +74,7 @@ class Param:
         return f'({law} .typed {self.name} ({self.machine} ∷ []) {self.name}-is .0)'
 
     def makes(self):
-        """What it owns, had for nothing."""
+        """What it owns, which can be made from nothing."""
         if self.kind == 'number':
             law = f'(uint-makes 𝓤 H A W w{WIDTH[self.of]})'
         else:
@@ -139,7 +139,7 @@ class Function:
         return [p for p in self.params if p.kind == 'mutable']
 
     def claim(self, replaced=()):
-        """The promise over plain values: x for what is lent at entry, x′ for it at exit."""
+        """The contract over plain values: x for what is borrowed at entry, x′ for it at exit."""
         text = re.sub(r'\(now \((\w+) \.entry\)\)', r'\1', self.promise)
         text = re.sub(r'\(?now \((\w+) \.exit\)\)?', r'\1′', text)
         for old, new in replaced:

@@ -1,10 +1,10 @@
-"""What the walks of functions with a list of parameters share: their terms, entry, exit, and the call of one function that does the work."""
+"""What the proofs of functions with a list of parameters share: their terms, entry, exit, and the call of one function that does the work."""
 from script import Script, low, operands, tuple_of
 from signature import lawful, vals
 
 
 class Walk:
-    """function: what is walked. callee: what it calls to do the work, whose parameters have the same names but for the pairs."""
+    """function: what is proved. callee: what it calls to do the work, whose parameters have the same names except for the pairs."""
 
     def __init__(self, function, callee):
         self.function, self.callee = function, callee
@@ -33,7 +33,7 @@ class Walk:
         return f'(({self.lives_of("κ")}, {self.lives_of("q")}, tt, {self.values()}, {self.machines()}), tt)'
 
     def owns(self, p, life=None):
-        """What a lent parameter owns, at its lifetime's number in a signature."""
+        """What a borrowed parameter owns, at its lifetime's number in a signature."""
         life = p.life if life is None else life
         return f'‵ ({p.type(life, "κ" + low(p.life))} .own {p.name} ({p.machine} ∷ []))'
 
@@ -75,7 +75,7 @@ class Walk:
             s.parts(f'own_{p.name}', 'owned')
 
     def lend_on(self, s, p):
-        """A mutable slice lent on: a thin reference to it, and a slice of that."""
+        """A mutable slice passed on: a thin reference to it, and a slice of that."""
         thin, whole = f'_{self.thin[p.name]}', f'_{self.thin[p.name] + 1}'
         place = f'(from ! (fld ! refl (hop ! (look-in ! {s.at(self.at(p))} (sub ! 0 refl (whole !))) (stop !))))'
         s.assign(f'(addr ! {place})', thin, '(tt, tt)')
@@ -91,7 +91,7 @@ class Walk:
     # ---- the call that does the work
 
     def work(self, s, to, reads, tokens, lives, passed):
-        """to: what the contract binds. What the callee promised is heard as `said`."""
+        """to: what the contract binds. The callee's postcondition is named `said`."""
         handed = self.handed()
         s.line()
         s.front(*handed)
@@ -146,7 +146,7 @@ class Walk:
         return ''.join(f'alloc1 ! (λ l{low(i)}. ' for i in range(self.locals))
 
     def held(self):
-        """What is still had at exit besides the result."""
+        """What is still held at exit besides the result."""
         return [p for p in self.params if p.lent or p.kind == 'array']
 
     def kept(self):
@@ -159,7 +159,7 @@ class Walk:
             return self.owns(p) if p.lent else f'‵ ({p.row} .own {p.name} ({p.machine} ∷ []))'
         return [self.token(i) for i in range(self.lives)] + [one(p) for p in self.held()] + [f'‵ (the{self.function.result}.the-row .own r (r-val ∷ []))']
 
-    # ---- entailments: what is had, joined as a contract asks for it
+    # ---- entailments: what is held, joined as a contract needs it
 
     def join_tokens(self, s, tokens):
         s.say('nothing ! $')
@@ -168,7 +168,7 @@ class Walk:
             s.join(token, 'tokens', 'tokens')
 
     def join_owns(self, s, params, name, made):
-        """name: the entry that has what a parameter owns. made: the step that makes it where there is none."""
+        """name: the entry that holds what a parameter owns. made: the step that makes it where there is none."""
         s.say('nothing ! $')
         s.push('owns')
         for p in reversed(params):

@@ -7,7 +7,7 @@ use std::hint::black_box;
 
 const SIZE: (usize, usize) = (WIDTH, HEIGHT);
 
-/// A way of trying: its name, luma's or chroma's rules, and what the sides are divided by.
+/// A kind of trial: its name, whether luma's rules apply, and what the sides are divided by.
 type Way = (&'static str, bool, usize);
 
 const WAYS: [Way; 3] = [
@@ -147,7 +147,7 @@ impl Lines<'_> {
         self.written(call, blocks, ((), ()), each(ours), each(rust), |_, _| same);
     }
 
-    /// Times passes that write to what they are lent, and compares it after each block.
+    /// Times passes that write to the caller's slices, and compares those after each block.
     fn written<T, S>(
         &mut self,
         call: &str,
@@ -174,7 +174,7 @@ impl Lines<'_> {
     }
 }
 
-/// A pass that does it to each block, and what it gave at last.
+/// A pass that does it to each block, and its last result.
 fn each<T, R: Default>(call: impl Fn(&Block, &mut T) -> R) -> impl Fn(&[Block], &mut T) -> R {
     move |blocks, out| {
         let mut last = R::default();

@@ -98,7 +98,7 @@ impl Pictures<'_> {
         );
     }
 
-    /// Times a call that writes to what it is lent.
+    /// Times a call that writes to the caller's slices.
     fn line<T: Clone + PartialEq>(
         &mut self,
         call: &str,

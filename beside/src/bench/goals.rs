@@ -1,10 +1,10 @@
-//! What the lines come to: a picture's cost for an encoder, and the goals.
+//! What the lines add up to: a picture's cost for an encoder, and the goals.
 
 use crate::scene::DEPTHS;
 use crate::table::{Line, Table};
 use support::frame::Size;
 
-/// The most that ours may take of the Rust's time: goals, then the earlier limits.
+/// The largest allowed ratio of our time to the reference's: goals, then the earlier limits.
 const GOALS: [(&str, &str, f64); 15] = [
     ("goal", "try luma", 0.18),
     ("goal", "apply (4, 2) luma", 0.08),
@@ -23,7 +23,7 @@ const GOALS: [(&str, &str, f64); 15] = [
     ("limit", "measure (0, 0) luma", 1.5),
 ];
 
-/// How much longer ours may take for a block of the largest picture.
+/// How much longer ours may take per block of the largest picture.
 const GROWTH: f64 = 1.2;
 const GROWN: [&str; 4] = [
     "try luma",
@@ -53,7 +53,7 @@ pub fn encoder(table: &Table, size: Size) {
          and measuring (0, 0), each in luma and both chroma planes; sums of the lines above."
     );
     println!();
-    println!("| bits | the Rust, ms | ours, ms | ratio |");
+    println!("| bits | the reference, ms | ours, ms | ratio |");
     println!("|---|---|---|---|");
     for depth in DEPTHS {
         let size = Size { depth, ..size };

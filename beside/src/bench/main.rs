@@ -1,5 +1,5 @@
-//! Times our C entries beside the scalar Rust, in one run: bench. Prints a table of
-//! medians, and what they come to. Exit status: 0 printed, 1 an answer is different.
+//! Times our C entries against the scalar Rust reference, in one run: bench. Prints a table of
+//! medians, and what they add up to. Exit status: 0 printed, 1 an answer is different.
 
 mod blocks;
 mod frames;

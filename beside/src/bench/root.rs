@@ -1,4 +1,4 @@
-//! The root of the weighted distance beside the processor's own, a value in a block's place.
+//! The square root of the weighted distance against the processor's own, one value per block.
 
 use crate::table::Table;
 use ours::bare;
@@ -12,7 +12,7 @@ const SEED: u64 = 64;
 /// 64 squares of the largest difference at depth 8.
 const LIMIT: u64 = 64 * 255 * 255;
 
-/// What the weighted distance takes roots of at depth 8: c2 and a product of two spreads.
+/// What the weighted distance takes square roots of at depth 8: c2 and a product of two variances.
 fn values() -> Vec<f64> {
     let mut r = Random::new(SEED);
     let mut spread = || r.below(LIMIT + 1) as f64;
@@ -24,7 +24,7 @@ fn values() -> Vec<f64> {
 pub fn line(table: &mut Table, size: Size) {
     let values = values();
     table.time(
-        "root, the processor's for the Rust",
+        "square root, the processor's for the reference",
         size,
         values.len(),
         || {

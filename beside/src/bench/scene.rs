@@ -23,7 +23,7 @@ pub struct Scene {
     variances: Vec<u32>,
 }
 
-/// Where an 8 by 8 block begins, and what was found of it.
+/// Where an 8 by 8 block begins, and its direction and variance.
 pub struct Block {
     pub at: (usize, usize),
     pub dir: u8,
@@ -116,7 +116,7 @@ impl Scene {
         signalled << (self.size.depth - 8)
     }
 
-    /// The 8 by 8 blocks, of the edge or not.
+    /// The 8 by 8 blocks, at the edge or not.
     pub fn blocks(&self, wanted: impl Fn(bool) -> bool) -> Vec<Block> {
         let (columns, rows) = (WIDTH / 8, HEIGHT / 8);
         let mut list = Vec::new();
@@ -146,7 +146,7 @@ impl Display for Scene {
     }
 }
 
-/// A plane of the scene's size, repeated over a larger one or cut to a smaller.
+/// A plane of the scene's size, repeated over a larger one or cropped to a smaller.
 pub fn tiled(plane: &[u16], (width, height): (usize, usize)) -> Vec<u16> {
     let rows = plane.chunks(WIDTH).cycle().take(height);
     rows.flat_map(|row| row.iter().cycle().take(width).copied())

@@ -1,4 +1,4 @@
-//! The one table: a line a call, a size of picture and a bit depth.
+//! The one table: a line per call, size of picture and bit depth.
 
 use crate::timing::{self, FEW_ROUNDS, Median, ROUNDS};
 use support::frame::Size;
@@ -6,11 +6,11 @@ use support::planes::SIDE_MAX;
 
 pub struct Table {
     lines: Vec<Line>,
-    /// Whether every answer was the Rust's.
+    /// Whether every answer was the reference's.
     pub same: bool,
 }
 
-/// Nanoseconds a block.
+/// Nanoseconds per block.
 pub struct Line {
     call: String,
     size: Size,
@@ -27,7 +27,7 @@ impl Line {
 impl Table {
     pub fn new() -> Self {
         println!(
-            "| call | picture | bits | blocks | the Rust, ns a block | ours, ns a block | ratio | spread |"
+            "| call | picture | bits | blocks | the reference, ns per block | ours, ns per block | ratio | spread |"
         );
         println!("|---|---|---|---|---|---|---|---|");
         Table {
@@ -61,7 +61,7 @@ impl Table {
         self.lines.push(line);
     }
 
-    /// Takes note of whether the answers of a line were the same.
+    /// Records whether the answers of a line were the same.
     pub fn answers(&mut self, same: bool) {
         self.same &= same;
     }

@@ -7,28 +7,28 @@ pub const ROUNDS: usize = 25;
 /// On the largest picture.
 pub const FEW_ROUNDS: usize = 5;
 
-/// A round of either side lasts at least as many seconds of processor time.
+/// A round of either side lasts at least as many seconds of processor time as this.
 const ROUND: f64 = 0.006;
 
-/// How the times come about.
+/// How the times are measured.
 pub fn conditions() -> String {
     format!(
         "times: processor time, medians of {ROUNDS} rounds of at least {} ms ({FEW_ROUNDS} rounds \
-         on pictures of 4096 by 4096), ours and the Rust in turn, each first in every other round; \
-         one thread; spread: half the middle half, the Rust and ours",
+         on pictures of 4096 by 4096), ours and the reference in turn, each first in every other \
+         round; one thread; spread: half the interquartile range, the reference and ours",
         ROUND * 1e3
     )
 }
 
-/// Nanoseconds a block.
+/// Nanoseconds per block.
 #[derive(Clone, Copy)]
 pub struct Median {
     pub time: f64,
-    /// How far a quarter of the rounds is off, in percent.
+    /// Half of the interquartile range, in percent.
     pub spread: f64,
 }
 
-/// Times two passes over the same blocks, ours and the Rust's.
+/// Times two passes over the same blocks, ours and the reference's.
 pub fn both(
     rounds: usize,
     blocks: usize,
@@ -52,7 +52,7 @@ struct Side<'a> {
 }
 
 impl<'a> Side<'a> {
-    /// With as many passes in a round as it takes to last, counted after a warm one.
+    /// With as many passes per round as it takes to last that long, counted after a warm-up pass.
     fn new(pass: &'a mut dyn FnMut(), blocks: usize) -> Self {
         pass();
         let start = processor_time();

@@ -1,5 +1,5 @@
-//! Direction and block filter: random planes of every size and depth, many blocks a
-//! plane, and refusals.
+//! Direction and block filter: random planes of every size and depth, many blocks per
+//! plane, and rejected calls.
 
 use crate::drawn::{BLOCKS, any_plane, each_plane, size_number};
 use crate::seen::{BlockSeen, Seen};
@@ -9,7 +9,7 @@ use support::planes::{DEPTHS, SMALL};
 use support::random::Random;
 use support::report::{Report, Tally};
 
-/// What stands in direction and variance before a call: no call's result.
+/// What direction and variance hold before a call: no call's result.
 const HELD: (u8, u32) = (u8::MAX, u32::MAX);
 
 pub fn compare(report: &mut Report, long: bool, seed: u64) {
@@ -73,7 +73,7 @@ fn filter(tally: &mut Tally, rounds: usize, seed: u64) {
     seen.check(tally);
 }
 
-/// What was among the blocks filtered.
+/// Which values were among the blocks filtered.
 struct FilterSeen {
     blocks: BlockSeen,
     primaries: Vec<Seen>,
@@ -108,7 +108,7 @@ impl FilterSeen {
     }
 }
 
-/// Cases of every kind of no, and any, with two numbers held in each place.
+/// Cases that fail each check, and any, with two numbers held in each output.
 fn direction_refusals(tally: &mut Tally, rounds: usize, seed: u64) {
     let both = |tally: &mut Tally, c: &Direction| {
         for held in [HELD, (77, 12_345)] {

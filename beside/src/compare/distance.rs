@@ -1,5 +1,5 @@
 //! The distances: blocks of two random planes, blocks built to show how the steps are
-//! rounded, and refusals.
+//! rounded, and rejected calls.
 
 use crate::drawn::{BLOCKS, any_plane, each_plane, size_number};
 use crate::seen::Seen;
@@ -9,7 +9,7 @@ use support::planes::SMALL;
 use support::random::Random;
 use support::report::{Report, Tally};
 
-/// What stands in `out` before a call: no distance.
+/// What `out` holds before a call: no distance.
 const HELD: i64 = -1;
 
 /// Pairs of a round that are built to show how the steps are rounded.
@@ -66,7 +66,7 @@ fn distance(tally: &mut Tally, weighted: bool, rounds: usize, seed: u64) {
     tally.number("whole blocks", i64::from(enough), 1);
 }
 
-/// Cases of every kind of no, and any, with two numbers held in `out`.
+/// Cases that fail each check, and any, with two numbers held in `out`.
 fn refusals(tally: &mut Tally, weighted: bool, rounds: usize, seed: u64) {
     let both = |tally: &mut Tally, c: &Distance| {
         for held in [HELD, 12_345] {

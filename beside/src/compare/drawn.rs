@@ -7,8 +7,8 @@ use support::spot::Spot;
 /// Blocks of one plane.
 pub const BLOCKS: usize = 60;
 
-/// A plane of each size and depth in each round, and the largest there is, with how
-/// many blocks are taken of it.
+/// A plane of each size and depth in each round, and the largest there is, with the
+/// number of blocks taken of it.
 pub fn each_plane(r: &mut Random, rounds: usize, mut work: impl FnMut(&mut Random, Plane, usize)) {
     for _ in 0..rounds {
         for size in planes::sizes(r) {
@@ -23,7 +23,7 @@ pub fn each_plane(r: &mut Random, rounds: usize, mut work: impl FnMut(&mut Rando
     work(r, plane, 8);
 }
 
-/// The number of a small plane's size; none of a larger one's.
+/// The number of a small plane's size; none for a larger one.
 pub fn size_number(s: &Spot) -> usize {
     if s.width <= SMALL && s.height <= SMALL {
         (s.height - 1) * SMALL + s.width - 1

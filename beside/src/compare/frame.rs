@@ -1,5 +1,5 @@
 //! The calls on whole pictures: random pictures in luma and in every layout of chroma,
-//! refusals, and demand 3.
+//! rejected calls, and the agreement theorem (RULES, Agreement).
 
 mod demand3;
 mod seen;
@@ -51,8 +51,8 @@ pub fn compare(report: &mut Report, long: bool, seed: u64) {
 }
 
 impl Run {
-    /// 252 or one times the pictures after which each depth has met each pair: more than
-    /// 80,000 in a long run.
+    /// 252 or one times the number of pictures after which each depth has met each pair: more
+    /// than 80,000 in a long run.
     fn rounds(self) -> usize {
         if self.long { 252 } else { 1 }
     }
@@ -82,7 +82,7 @@ impl Run {
         self.call(report, chroma, &CHROMA, ours);
     }
 
-    /// A call and its refusals, by the names of both.
+    /// A call and its rejected calls, by the names of both.
     fn call<C: FrameCase>(
         self,
         report: &mut Report,
@@ -110,7 +110,7 @@ impl Run {
         report.call(refused, |tally| self.refusals(tally, kinds, ours));
     }
 
-    /// Cases of every kind of no, and any.
+    /// Cases that fail each check, and any.
     fn refusals<C: FrameCase>(
         self,
         tally: &mut Tally,

@@ -1,4 +1,4 @@
-//! The leaves: every case where that is possible, and refusals.
+//! The leaves: every case where that is possible, and rejected calls.
 
 use support::STRENGTH_MAX;
 use support::adjust_pri::{AdjustPri, VARIANCE_MAX};
@@ -8,7 +8,7 @@ use support::log2_floor::Log2Floor;
 use support::random::Random;
 use support::report::Report;
 
-/// What stands in `out` before a call: no call's result, so that an unwritten one shows.
+/// What `out` holds before a call: no call's result, so that an unwritten one shows.
 const HELD_I32: i32 = i32::MIN;
 const HELD_U32: u32 = u32::MAX;
 const HELD_U8: u8 = u8::MAX;
@@ -42,7 +42,7 @@ fn constrain(report: &mut Report, long: bool) {
     });
 }
 
-/// Refused cases, and any, with two numbers held in `out`.
+/// Rejected cases, and any, with two numbers held in `out`.
 fn constrain_refusals(report: &mut Report, long: bool, r: &mut Random) {
     let count = if long { 10_000_000 } else { 200_000 };
     report.call("constrain_refusals", |tally| {

@@ -1,4 +1,4 @@
-//! Compares ours with the unchanged Rust, call by call.
+//! Compares ours with the unchanged Rust reference, call by call.
 
 mod blocks;
 mod distance;
@@ -10,7 +10,7 @@ mod trial;
 
 use std::process::ExitCode;
 
-/// Samples that a long run holds against the Rust's at least.
+/// Samples that a long run compares with the reference's at least.
 const LONG_FLOOR: u64 = 1_000_000_000;
 
 fn main() -> ExitCode {

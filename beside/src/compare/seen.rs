@@ -1,4 +1,4 @@
-//! Which values were among the cases.
+//! Which values occurred among the cases.
 
 use crate::drawn::size_number;
 use support::block::Block;
@@ -18,21 +18,21 @@ impl Seen {
         Seen { name, values }
     }
 
-    /// Another value counts for nothing.
+    /// Another value is not counted.
     pub fn see(&mut self, value: usize) {
         if let Some(seen) = self.values.get_mut(value) {
             *seen = true;
         }
     }
 
-    /// Each value is wanted.
+    /// Each value must have occurred.
     pub fn check(&self, tally: &mut Tally) {
         let seen = self.values.iter().filter(|&&v| v).count();
         tally.number(self.name, seen as i64, self.values.len() as i64);
     }
 }
 
-/// What was among the blocks of filter or trial.
+/// What occurred among the blocks of filter or trial.
 pub struct BlockSeen {
     sizes: Seen,
     blocks: Seen,

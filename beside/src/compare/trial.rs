@@ -1,4 +1,4 @@
-//! Trial: blocks of random planes in either way, and refusals.
+//! Trial: blocks of random planes by luma's and by chroma's rules, and rejected calls.
 
 use crate::drawn::{BLOCKS, any_plane, each_plane};
 use crate::seen::{BlockSeen, Seen};
@@ -6,7 +6,7 @@ use support::random::Random;
 use support::report::{Report, Tally};
 use support::trial::Trial;
 
-/// One way of asking: 1 luma, 0 chroma. Each has half of the blocks of a plane.
+/// The rules of a trial: 1 luma, 0 chroma. Each has half of the blocks of a plane.
 struct Way(u8);
 
 pub fn compare(report: &mut Report, long: bool, seed: u64) {
@@ -60,7 +60,7 @@ impl Way {
         });
     }
 
-    /// A case of either way, in this one.
+    /// A case by either rules, changed to these.
     fn case(&self, tally: &mut Tally, c: Trial) {
         let c = Trial { luma: self.0, ..c };
         tally.case(&c, ours::trial(&c));

@@ -1,8 +1,8 @@
-//! The entries over slices and numbers, with nothing held around them: for measuring.
+//! The entries over slices and numbers, without guards around what they write: for measuring.
 
 use crate::entries;
 
-/// The number, the direction and the variance.
+/// The error code, the direction and the variance.
 #[inline]
 pub fn direction(
     plane: &[u16],
@@ -11,7 +11,7 @@ pub fn direction(
     depth: u8,
 ) -> (u32, u8, u32) {
     let (mut direction, mut variance) = (0, 0);
-    // SAFETY: the plane has the length given; two numbers are lent for the call.
+    // SAFETY: the plane has the length given; two numbers are borrowed for the call.
     let number = unsafe {
         entries::quern_direction(
             plane.as_ptr(),
@@ -28,7 +28,7 @@ pub fn direction(
     (number, direction, variance)
 }
 
-/// The number; a destination that begins with the plane's first row is written.
+/// The error code; a destination that begins with the plane's first row is written.
 #[inline]
 #[allow(clippy::too_many_arguments)]
 pub fn filter_block(
@@ -65,7 +65,7 @@ pub fn filter_block(
     }
 }
 
-/// The number; the twelve trial blocks are written. Luma gives a variance, chroma none.
+/// The error code; the twelve trial blocks are written. Luma gives a variance, chroma none.
 #[inline]
 #[allow(clippy::too_many_arguments)]
 pub fn trial(
@@ -117,7 +117,8 @@ pub fn trial(
     }
 }
 
-/// The number, and the weighted distance or the squares of two planes of one size.
+/// The error code, and the weighted distance or the sum of squared differences of two planes of
+/// one size.
 #[inline]
 pub fn distance(
     (original, other): (&[u16], &[u16]),
@@ -127,7 +128,7 @@ pub fn distance(
     weighted: bool,
 ) -> (u32, i64) {
     let mut out = 0;
-    // SAFETY: the planes have the lengths given; one number is lent for the call.
+    // SAFETY: the planes have the lengths given; one number is borrowed for the call.
     let number = unsafe {
         entries::measure(weighted)(
             original.as_ptr(),
@@ -145,9 +146,9 @@ pub fn distance(
     (number, out)
 }
 
-/// The root of a number from the least normal f64 on.
+/// The square root of a number from the smallest normal f64 on.
 #[inline]
 pub fn root(v: f64) -> f64 {
-    // SAFETY: the entry takes any number and is lent nothing.
+    // SAFETY: the entry accepts any number and borrows nothing.
     unsafe { entries::quern_root(v) }
 }

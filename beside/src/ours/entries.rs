@@ -93,7 +93,7 @@ unsafe extern "C" {
     ) -> u32;
 }
 
-/// The entry of the weighted distance, or of the squares.
+/// The entry of the weighted distance, or of the sum of squared differences.
 pub type Measure = unsafe extern "C" fn(
     *const u16,
     usize,

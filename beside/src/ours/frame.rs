@@ -12,15 +12,15 @@ use support::frame::measuring::Measuring;
 use support::frame::trying::Trying;
 use support::planes::SIDE_MAX;
 
-/// Places to spare beside a list of totals, directions or variances.
+/// Guard elements around a list of totals, directions or variances.
 const SPARE: usize = 64;
 
-/// What stands on both sides of totals, variances and directions; no call's result.
+/// What the guards of totals, variances and directions hold; no call's result.
 const HELD_TOTAL: i64 = -1;
 const HELD_VARIANCE: u32 = u32::MAX;
 const HELD_DIRECTION: u8 = u8::MAX;
 
-/// The answer, whose number shows where the call altered what it may only read.
+/// The answer; its error code shows where the call altered what it may only read.
 fn unaltered<C: Clone + PartialEq, V>(c: &C, call: impl FnOnce() -> Answer<V>) -> Answer<V> {
     let kept = c.clone();
     let answer = call();
@@ -30,7 +30,7 @@ fn unaltered<C: Clone + PartialEq, V>(c: &C, call: impl FnOnce() -> Answer<V>) -
     }
 }
 
-/// The number and two whole lists.
+/// The error code and two whole lists.
 fn both<T: Copy + PartialEq, S: Copy + PartialEq>(
     number: u32,
     one: List<T>,
@@ -43,7 +43,7 @@ fn both<T: Copy + PartialEq, S: Copy + PartialEq>(
     }
 }
 
-/// Places to spare beside a plane or rows of it.
+/// Guard elements around a plane or rows of it.
 fn rows(width: usize) -> usize {
     16 + 2 * width.min(SIDE_MAX)
 }

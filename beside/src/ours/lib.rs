@@ -18,10 +18,10 @@ use support::log2_floor::Log2Floor;
 use support::planes::SIDE_MAX;
 use support::trial::Trial;
 
-/// The number of an answer after which memory beside what is lent was altered.
+/// The error code of an answer after which memory outside what was passed was altered.
 const BESIDE: u32 = u32::MAX;
 
-/// One number lent, with `held` in it and on both sides of it before the call.
+/// One number passed by address, with `held` in it and on both sides of it before the call.
 struct Lent<T> {
     held: T,
     places: [T; 3],
@@ -38,7 +38,7 @@ impl<T: Copy + Into<i64> + PartialEq> Lent<T> {
 
     #[inline]
     fn out(&mut self) -> *mut T {
-        // SAFETY: the middle place of three.
+        // SAFETY: the middle element of three.
         unsafe { self.places.as_mut_ptr().add(1) }
     }
 
@@ -47,7 +47,7 @@ impl<T: Copy + Into<i64> + PartialEq> Lent<T> {
         self.places[0] == self.held && self.places[2] == self.held
     }
 
-    /// What it holds; after a refusal how far it was moved.
+    /// What it holds; after a rejected call how far it was moved.
     #[inline]
     fn value(&self, number: u32) -> i64 {
         let moved_from = if number == 0 { 0 } else { self.held.into() };
@@ -55,7 +55,7 @@ impl<T: Copy + Into<i64> + PartialEq> Lent<T> {
     }
 }
 
-/// The number and what `out` holds; after a refusal how far it was moved.
+/// The error code and what `out` holds; after a rejected call how far it was moved.
 #[inline]
 fn answer<T: Copy + Into<i64> + PartialEq>(
     held: T,
@@ -72,7 +72,7 @@ fn answer<T: Copy + Into<i64> + PartialEq>(
 #[inline]
 pub fn constrain(c: &Constrain, held: i32) -> Answer<i64> {
     answer(held, |out| {
-        // SAFETY: `out` is one number that is lent for the call.
+        // SAFETY: `out` is one number that is borrowed for the call.
         unsafe { quern_constrain(c.difference, c.strength, c.damping, out) }
     })
 }
@@ -95,7 +95,7 @@ pub fn damping(c: &Damping, held: u8) -> Answer<i64> {
 
 #[inline]
 pub fn log2_floor(c: &Log2Floor) -> Answer<i64> {
-    // SAFETY: it takes any number and no memory.
+    // SAFETY: it accepts any number and no memory.
     let value = unsafe { quern_log2_floor(c.0) }.into();
     Answer { number: 0, value }
 }
@@ -124,15 +124,15 @@ pub fn direction(c: &Direction, held: (u8, u32)) -> Answer<[i64; 2]> {
     }
 }
 
-/// What stands on both sides of a lent list; no filtered sample.
+/// What the guards on both sides of a list hold; no filtered sample.
 const HELD: u16 = 50_000;
 
-/// The destination has rows to spare.
+/// The destination has guard rows.
 pub fn filter(c: &Filter) -> Answer<Vec<u16>> {
     let (b, s) = (&c.block, &c.block.spot);
     let mut dst = List::new(&c.dst, 16 + 2 * s.width.min(SIDE_MAX), HELD);
     let lent = dst.lent();
-    // SAFETY: destination and plane have the lengths given, and are apart.
+    // SAFETY: destination and plane have the lengths given, and do not overlap.
     let number = unsafe {
         quern_filter_block(
             lent.as_mut_ptr(),
@@ -173,7 +173,7 @@ pub fn trial(c: &Trial) -> Answer<Vec<u16>> {
     list.answer(number)
 }
 
-/// The weighted distance or the squares.
+/// The weighted distance or the sum of squared differences.
 pub fn distance(c: &Distance, held: i64) -> Answer<i64> {
     let s = &c.spot;
     answer(held, |out| {

@@ -1,9 +1,9 @@
-//! Lists lent with places to spare on both sides.
+//! Lists passed with guard elements on both sides.
 
 use crate::BESIDE;
 use support::Answer;
 
-/// A list between places that hold one number before the call.
+/// A list between guards that hold one number before the call.
 pub struct List<T> {
     places: Vec<T>,
     spare: usize,
@@ -21,7 +21,7 @@ impl<T: Copy + PartialEq> List<T> {
         }
     }
 
-    /// What is lent.
+    /// What is passed to the call.
     pub fn lent(&mut self) -> &mut [T] {
         let end = self.places.len() - self.spare;
         &mut self.places[self.spare..end]
@@ -37,7 +37,7 @@ impl<T: Copy + PartialEq> List<T> {
         self.lent().to_vec()
     }
 
-    /// The number and the whole list.
+    /// The error code and the whole list.
     pub fn answer(self, number: u32) -> Answer<Vec<T>> {
         Answer {
             number: if self.is_alone() { number } else { BESIDE },

@@ -1,5 +1,5 @@
-//! The unchanged Rust: `src/cdef.rs` and `src/coder/frame_cdef.rs` of the folder
-//! in `MAROONTREE`, compiled as they stand, with one plain function a function.
+//! The unchanged Rust reference: `src/cdef.rs` and `src/coder/frame_cdef.rs` of the folder
+//! in `MAROONTREE`, compiled as they stand, with one plain function per function.
 
 mod shims;
 
@@ -13,7 +13,7 @@ mod cdef {
     pub mod plain;
 }
 
-/// `src/coder/frame_cdef.rs`, which the Rust's `coder.rs` includes in the same way.
+/// `src/coder/frame_cdef.rs`, which the reference's `coder.rs` includes in the same way.
 #[allow(dead_code)]
 mod coder {
     use crate::shims::{Pool, Speed, dc_q, frame_lambda_d, mode_lambda_q};

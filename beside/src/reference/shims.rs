@@ -1,4 +1,4 @@
-//! Stand-ins for what the two files lean on outside themselves.
+//! Stand-ins for what the two files depend on outside themselves.
 
 /// Stands for `src/intrapred.rs`: its trait `Pel`, word for word.
 pub(crate) mod intrapred {
@@ -59,7 +59,7 @@ pub(crate) mod rd_sse {
     }
 }
 
-/// Stands for `src/obu.rs`: the header fields that the search hands back.
+/// Stands for `src/obu.rs`: the header fields that the search returns.
 pub(crate) mod obu {
     pub(crate) struct CdefParams {
         pub(crate) bits: u8,
@@ -104,7 +104,7 @@ pub(crate) fn mode_lambda_q(_q: f32) -> f32 {
     0.0
 }
 
-/// Stands for `dc_q` of `src/quant.rs`: only `mode_lambda_q` takes it.
+/// Stands for `dc_q` of `src/quant.rs`: only `mode_lambda_q` uses it.
 pub(crate) fn dc_q(_base_q_idx: u8, _bd: u8) -> i32 {
     0
 }

@@ -1,4 +1,4 @@
-//! One call, with everything that it is handed.
+//! One call, with all its arguments.
 
 use crate::lent::{Lend, List, Source};
 
@@ -25,7 +25,7 @@ pub enum Call {
 
 use Call::*;
 
-/// Every entry that can refuse, with its name after `quern_`.
+/// Every entry that can reject a call, with its name after `quern_`.
 pub const CALLS: [(Call, &str); 16] = [
     (Constrain, "constrain"),
     (AdjustPri, "adjust_pri"),
@@ -45,7 +45,7 @@ pub const CALLS: [(Call, &str); 16] = [
     (ApplyChroma, "apply_chroma"),
 ];
 
-/// A list that a call may be lent; one number is a list of one place.
+/// A list that may be passed to a call; one number is a list of one element.
 #[derive(Clone, Copy, Debug, PartialEq)]
 pub enum Slot {
     Plane,
@@ -69,7 +69,7 @@ impl Call {
         self as usize >= DirectionPass as usize
     }
 
-    /// A frame call in chroma, which has halving flags and no variances.
+    /// A frame call in chroma, which has subsampling flags and no variances.
     pub fn is_chroma_frame(self) -> bool {
         matches!(self, TryChroma | MeasureChroma | ApplyChroma)
     }
@@ -100,13 +100,13 @@ impl Call {
         }
     }
 
-    /// All that it is lent.
+    /// All lists that are passed to it.
     pub fn lent(self) -> impl Iterator<Item = Slot> {
         self.written().iter().chain(self.shared()).copied()
     }
 }
 
-/// Every number of every call, in the entries' names; a call is handed its own.
+/// Every number of every call, in the entries' names; a call is passed its own.
 #[derive(Debug, Default)]
 pub struct Numbers {
     pub difference: i32,

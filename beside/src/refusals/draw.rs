@@ -1,4 +1,4 @@
-//! Cases that a call takes; but the sides may be out of range, with lists that fit them.
+//! Cases that a call accepts; but the sides may be out of range, with lists that fit them.
 
 use crate::case::Call::{self, *};
 use crate::case::{Case, Numbers};
@@ -64,7 +64,7 @@ fn frame_sides(r: &mut Random) -> (usize, usize) {
     }
 }
 
-/// Sides that question 2 says no to, and planes of them are not long.
+/// Sides that fail question 2, with planes that are not long.
 fn refused_sides(is_frame: bool, r: &mut Random) -> (usize, usize) {
     let other = if is_frame { 8 } else { 1 };
     match r.below(64) {
@@ -96,7 +96,7 @@ fn variance(bits: u64) -> u32 {
     (((bits >> 32) * 860_161) >> 32) as u32 >> (bits & 15)
 }
 
-/// A place along a side, often near its end.
+/// A position along a side, often near its end.
 fn place(side: usize, r: &mut Random) -> usize {
     let last = side.saturating_sub(1);
     match r.below(4) {
@@ -176,7 +176,7 @@ fn frame_numbers(n: &mut Numbers, call: Call, r: &mut Random) {
         n.primary = r.below(16) as u8;
         n.secondary = r.pick(&[0, 1, 2, 4]);
     }
-    // The way of telling the damping that does not count holds anything.
+    // The damping or quality index that is not used holds anything.
     (n.damping, n.quality, n.from_quality) = if r.below(2) == 0 {
         (3 + r.below(4) as u8, r.next() as u32, 0)
     } else {
@@ -244,7 +244,7 @@ fn samples(plane: &mut List<u16>, count: usize, bits: u8, r: &mut Random) {
     }
 }
 
-/// Marks in some places, of some planes.
+/// Marks at some positions, of some planes.
 fn marks(plane: &mut List<u16>, r: &mut Random) {
     let count = plane.held.len();
     if count > 0 && r.below(4) == 0 {

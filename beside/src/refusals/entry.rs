@@ -1,20 +1,20 @@
-//! The C entry of a case, with what is lent to it.
+//! The C entry of a case, with what is passed to it.
 
 use crate::case::Call::*;
 use crate::case::Case;
 use crate::entries::*;
 use crate::frame_entries::*;
 
-/// An entry's number. It takes lists, numbers, lists and numbers in this order; a list is
-/// lent as its address and its length.
+/// An entry's error code. It takes lists, numbers, lists and numbers in this order; a list is
+/// passed as its address and its length.
 macro_rules! number {
     ($entry:ident: $($list:ident)*; $($n:expr),*; $($later:ident)*; $($m:expr),*) => {
-        // SAFETY: the lists are lent with their lengths, and apart.
+        // SAFETY: the lists are passed with their lengths, and do not overlap.
         unsafe { $entry($($list.lent().0, $list.lent().1,)* $($n,)* $($later.lent().0, $later.lent().1,)* $($m),*) }
     };
 }
 
-/// What the entry answers.
+/// What the entry returns.
 pub fn answer(c: &Case) -> u32 {
     let n = &c.n;
     match c.call {

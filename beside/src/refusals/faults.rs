@@ -1,4 +1,4 @@
-//! Damaged cases. After most damage a question of the call says no; at a limit it may not.
+//! Damaged cases. After most damage a check of the call fails; at a limit it may not.
 
 use crate::case::Call::{self, *};
 use crate::case::{Case, Slot};
@@ -30,7 +30,7 @@ pub fn case(c: &mut Case, call: Call, largest: bool, r: &mut Random) {
     }
 }
 
-/// Damages what the question of that number asks about.
+/// Damages what the question of that number checks.
 fn damage(c: &mut Case, question: u32, r: &mut Random) {
     match question {
         1 => {
@@ -56,7 +56,7 @@ fn damage(c: &mut Case, question: u32, r: &mut Random) {
 
 const SIZES: [usize; 8] = [0, 1, 4095, 4096, 4097, 1 << 32, 1 << 63, usize::MAX];
 
-/// A size or place at or past a limit, one that a narrower type would wrap into range, or any.
+/// A size or position at or past a limit, one that a narrower type would wrap into range, or any.
 fn beyond(n: usize, r: &mut Random) -> usize {
     match r.below(4) {
         0 => r.pick(&SIZES),
@@ -80,7 +80,7 @@ fn beyond_u8(limit: u8, r: &mut Random) -> u8 {
     r.pick(&[limit, limit + 1, limit + 2, 128, 255, any])
 }
 
-/// One of the planes that the call is lent, or one of its other lists.
+/// One of the planes that are passed to the call, or one of its other lists.
 fn a_slot(c: &Case, planes: bool, r: &mut Random) -> Slot {
     let is_plane = |slot: &Slot| match slot {
         Slot::Plane | Slot::Other => true,
@@ -89,10 +89,10 @@ fn a_slot(c: &Case, planes: bool, r: &mut Random) -> Slot {
     };
     let lent = || c.call.lent().filter(|slot| is_plane(slot) == planes);
     let k = r.below(lent().count() as u64);
-    lent().nth(k as usize).expect("the call is lent one")
+    lent().nth(k as usize).expect("the call has one")
 }
 
-/// One place fewer or more, none, a row fewer or more, or any length up to twice as much.
+/// One element fewer or more, none, a row fewer or more, or any length up to twice as much.
 fn change_length(list: &mut dyn Lend, row: usize, r: &mut Random) {
     let (length, row) = (list.len(), row.min(4096));
     let any = r.below(2 * length as u64 + 2) as usize;
@@ -202,7 +202,7 @@ fn frame_values(c: &mut Case, r: &mut Random) {
     }
 }
 
-/// One place of the list, if it has one.
+/// One element of the list, if it has one.
 fn put<T>(list: &mut List<T>, value: T, r: &mut Random) {
     let k = r.below(list.held.len() as u64) as usize;
     if let Some(place) = list.held.get_mut(k) {
@@ -223,7 +223,7 @@ fn samples(c: &mut Case, r: &mut Random) {
     let (width, x, y) = (c.n.width, c.n.x, c.n.y);
     let second = c.call.shared().contains(&Slot::Other) && r.below(2) == 0;
     let plane = if second { &mut c.other } else { &mut c.plane };
-    // Near the block, in any place, or everywhere.
+    // Near the block, at any position, or everywhere.
     let near = |at: usize, r: &mut Random| at.wrapping_add(r.below(12) as usize).wrapping_sub(2);
     let row = near(y, r).wrapping_mul(width);
     let at = row.wrapping_add(near(x, r));

@@ -1,4 +1,4 @@
-//! Memory lent to a call: against an unreadable page, or from malloc and exactly as long.
+//! Memory passed to a call: next to an unreadable page, or from malloc and exactly as long.
 
 use std::ffi::c_void;
 use std::fmt::{Debug, Formatter, Result};
@@ -19,7 +19,7 @@ unsafe extern "C" {
 
 const NO_ACCESS: i32 = 0;
 const READ_WRITE: i32 = 3;
-/// Private, anonymous, and no memory set aside before it is used.
+/// Private, anonymous, and not reserved before it is used.
 const KIND: i32 = 0x2 | 0x20 | 0x4000;
 
 /// Unreadable on each side: whole pages, of whatever size.
@@ -27,14 +27,14 @@ const GUARD: usize = 1 << 16;
 /// A plane of 4,096 by 4,096 samples, and more.
 const READABLE: usize = 33 << 20;
 
-/// On which side of what is lent the unreadable page lies.
+/// On which side of what is passed the unreadable page lies.
 #[derive(Clone, Copy, PartialEq)]
 pub enum Guard {
     Before,
     After,
 }
 
-/// Where lent memory comes from.
+/// Where the memory comes from.
 #[derive(Clone, Copy, PartialEq)]
 pub enum Source {
     /// Mapped once; its first readable byte.
@@ -60,7 +60,7 @@ impl Source {
     }
 }
 
-/// A list that a call is lent, and what it held before.
+/// A list that is passed to a call, and what it held before.
 pub struct List<T> {
     pub held: Vec<T>,
     source: Source,
@@ -92,17 +92,17 @@ impl<T: Copy> List<T> {
 pub trait Lend {
     fn len(&self) -> usize;
 
-    /// Places are cut off or added.
+    /// Elements are removed or added.
     fn set_len(&mut self, length: usize);
 
-    /// Copies what is held to where the call finds it. So many places next to the guard
-    /// are left out, though the call is told of them.
+    /// Copies what is held to where the call finds it. So many elements next to the guard
+    /// are left out, though the call is given a length that includes them.
     fn lend(&mut self, guard: Guard, left_out: usize);
 
-    /// Whether every place is what it was, bit by bit.
+    /// Whether every element is what it was, bit by bit.
     fn same(&self) -> bool;
 
-    /// Alters one place of what is lent.
+    /// Alters one element of what is passed.
     fn spoil(&mut self);
 
     fn give_back(&mut self);
@@ -139,12 +139,12 @@ impl<T: Copy + Default + Eq> Lend for List<T> {
     }
 
     fn same(&self) -> bool {
-        // SAFETY: lent whole, and given back later.
+        // SAFETY: passed whole, and freed later.
         self.held == unsafe { std::slice::from_raw_parts(self.at, self.held.len()) }
     }
 
     fn spoil(&mut self) {
-        // SAFETY: as above, and the place is there.
+        // SAFETY: as above, and the element is there.
         unsafe {
             let byte: *mut u8 = self.at.add(self.held.len() - 1).cast();
             *byte ^= 1;
@@ -153,7 +153,7 @@ impl<T: Copy + Default + Eq> Lend for List<T> {
 
     fn give_back(&mut self) {
         if self.source == Source::Exact {
-            // SAFETY: from malloc, once a call.
+            // SAFETY: from malloc, once per call.
             unsafe { free(self.memory.cast()) };
         }
     }
@@ -162,6 +162,6 @@ impl<T: Copy + Default + Eq> Lend for List<T> {
 /// Its length alone.
 impl<T> Debug for List<T> {
     fn fmt(&self, f: &mut Formatter) -> Result {
-        write!(f, "{} places", self.held.len())
+        write!(f, "{} elements", self.held.len())
     }
 }

@@ -1,10 +1,10 @@
-//! Random and damaged calls of every C entry that can refuse, each answer held against
-//! document 01's questions and every lent list against what it was. `quern_log2_floor`
-//! and `quern_root` refuse nothing and are left out.
+//! Random and damaged calls of every C entry that can reject a call: each error code is compared
+//! with a model of RULES, Questions, and every list with what it was. `quern_log2_floor`
+//! and `quern_root` reject nothing and are left out.
 
 mod case;
 mod draw;
-#[allow(dead_code)] // Two entries refuse nothing.
+#[allow(dead_code)] // Two entries reject nothing.
 #[path = "../ours/entries.rs"]
 mod entries;
 mod entry;
@@ -29,7 +29,7 @@ use std::process::ExitCode;
 use std::time::Instant;
 use table::Counts;
 
-/// Every so many cases of a call one has a plane of 4,096 by 4,096.
+/// One case of a call in every so many has a plane of 4,096 by 4,096.
 const LARGEST_EVERY: u64 = 1 << 21;
 const LARGEST_FIRST: u64 = 1_000;
 

@@ -1,5 +1,5 @@
-//! Document 01's nine questions, one function each, written from that paper alone.
-//! Sizes and places are widened before they are added or multiplied, so nothing wraps.
+//! The nine questions, one function each, written from RULES, Questions alone.
+//! Sizes and positions are widened before they are added or multiplied, so nothing wraps.
 
 use crate::case::Call::{self, *};
 use crate::case::Case;
@@ -18,7 +18,7 @@ pub fn asked(call: Call) -> &'static [u32] {
     }
 }
 
-/// The number of the first question that says no, 0 where none does.
+/// The error code: the number of the first check that fails, 0 where none does.
 pub fn first_no(c: &Case) -> u32 {
     let says_no = |number: &&u32| match number {
         1 => !depth(c),
@@ -50,12 +50,12 @@ fn sides(c: &Case) -> bool {
     taken(c.n.width) && taken(c.n.height)
 }
 
-/// 3: both chroma halving flags are 0 or 1.
+/// 3: both chroma subsampling flags are 0 or 1.
 fn halving(c: &Case) -> bool {
     c.n.sx <= 1 && c.n.sy <= 1
 }
 
-/// Width and height of the plane itself; the flags are 0 but in chroma frame calls.
+/// Width and height of the plane itself; the flags are 0 except in chroma frame calls.
 fn plane_sides(c: &Case) -> (u128, u128) {
     (wide(c.n.width) >> c.n.sx, wide(c.n.height) >> c.n.sy)
 }
@@ -157,7 +157,7 @@ fn frame_values(c: &Case) -> bool {
     pairs && damping && flags && directions && variances
 }
 
-/// 9: each sample looked at is below 2^depth; block filter and trial also take the mark.
+/// 9: each examined sample is below 2^depth; block filter and trial also accept the mark.
 fn samples(c: &Case) -> bool {
     let below = |v: &u16| u32::from(*v) < 1 << c.n.depth;
     let or_mark = |v: &u16| below(v) || *v == 16384;
@@ -174,7 +174,7 @@ fn samples(c: &Case) -> bool {
     }
 }
 
-/// Whether each sample of a block passes, the block widened on each side and cut to the plane.
+/// Whether each sample of a block passes, the block widened on each side and cropped to the plane.
 fn looked_at(
     c: &Case,
     plane: &[u16],

@@ -1,4 +1,4 @@
-//! The program's words.
+//! The program's arguments.
 
 use crate::case::{CALLS, Call};
 use crate::model::asked;
@@ -6,7 +6,7 @@ use crate::model::asked;
 pub const WORDS: &str = "refusals short|long|exact [--seed N] [--only CALL] [--case N] \
      [--calls N] [--plant model:CALL[:QUESTION] | read:CALL | before:CALL | write:CALL]";
 
-/// How much is run, and how often at least each thing must be met.
+/// How much is run, and how often at least each thing must occur.
 pub struct Measure {
     /// Lists from malloc, exactly as long; else against unreadable pages.
     pub exact: bool,
@@ -20,12 +20,12 @@ pub struct Measure {
 /// What is made wrong.
 #[derive(Clone, Copy, PartialEq)]
 pub enum Plant {
-    /// In every third case the model takes this question's no for a yes.
+    /// In every third case the model lets this question pass although it fails.
     Model(u32),
-    /// A taken call is told of one place past the end of a list, or before its start.
+    /// An accepted call is given one element past the end of a list, or before its start.
     Read,
     Before,
-    /// After every third call one place that it may not alter is altered.
+    /// After every third call one element that it may not alter is altered.
     Write,
 }
 

@@ -1,4 +1,4 @@
-//! One case: lent, called, compared.
+//! One case: set up, called, compared.
 
 use crate::case::{Call, Case, Slot};
 use crate::lent::Guard;
@@ -9,7 +9,7 @@ use crate::{entry, model, stopped};
 /// How many differences of a call are printed.
 const SHOWN: u64 = 5;
 
-/// Makes the call, and compares its answer and what it was lent. The sides of the guards
+/// Makes the call, and compares its error code and the lists passed to it. The sides of the guards
 /// are drawn.
 pub fn run(c: &mut Case, number: u64, drawn: u64, options: &Options, counts: &mut Counts) {
     let call = c.call;
@@ -22,7 +22,7 @@ pub fn run(c: &mut Case, number: u64, drawn: u64, options: &Options, counts: &mu
     lend(c, drawn, plant);
     let got = stopped::during(call, number, || entry::answer(c));
     let altered = match plant {
-        // Not every place is there to compare.
+        // Not every element is there to compare.
         Some(Plant::Read | Plant::Before) => None,
         Some(Plant::Write) => {
             counts.planted += u64::from(spoil(c, got, drawn));
@@ -37,7 +37,7 @@ pub fn run(c: &mut Case, number: u64, drawn: u64, options: &Options, counts: &mu
         counts.different += 1;
         if counts.different <= SHOWN {
             let (name, seed) = (call.name(), options.seed);
-            print!("DIFFERENT {name}:{number}, seed {seed}: got {got}, due {due}, ");
+            print!("DIFFERENT {name}:{number}, seed {seed}: got {got}, expected {due}, ");
             println!("altered {altered:?}, {c:?}");
         }
     }
@@ -67,7 +67,7 @@ fn lend(c: &mut Case, drawn: u64, plant: Option<Plant>) {
     }
 }
 
-/// What may not be altered: after a refusal nothing lent, else nothing that is only read.
+/// What may not be altered: after a rejected call nothing, else nothing that is only read.
 fn kept(call: Call, got: u32) -> impl Iterator<Item = Slot> {
     let written: &[Slot] = if got == 0 { &[] } else { call.written() };
     call.shared().iter().chain(written).copied()
@@ -78,7 +78,7 @@ fn altered(c: &mut Case, got: u32) -> Option<Slot> {
     kept(c.call, got).find(|slot| !c.list(*slot).same())
 }
 
-/// Alters one place of these lists; whether there is one.
+/// Alters one element of these lists; whether there is one.
 fn spoil(c: &mut Case, got: u32, drawn: u64) -> bool {
     let mut slots: Vec<Slot> = kept(c.call, got).collect();
     slots.retain(|slot| c.list(*slot).len() > 0);

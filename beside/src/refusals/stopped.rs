@@ -1,4 +1,4 @@
-//! Says which call it was that a signal stopped.
+//! Reports which call was stopped by a signal.
 
 use crate::case::{CALLS, Call};
 use std::io::Write;
@@ -11,7 +11,7 @@ unsafe extern "C" {
     fn _exit(status: i32) -> !;
 }
 
-/// Illegal instruction, abort, bus error, arithmetic, and memory that may not be reached.
+/// Illegal instruction, abort, bus error, arithmetic, and memory that may not be accessed.
 const SIGNALS: [i32; 5] = [4, 6, 7, 8, 11];
 
 static SEED: AtomicU64 = AtomicU64::new(0);
@@ -23,7 +23,7 @@ static INSIDE: AtomicBool = AtomicBool::new(false);
 pub fn watch(seed: u64) {
     SEED.store(seed, Relaxed);
     for number in SIGNALS {
-        // SAFETY: the handler takes no lock and no memory but its own.
+        // SAFETY: the handler takes no lock and no memory except its own.
         unsafe { signal(number, stopped) };
     }
 }

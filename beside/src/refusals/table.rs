@@ -1,13 +1,13 @@
-//! Counts of each call's cases by the first no, and the floors under them.
+//! Counts of each call's cases by error code, and the floors under them.
 
 use crate::case::Call;
 use crate::model::asked;
 use crate::options::Options;
 
-/// What the cases of one call came to.
+/// The counts of the cases of one call.
 pub struct Counts {
     pub call: Call,
-    /// By the number due: 0 for taken, else the question's.
+    /// By the error code expected: 0 for accepted, else the question's number.
     pub due: [u64; 10],
     pub planted: u64,
     pub different: u64,
@@ -51,18 +51,18 @@ fn print_row(name: &str, counts: [String; 2], questions: impl Iterator<Item = St
 }
 
 pub fn print_head() {
-    let counts = ["calls", "taken"].map(String::from);
-    print_row("call", counts, (1..10).map(|q| format!("no {q}")));
+    let counts = ["calls", "accepted"].map(String::from);
+    print_row("call", counts, (1..10).map(|q| format!("error {q}")));
     println!(" {:>9} {:>6}", "different", "s");
 }
 
-/// Prints the sums and what was met too seldom; whether all is the same and met.
+/// Prints the sums and what occurred too seldom; whether all is the same and occurred.
 pub fn print_end(counts: &[Counts], options: &Options) -> bool {
     let sum = |of: fn(&Counts) -> u64| counts.iter().map(of).sum::<u64>();
     let (calls, taken) = (sum(Counts::calls), sum(|c| c.due[0]));
     let different = sum(|c| c.different);
     let seconds: f64 = counts.iter().map(|c| c.seconds).sum();
-    print!("{calls} calls, {taken} taken, {different} different, ");
+    print!("{calls} calls, {taken} accepted, {different} different, ");
     if options.plant.is_some() {
         print!("{} planted, ", sum(|c| c.planted));
     }
@@ -71,7 +71,7 @@ pub fn print_end(counts: &[Counts], options: &Options) -> bool {
     let mut seldom = questions(counts, floors.each_question);
     if options.only.is_none() {
         seldom.push(("calls".into(), calls, floors.calls));
-        seldom.push(("taken".into(), taken, floors.taken));
+        seldom.push(("accepted".into(), taken, floors.taken));
     }
     seldom.retain(|(_, count, least)| count < least && options.case.is_none());
     for (what, count, least) in &seldom {
@@ -80,12 +80,12 @@ pub fn print_end(counts: &[Counts], options: &Options) -> bool {
     different == 0 && seldom.is_empty()
 }
 
-/// Each question of each call, how often it was the first no, and how often it must be.
+/// Each question of each call, how often its check was the first to fail, and how often it must be.
 fn questions(counts: &[Counts], least: u64) -> Vec<(String, u64, u64)> {
     let mut list = Vec::new();
     for c in counts {
         for &q in asked(c.call) {
-            let what = format!("{}, first no {q}", c.call.name());
+            let what = format!("{}, error code {q}", c.call.name());
             list.push((what, c.due[q as usize], least));
         }
     }

@@ -1,4 +1,4 @@
-//! Trying, applying and measuring agree in the Rust: demand 3 on small pictures.
+//! Trying, applying and measuring agree in the reference: RULES, Agreement on small pictures.
 
 use reference::{Apply, Frame, Lists, Measure, Try};
 use support::frame::{CHROMA, Kind};
@@ -29,7 +29,7 @@ const SIZES: [[usize; 4]; 5] = [
     [136, 72, 61, 72],
 ];
 
-/// Halving flags across and down.
+/// Subsampling flags, horizontal and vertical.
 pub const LAYOUTS: [(usize, usize); 4] = [(0, 0), (1, 0), (1, 1), (0, 1)];
 
 pub fn check(tally: &mut Tally, r: &mut Random, long: bool) {
@@ -100,7 +100,7 @@ struct Part {
     height: usize,
 }
 
-/// Document 01's totals of a plane as it stands, from the distance of a block.
+/// The totals (RULES, Frame) of a plane as it stands, from the distance of a block.
 fn totals(f: &Frame, halved: (usize, usize), distance: impl Fn(Part) -> i64) -> Vec<i64> {
     let (x_by, y_by) = (1 << halved.0, 1 << halved.1);
     let visible = (

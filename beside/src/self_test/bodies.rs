@@ -1,4 +1,4 @@
-//! The bodies that document 01 calls absent: `sample`, `Pel::narrow`, the sums.
+//! The reference's helpers `sample`, `Pel::narrow` and the sums do what the rules assume.
 
 use reference::MARK;
 use support::random::Random;
@@ -16,7 +16,7 @@ pub fn check(tally: &mut Tally, r: &mut Random) {
     }
 }
 
-/// A sample on the plane, 16384 up to 3 places off it.
+/// A sample on the plane, 16384 up to 3 positions off it.
 fn sample(tally: &mut Tally, r: &mut Random) {
     for (width, height) in [(1, 1), (1, 5), (5, 1), (8, 8), (3, 7)] {
         let plane = r.samples((width * height) as usize, 12);

@@ -1,5 +1,5 @@
-//! The blocks built to show a sum under the root that is rounded once: that they lie
-//! where they should, that the Rust rounds twice, and that the results part.
+//! The blocks built to show a sum under the square root that is rounded once: that they lie
+//! where they should, that the reference rounds twice, and that the results differ.
 
 use support::Case;
 use support::built::{Built, C2, TOP};
@@ -15,6 +15,6 @@ pub fn check(tally: &mut Tally, r: &mut Random, long: bool) {
         let (twice, once) = (built.distance(false), built.distance(true));
         let rust = Distance::built(&built).result();
         tally.number("rounded twice", rust, twice);
-        tally.number("the results part", i64::from(twice != once), 1);
+        tally.number("the results differ", i64::from(twice != once), 1);
     }
 }

@@ -1,11 +1,11 @@
-//! The Rust's last clamp, to 0..2^depth - 1: that it never acts where every sample
-//! looked at is below 2^depth or marked. The filter is mirrored up to that clamp.
+//! The reference's last clamp, to 0..2^depth - 1: that it never acts where every examined sample
+//! is below 2^depth or marked. The filter is mirrored up to that clamp.
 
 use reference::MARK;
 use support::random::Random;
 use support::report::Tally;
 
-/// The filter of one plane up to the last clamp, from document 01's rules.
+/// The filter of one plane up to the last clamp, from RULES, Filter.
 pub struct Mirror<'a> {
     pub plane: &'a [u16],
     pub width: usize,
@@ -80,8 +80,8 @@ pub fn check(tally: &mut Tally, r: &mut Random, long: bool) {
     }
 }
 
-/// Primary taps alone, or secondary ones, weigh 12 together, so no sum of theirs
-/// passes 12 times the distance to the nearer end; then neither does the result.
+/// Primary taps alone, or secondary ones, weigh 12 together, so no sum of theirs exceeds
+/// 12 times the distance to the nearer end; then the result does not pass that end.
 fn weights(tally: &mut Tally) {
     let (_, pri, sec) = reference::tables();
     for row in pri {
@@ -131,7 +131,7 @@ struct Block {
     height: usize,
 }
 
-/// The block filter. Places that are not written hold 65535 on both sides.
+/// The block filter. Positions that are not written hold 65535 on both sides.
 fn filter(tally: &mut Tally, m: &Mirror, b: &Block) {
     let mut got = vec![u16::MAX; m.plane.len()];
     reference::cdef_filter_block(
@@ -161,7 +161,7 @@ fn filter(tally: &mut Tally, m: &Mirror, b: &Block) {
     tally.same(&format!("filter, depth {}", m.depth), got, expected);
 }
 
-/// The twelve trial blocks. Places past the block hold -1 on both sides.
+/// The twelve trial blocks. Elements past the block hold -1 on both sides.
 fn trial(tally: &mut Tally, m: &Mirror, b: &Block, variance: Option<u32>) {
     let mut got = [[-1; 64]; 12];
     reference::cdef_block_candidates(

@@ -1,7 +1,7 @@
-//! Runs the unchanged Rust alone: document 01's worked lines, the bodies that it
-//! calls absent, the last clamp, and the agreement of the frame functions; and holds
-//! the harness's questions against document 01's numbers, and its built blocks against
-//! what they are built for.
+//! Runs the unchanged Rust reference alone: RULES, Worked lines, its helper functions, the
+//! last clamp, and the agreement of the frame functions; and checks the harness's
+//! validation against the stated error codes, and its built blocks against what they are
+//! built for.
 
 mod agreement;
 mod bodies;

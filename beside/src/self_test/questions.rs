@@ -1,5 +1,5 @@
-//! Document 01's questions as the harness asks them, against the number stated
-//! beside each case.
+//! The nine questions (RULES, Questions) as the harness checks them, against the error code
+//! stated with each case.
 
 use support::Case;
 use support::direction::Direction;
@@ -29,13 +29,13 @@ pub fn check(tally: &mut Tally) {
     both::<Applying>(tally, "applying");
 }
 
-/// Luma and chroma, of which chroma alone asks 3.
+/// Luma and chroma, of which chroma alone validates 3.
 fn both<C: FrameCase>(tally: &mut Tally, call: &str) {
     each(tally, call, stated::<C>(&LUMA), &[1, 2, 4, 7, 8, 9]);
     each(tally, call, stated::<C>(&CHROMA), &[1, 2, 3, 4, 7, 8, 9]);
 }
 
-/// Each number asked is among the stated ones, 0 too, and no other is.
+/// Each error code of the call is among the stated ones, 0 too, and no other is.
 fn each<C: Case>(
     tally: &mut Tally,
     call: &str,

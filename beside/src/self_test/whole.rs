@@ -60,7 +60,7 @@ fn planes(r: &mut Random, (sub_x, sub_y): (usize, usize), depth: u8) -> [Vec<u16
     ]
 }
 
-/// The plane with noise that filtering takes away.
+/// The plane with noise that filtering removes.
 fn noisy(r: &mut Random, plane: &[u16], depth: u8) -> Vec<u16> {
     let (max, far) = ((1i64 << depth) - 1, 2i64 << (depth - 8));
     let mut moved = |s: u16| (i64::from(s) + r.between(-far, far)).clamp(0, max) as u16;

@@ -1,4 +1,4 @@
-//! Document 01's worked lines, through the Rust.
+//! RULES, Worked lines, run through the reference.
 
 use crate::last_clamp::Mirror;
 use reference::MARK;
@@ -52,10 +52,10 @@ fn filtered(
     dst[y * width + x].into()
 }
 
-/// A row of marks but for the centre and two taps, so that the sum is known.
+/// A row of marks except for the centre and two taps, so that the sum is known.
 fn rounding(tally: &mut Tally) {
     // Along direction 2 the near primary tap weighs 4; with direction 0 the same
-    // places are secondary taps that weigh 2 and 1.
+    // positions are secondary taps that weigh 2 and 1.
     for (near, far, pri, sec, direction, result) in [
         (103, 101, 0, 4, 0, 100),  // sum 7
         (102, MARK, 4, 0, 2, 101), // sum 8

@@ -1,5 +1,5 @@
-//! A block of a lent plane as filter and trial take it: looked at with two samples
-//! more on each side, marks taken, along a direction.
+//! A block of a plane for filter and trial: examined with two more samples
+//! on each side, marks accepted, along a direction.
 
 use crate::constrain::DAMPING_MAX;
 use crate::planes::Plane;
@@ -43,12 +43,12 @@ impl<'a> Block<'a> {
         }
     }
 
-    /// What is looked at, for a place on the plane.
+    /// What is examined, for a position on the plane.
     pub fn area(&self) -> Area {
         self.spot.area(self.width, self.height, 2)
     }
 
-    /// In part of the cases nothing that isn't looked at is a sample.
+    /// In part of the cases nothing that isn't examined is a sample.
     pub(crate) fn spoil_elsewhere(&mut self, r: &mut Random) {
         let area = self.area();
         self.spot.often_spoil_elsewhere(&area, r);
@@ -66,7 +66,7 @@ impl<'a> Block<'a> {
         }
     }
 
-    /// Writes what is looked at.
+    /// Writes what is examined.
     pub(crate) fn show(&self, f: &mut Formatter, number: u32) -> Result {
         let s = &self.spot;
         s.show(f, number, &[&s.plane], || self.area())
@@ -98,7 +98,7 @@ impl Block<'static> {
         list
     }
 
-    /// 8, and 9 of the centre beside the mark.
+    /// 8, and 9 of a centre next to the mark's value.
     pub(crate) fn later_breaks() -> Vec<Break<Self>> {
         let mut list = Vec::new();
         for dir in [8, 9, 15, 255] {
@@ -141,7 +141,7 @@ pub(crate) const BESIDE_MARKS: [(u8, (u32, u32)); 5] = [
     (0, (0, 1)),
 ];
 
-/// Samples beside marks: at damping 31 and strength 1 their difference alone would let
+/// Samples next to marks: at damping 31 and strength 1 their difference alone would let
 /// them count; for damping 0 samples that differ by 1.
 pub(crate) fn beside_marks(depth: u8, damping: u8, r: &mut Random) -> Plane {
     let base = r.between(1, 250) as u16;
@@ -160,8 +160,8 @@ pub(crate) fn beside_marks(depth: u8, damping: u8, r: &mut Random) -> Plane {
     plane
 }
 
-/// Document 01's worked planes: a row with its fourth sample free or marked, and a
-/// square; the place of the block of 1 by 1 in each.
+/// The planes of RULES, Worked lines: a row with its fourth sample free or marked, and a
+/// square; the position of the block of 1 by 1 in each.
 pub(crate) fn worked() -> (Vec<(Plane, Place)>, (Plane, Place)) {
     let row = |fourth| Plane::new(vec![100, 100, 104, fourth, 100], 5, 1, 8);
     let rows = [100, MARK].map(|fourth| (row(fourth), [2, 0, 1, 1]));

@@ -6,13 +6,13 @@ use crate::random::Random;
 const C1: i64 = 400 << 8;
 pub const C2: i64 = 20_000 << 16;
 
-/// Below it an f64 that large is a multiple of 4, from it on of 8.
+/// Below it an f64 of that size is a multiple of 4, from it on of 8.
 pub const TOP: i64 = 1 << 55;
 
 /// The largest sample.
 const MOST: i64 = 4095;
 
-/// Changes at random where none brings nearer: with one alone the next would undo it.
+/// Random changes made where no step gets nearer: with one alone the next would undo it.
 const KICKS: usize = 4;
 
 type Block = [i64; 64];
@@ -24,9 +24,9 @@ pub struct Built {
 
 impl Built {
     /// a × b lies so near under 2^55 that the result shows whether c2 and a × b are
-    /// rounded each and then added, as document 01 has it, or their sum is rounded once.
-    /// No random blocks do: under 2^55 − c2 both ways are the same, and above they part
-    /// by one unit in the root's last place.
+    /// rounded each and then added, as in RULES, Distance, or their sum is rounded once.
+    /// No random blocks do: under 2^55 − c2 both ways are the same, and above they differ
+    /// by one unit in the square root's last place.
     pub fn under_top(r: &mut Random) -> Self {
         loop {
             let other = strong(r);
@@ -73,7 +73,7 @@ impl Built {
         variance(&self.original) * variance(&self.other)
     }
 
-    /// The distance, with the sum under the root rounded once or as it should be.
+    /// The distance, with the sum under the square root rounded once or as it should be.
     pub fn distance(&self, once: bool) -> i64 {
         cut(self.squares(), self.weight(once))
     }
@@ -142,7 +142,7 @@ fn cut(e: i64, weight: f64) -> i64 {
     (0.5 + e as f64 * weight) as i64
 }
 
-/// Low and high samples and four in the middle: a near the root of 2^55.
+/// Low and high samples and four in the middle: a near the square root of 2^55.
 fn strong(r: &mut Random) -> Block {
     std::array::from_fn(|k| match k {
         0..30 => r.between(0, 600),

@@ -23,7 +23,7 @@ impl Constrain {
         }
     }
 
-    /// The ends of each range, and differences around which the result turns 0.
+    /// The ends of each range, and differences around which the result becomes 0.
     pub fn edges() -> Vec<Self> {
         let mut list = vec![Self::new(3, 4, 3), Self::new(-5, 4, 3)];
         for strength in [0, 1, 4, STRENGTH_MAX] {
@@ -47,7 +47,7 @@ impl Constrain {
         list
     }
 
-    /// Each question's no at its nearest and farthest, alone and before a later no.
+    /// Each failing check at its nearest and farthest, alone and before a later failing one.
     pub fn refused() -> Vec<Self> {
         let mut list = Vec::new();
         for strength in [STRENGTH_MAX + 1].into_iter().chain(WIDE) {

@@ -3,14 +3,14 @@
 use std::ffi::c_long;
 use std::ops::AddAssign;
 
-/// What is compared of the answer to one case, where the call is done.
+/// What is compared of the answer to one case, where the call is accepted.
 #[derive(Clone, Copy, Default)]
 pub struct Amount {
     /// Samples, and numbers such as a direction or a distance.
     pub samples: usize,
     /// Totals of units.
     pub totals: usize,
-    /// Places of measuring's scratch. They are held against zeros: the Rust has none.
+    /// Elements of measuring's scratch. They are compared with zeros: the reference has none.
     pub scratch: usize,
 }
 
@@ -48,7 +48,7 @@ impl Counts {
     pub fn print_head() {
         print_row(
             "call",
-            ["cases", "samples", "unit totals", "refusals", "different"],
+            ["cases", "samples", "unit totals", "rejected", "different"],
             "seconds",
         );
     }
@@ -68,14 +68,14 @@ impl Counts {
         print_row(name, counts.each_ref().map(|n| n.as_str()), &seconds);
     }
 
-    /// Prints the row of all calls; whether as many samples as wanted were held against
-    /// the Rust's.
+    /// Prints the row of all calls; whether as many samples as wanted were compared with
+    /// the reference's.
     pub fn print_end(&self, floor: u64) -> bool {
         self.print("in all");
         let (samples, scratch) = (self.samples, self.scratch);
         if scratch > 0 {
             println!(
-                "samples held against the Rust's: {samples}; scratch held against 0: {scratch}"
+                "samples compared with the reference: {samples}; scratch compared with 0: {scratch}"
             );
         }
         if samples < floor {

@@ -28,7 +28,7 @@ impl<'a> Direction<'a> {
         c
     }
 
-    /// What is looked at, for a place on the plane.
+    /// What is examined, for a position on the plane.
     pub fn area(&self) -> Area {
         self.0.area(8, 8, 0)
     }
@@ -47,7 +47,7 @@ impl Direction<'static> {
         Direction::on(&Plane::small(r), r).owned()
     }
 
-    /// Worked lines, each direction at each depth, and cut blocks.
+    /// Worked lines, each direction at each depth, and blocks that cross an edge.
     pub fn edges() -> Vec<Self> {
         let r = &mut Random::new(1);
         let flat = vec![130; 64];
@@ -81,12 +81,12 @@ impl Direction<'static> {
         side_limits(Direction)
     }
 
-    /// The limits, and what is asked of good cases and broken ones.
+    /// The limits, good cases and broken ones.
     pub fn stated() -> Vec<Stated<Self>> {
         [Self::limits(), Self::asked()].concat()
     }
 
-    /// Each question's no, and a scan of the samples looked at.
+    /// Each failing check, and a scan of the examined samples.
     pub fn asked() -> Vec<Stated<Self>> {
         let r = &mut Random::new(2);
         let good = GOOD.map(|(size, depth, [x, y, ..])| {

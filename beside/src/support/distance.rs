@@ -1,4 +1,4 @@
-//! Cases of the two distances of a block: weighted, and squares.
+//! Cases of the two distances of a block: weighted, and the sum of squared differences.
 
 use crate::built::Built;
 use crate::planes::{DEPTHS, Plane};
@@ -13,7 +13,7 @@ use std::mem::swap;
 
 #[derive(Clone)]
 pub struct Distance<'a> {
-    /// The place, and the original.
+    /// The position, and the original.
     pub spot: Spot<'a>,
     pub other: Cow<'a, [u16]>,
     pub weighted: bool,
@@ -53,7 +53,7 @@ impl<'a> Distance<'a> {
         [&self.spot.plane, &self.other]
     }
 
-    /// What is looked at, for a place on the plane.
+    /// What is examined, for a position on the plane.
     pub fn area(&self) -> Area {
         self.spot.area(8, 8, 0)
     }
@@ -69,7 +69,7 @@ impl<'a> Distance<'a> {
         swap(&mut self.spot.plane, &mut self.other);
     }
 
-    /// Does it to the place on the other plane, then on the original.
+    /// Does it to the position on the other plane, then on the original.
     fn both(&mut self, mut change: impl FnMut(&mut Spot<'a>)) {
         for _ in 0..2 {
             self.turn();
@@ -87,7 +87,7 @@ impl<'a> Distance<'a> {
 }
 
 impl Distance<'static> {
-    /// The place (x, y) of a plane and of another one like it.
+    /// The position (x, y) of a plane and of another one like it.
     fn at(plane: &Plane, x: usize, y: usize, weighted: bool, r: &mut Random) -> Self {
         let other = plane.other(r);
         Distance::new(plane.spot(x, y), &other, weighted).owned()
@@ -110,8 +110,8 @@ impl Distance<'static> {
         Distance::on(&plane, &other, weighted, r).owned()
     }
 
-    /// Worked lines, the ends of the range, whole and cut blocks, and blocks built to
-    /// show how the steps are rounded.
+    /// Worked lines, the ends of the range, whole blocks and blocks that cross an edge, and
+    /// blocks built to show how the steps are rounded.
     pub fn edges(weighted: bool) -> Vec<Self> {
         let r = &mut Random::new(7);
         let mut list = vec![
@@ -151,12 +151,12 @@ impl Distance<'static> {
         })
     }
 
-    /// The limits, and what is asked of good cases and broken ones.
+    /// The limits, good cases and broken ones.
     pub fn stated(weighted: bool) -> Vec<Stated<Self>> {
         [Self::limits(weighted), Self::asked(weighted)].concat()
     }
 
-    /// Each question's no, of either plane, and scans of the samples looked at.
+    /// Each failing check, of either plane, and scans of the examined samples.
     pub fn asked(weighted: bool) -> Vec<Stated<Self>> {
         let r = &mut Random::new(8);
         let good = GOOD.map(|(size, depth, [x, y, ..])| {

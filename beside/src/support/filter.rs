@@ -30,7 +30,7 @@ pub struct Filter<'a> {
     pub sec: u32,
 }
 
-/// What stands in a plane's destinations before: any numbers, and rows past the plane.
+/// What a plane's destinations hold before: any numbers, and rows past the plane.
 pub fn under(plane: &Plane, r: &mut Random) -> Vec<u16> {
     let count = plane.width * (plane.height + PAST);
     (0..count).map(|_| r.next() as u16).collect()
@@ -38,7 +38,7 @@ pub fn under(plane: &Plane, r: &mut Random) -> Vec<u16> {
 
 impl<'a> Filter<'a> {
     /// A block of a plane, with a destination of `under` or of the plane itself; in
-    /// part of the cases nothing that isn't looked at is a sample.
+    /// part of the cases nothing that isn't examined is a sample.
     pub fn on(plane: &'a Plane, under: &'a [u16], r: &mut Random) -> Self {
         let spot = plane.any_spot(r);
         let (width, height) = (any_side(r), any_side(r));
@@ -101,7 +101,7 @@ impl<'a> Filter<'a> {
         self.dst.len().checked_div(width).unwrap_or(0)
     }
 
-    /// The numbers of a stored line that stand before document 01's.
+    /// The numbers of a stored line that stand before the error code.
     pub fn numbers(&self) -> String {
         let b = &self.block;
         let rows = [b.width, b.height, self.y0, self.dst_rows()];
@@ -174,7 +174,7 @@ impl Case for Filter<'_> {
         dst
     }
 
-    /// The samples that are written: the block on the plane, less its marks.
+    /// The samples that are written: the block on the plane, without its marks.
     fn amount(&self) -> Amount {
         let Block {
             spot,

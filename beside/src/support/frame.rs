@@ -1,4 +1,4 @@
-//! What the calls on whole pictures share: the picture and how a call is told its
+//! What the calls on whole pictures share: the picture and how a call is given its
 //! damping.
 
 pub mod applying;
@@ -30,13 +30,13 @@ impl Size {
         self.width / 8 * (self.height / 8)
     }
 
-    /// Units of 64 by 64, cut ones too.
+    /// Units of 64 by 64, partial ones too.
     pub fn units(&self) -> usize {
         self.width.div_ceil(64) * self.height.div_ceil(64)
     }
 }
 
-/// Luma, or a chroma plane with its halving flags, across and down.
+/// Luma, or a chroma plane with its subsampling flags, horizontal and vertical.
 #[derive(Clone, Copy, PartialEq)]
 pub enum Kind {
     Luma,
@@ -61,7 +61,7 @@ impl Kind {
         }
     }
 
-    /// The Rust's functions for such a plane.
+    /// The reference's functions for such a plane.
     pub fn rust(&self) -> (Try, Measure, Apply) {
         match self {
             Kind::Luma => (
@@ -89,8 +89,8 @@ impl Kind {
     }
 }
 
-/// How a call is told its damping: where `from_quality` is 0 by the signalled figure,
-/// else by the quality index. The other one is not looked at.
+/// How a call is given its damping: where `from_quality` is 0 by the signalled figure,
+/// else by the quality index. The other one is not read.
 #[derive(Clone, Copy, PartialEq)]
 pub struct DampingChoice {
     pub signalled: u8,
@@ -99,7 +99,7 @@ pub struct DampingChoice {
 }
 
 impl DampingChoice {
-    /// A figure of 3 to 6, told one way or the other.
+    /// A figure of 3 to 6, given one way or the other.
     pub fn random(figure: u8, r: &mut Random) -> Self {
         let mut choice = DampingChoice {
             signalled: figure,
@@ -114,7 +114,7 @@ impl DampingChoice {
         choice
     }
 
-    /// Of a choice that is taken.
+    /// Of a choice that is accepted.
     pub fn in_force(&self) -> u8 {
         if self.from_quality == 0 {
             self.signalled
@@ -124,7 +124,7 @@ impl DampingChoice {
     }
 }
 
-/// What trying, measuring and applying share. The lists have one entry a block.
+/// What trying, measuring and applying share. The lists have one entry per block.
 #[derive(Clone, PartialEq)]
 pub struct Picture {
     pub kind: Kind,
@@ -143,12 +143,12 @@ impl Picture {
         width * height
     }
 
-    /// The places of the scratch: plane width by block height.
+    /// The length of the scratch: plane width by block height.
     pub fn scratch(&self) -> usize {
         (8 >> self.kind.flags().1) * self.kind.sides(&self.size).0
     }
 
-    /// The same for the Rust.
+    /// The same for the reference.
     pub fn frame(&self, (visible_width, visible_height): (usize, usize)) -> Frame {
         let (sx, sy) = self.kind.flags();
         Frame {

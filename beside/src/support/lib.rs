@@ -1,4 +1,4 @@
-//! What the programs share: cases of each call with the answer due to them, the
+//! What the programs share: cases of each call with the expected answer, the
 //! random generator, and the report.
 
 pub mod adjust_pri;
@@ -25,37 +25,37 @@ use counts::Amount;
 use report::Value;
 use std::fmt::Display;
 
-/// What adjusting and constraining alone take at most.
+/// The largest strength that adjusting and constraining alone accept.
 pub const STRENGTH_MAX: u32 = 240;
 
 /// Numbers that a narrower type would wrap into range, and the last ones.
 pub(crate) const WIDE: [u32; 6] = [256, 65_536, 65_540, 1 << 31, u32::MAX - 1, u32::MAX];
 
-/// Document 01's number, 0 for done, and the value. After a refusal a number is 0,
-/// and a lent list is what it was.
+/// The error code, 0 for done, and the value. After a rejected call a number is 0,
+/// and a list is what it was.
 #[derive(Clone, Debug, PartialEq)]
 pub struct Answer<V> {
     pub number: u32,
     pub value: V,
 }
 
-/// One case of a call. `Display` writes the inputs, parted by single spaces.
+/// One case of a call. `Display` writes the inputs, separated by single spaces.
 pub trait Case: Display {
     type Value: Value + Default;
 
-    /// Document 01's number of the first question that says no, or 0.
+    /// The error code (RULES, Questions): the number of the first check that fails, or 0.
     fn number(&self) -> u32;
 
-    /// The Rust's result, asked for only where the number is 0.
+    /// The reference's result, computed only where the error code is 0.
     fn result(&self) -> Self::Value;
 
-    /// What is compared of the answer where the number is 0.
+    /// What is compared of the answer where the error code is 0.
     #[inline]
     fn amount(&self) -> Amount {
         Amount::samples(1)
     }
 
-    /// The value that is due after a refusal.
+    /// The value that is expected after a rejected call.
     #[inline]
     fn left(&self) -> Self::Value {
         Self::Value::default()
@@ -73,7 +73,7 @@ pub trait Case: Display {
     }
 }
 
-/// Numbers parted by single spaces.
+/// Numbers separated by single spaces.
 pub fn joined<T: Display>(numbers: impl IntoIterator<Item = T>) -> String {
     let words: Vec<String> = numbers.into_iter().map(|n| n.to_string()).collect();
     words.join(" ")

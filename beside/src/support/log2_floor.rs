@@ -4,7 +4,7 @@ use crate::Case;
 use crate::random::Random;
 use std::fmt::{Display, Formatter, Result};
 
-/// The Rust takes an i32, so its cases end at 2^31 - 1.
+/// The reference takes an i32, so its cases end at 2^31 - 1.
 #[derive(Clone, Copy)]
 pub struct Log2Floor(pub u32);
 

@@ -1,4 +1,4 @@
-//! The words that the comparing programs take:
+//! The arguments of the comparing programs:
 //! short|long [--seed N] [--only CALL] [--plant CALL:CASE] [--floor SAMPLES]
 
 use crate::report::{Plant, Report};

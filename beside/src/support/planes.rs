@@ -8,7 +8,7 @@ use std::ops::RangeInclusive;
 
 pub const DEPTHS: RangeInclusive<u8> = 8..=12;
 
-/// The longest side taken.
+/// The longest side accepted.
 pub const SIDE_MAX: usize = 4096;
 
 /// Planes of every size up to this side are tried.
@@ -35,12 +35,12 @@ pub struct Plane {
     pub depth: u8,
 }
 
-/// What a plane shows.
+/// What a plane contains.
 #[derive(Clone, Copy)]
 enum Content {
     Picture,
     Flat,
-    /// Flat but for a sample here and there, all alike or not.
+    /// Flat except for a sample here and there, all alike or not.
     Outliers,
     FewLevels,
     /// The least and the largest sample: at random, in stripes, as a chessboard.
@@ -132,7 +132,7 @@ impl Plane {
         self.samples.iter().map(&mut moved).collect()
     }
 
-    /// With marks in none, one, few, half or all of the places, or from a line on.
+    /// With marks at none, one, few, half or all of the positions, or from a line on.
     pub fn marked(mut self, r: &mut Random) -> Self {
         let (count, width) = (self.samples.len() as u64, self.width);
         let kind = r.below(12);
@@ -162,7 +162,7 @@ impl Plane {
         self
     }
 
-    /// The place (x, y) of the plane.
+    /// The position (x, y) of the plane.
     pub fn spot(&self, x: usize, y: usize) -> Spot<'_> {
         Spot {
             plane: Cow::Borrowed(&self.samples),
@@ -174,7 +174,7 @@ impl Plane {
         }
     }
 
-    /// A place of the plane, often near an end of a side.
+    /// A position on the plane, often near an end of a side.
     pub fn any_spot(&self, r: &mut Random) -> Spot<'_> {
         let mut along = |side: usize| match r.below(4) {
             0 => r.below(side.min(4) as u64) as usize,

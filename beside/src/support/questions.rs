@@ -1,5 +1,5 @@
-//! Document 01's questions to the calls on blocks, written from that paper alone:
-//! the number of the first one that says no, or 0.
+//! The questions (RULES, Questions) for the calls on blocks, written from the rules alone:
+//! the error code, which is the number of the first check that fails, or 0.
 
 use crate::block::Block;
 use crate::direction::Direction;
@@ -75,7 +75,7 @@ fn of_block(b: &Block) -> u32 {
     }
 }
 
-/// 1, 2, 4 and 5, as far as they concern planes of one size and a place on them.
+/// 1, 2, 4 and 5, as far as they concern planes of one size and a position on them.
 fn of_spot(s: &Spot, planes: &[&[u16]]) -> u32 {
     let side = 1..=SIDE_MAX;
     if !DEPTHS.contains(&s.depth) {
@@ -91,7 +91,7 @@ fn of_spot(s: &Spot, planes: &[&[u16]]) -> u32 {
     }
 }
 
-/// 9, of the samples looked at in each plane.
+/// 9, of the examined samples of each plane.
 fn of_samples(s: &Spot, planes: &[&[u16]], area: Area, with_mark: bool) -> u32 {
     let taken = |v: &u16| *v >> s.depth == 0 || (with_mark && *v == MARK);
     let whole = |plane: &&[u16]| s.rows(plane, &area).all(|row| row.iter().all(taken));

@@ -20,7 +20,7 @@ impl Random {
         ((self.next() as u128 * n as u128) >> 64) as u64
     }
 
-    /// From low to high, both taken.
+    /// From low to high, both included.
     pub fn between(&mut self, low: i64, high: i64) -> i64 {
         low + self.below((high - low + 1) as u64) as i64
     }

@@ -1,14 +1,14 @@
-//! Inputs that get a no to one question or to two, with the number stated beside
-//! each, so that the questions can be held against it.
+//! Inputs that fail one check or two, with the error code stated with
+//! each, so that the validation can be compared with it.
 
 use crate::planes::{Plane, SIDE_MAX};
 use crate::spot::{Area, Spot, WIDE_SIZES};
 use reference::MARK;
 
-/// A case and document 01's number for it, 0 where it is taken.
+/// A case and its error code by RULES, Questions, 0 where it is accepted.
 pub type Stated<C> = (u32, C);
 
-/// A change after which the question of that number says no, and none before it.
+/// A change after which the check of that number fails, and none before it.
 pub struct Break<C> {
     pub(crate) number: u32,
     change: Box<dyn Fn(&mut C)>,
@@ -29,7 +29,7 @@ impl<C: 'static> Break<C> {
         Break::new(self.number, move |c| (self.change)(part(c)))
     }
 
-    /// The same change of a case turned round, and back.
+    /// The same change of a case with its planes exchanged, and back.
     pub(crate) fn turned(self, turn: fn(&mut C)) -> Self {
         Break::new(self.number, move |c| {
             turn(c);
@@ -80,7 +80,7 @@ pub fn broken<C: Clone + 'static>(good: &[C], breaks: &[Break<C>]) -> Vec<Stated
     list
 }
 
-/// 1, 2, 4 and 5, as far as they concern a plane and a place on it.
+/// 1, 2, 4 and 5, as far as they concern a plane and a position on it.
 pub fn spot_breaks() -> Vec<Break<Spot<'static>>> {
     type S = Spot<'static>;
     let mut list = Vec::new();
@@ -111,7 +111,7 @@ pub fn spot_breaks() -> Vec<Break<Spot<'static>>> {
     list
 }
 
-/// 9: one sample in each corner of what is looked at.
+/// 9: one sample in each corner of what is examined.
 pub fn corner_breaks<C: 'static>(
     area: fn(&C) -> Area,
     spot: fn(&mut C) -> &mut Spot<'static>,
@@ -136,7 +136,7 @@ pub fn corner_breaks<C: 'static>(
     list
 }
 
-/// Each place of the plane in turn holds a sample at or past the end of its range.
+/// Each position of the plane in turn holds a sample at or past the end of its range.
 /// It counts in a block of that size at the spot, widened on each side.
 pub fn scan(
     good: &Spot<'static>,
@@ -171,7 +171,7 @@ pub(crate) const GOOD: [((usize, usize), u8, [usize; 4]); 4] = [
     ((2, 3), 9, [1, 1, 2, 1]),
 ];
 
-/// The last place of a plane of depth 8.
+/// The last position of a plane of depth 8.
 pub(crate) fn last_spot(width: usize, height: usize) -> Spot<'static> {
     let samples = (0..width * height).map(|k| (k / 3 % 10) as u16);
     let plane = Plane::new(samples.collect(), width, height, 8);

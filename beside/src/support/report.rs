@@ -24,14 +24,14 @@ impl Value for i64 {
     }
 }
 
-/// The last place is spoilt.
+/// The last element is made wrong.
 impl Value for [i64; 2] {
     fn spoil(&mut self) {
         self[1] += 1;
     }
 }
 
-/// The last place is spoilt, or one is added where there is none.
+/// The last element is made wrong, or one is added where there is none.
 impl<T: Copy + PartialEq + Debug + BitXorAssign + From<u8>> Value for Vec<T> {
     fn spoil(&mut self) {
         match self.last_mut() {
@@ -40,21 +40,21 @@ impl<T: Copy + PartialEq + Debug + BitXorAssign + From<u8>> Value for Vec<T> {
         }
     }
 
-    /// The first place alone, since such a list can be long.
+    /// The first different element alone, since such a list can be long.
     fn apart(&self, expected: &Self) -> String {
         let (got, due) = (self.len(), expected.len());
         let mut places = self.iter().zip(expected).enumerate();
         let count = places.clone().filter(|(_, (a, b))| a != b).count();
         match places.find(|(_, (a, b))| a != b) {
             Some((k, (a, b))) => {
-                format!("{count} of {got} places, at {k} got {a:?}, expected {b:?}")
+                format!("{count} of {got} elements, at {k} got {a:?}, expected {b:?}")
             }
-            None => format!("got {got} places, expected {due}"),
+            None => format!("got {got} elements, expected {due}"),
         }
     }
 }
 
-/// Two lists that a call leaves; the first is spoilt.
+/// Two lists that a call leaves; the first is made wrong.
 impl<V: Value, W: Value> Value for (V, W) {
     fn spoil(&mut self) {
         self.0.spoil();
@@ -78,7 +78,10 @@ impl<V: Value> Value for Answer<V> {
         if self.number == expected.number {
             self.value.apart(&expected.value)
         } else {
-            format!("got number {}, expected {}", self.number, expected.number)
+            format!(
+                "got error code {}, expected {}",
+                self.number, expected.number
+            )
         }
     }
 }
@@ -169,7 +172,7 @@ impl Report {
 }
 
 impl Tally {
-    /// Holds our answer to a case against the one that is due.
+    /// Compares our answer to a case with the expected one.
     #[inline]
     pub fn case<C: Case>(&mut self, case: &C, ours: Answer<C::Value>) {
         let due = case.expected();
@@ -181,12 +184,12 @@ impl Tally {
         self.same(case, ours, due);
     }
 
-    /// Counts what is held against something else than the answer due to a case.
+    /// Counts what is compared with something other than the expected answer to a case.
     pub fn count(&mut self, amount: Amount) {
         self.counts += amount;
     }
 
-    /// Holds what was got against what is expected.
+    /// Compares what was got with what is expected.
     #[inline]
     pub fn same<V: Value>(&mut self, inputs: &dyn Display, got: V, expected: V) {
         let mut got = got;

@@ -1,4 +1,4 @@
-//! A place on a lent plane, and the samples looked at around it.
+//! A position on a plane, and the samples examined around it.
 
 use crate::joined;
 use crate::planes::{SIDE_MAX, SMALL};
@@ -11,7 +11,7 @@ use std::ops::Range;
 /// Added to a size, these are lost in a narrower type.
 pub(crate) const WIDE_SIZES: [usize; 4] = [1 << 8, 1 << 16, 1 << 32, 1 << 63];
 
-/// A place on a lent plane.
+/// A position on a plane that is passed to a call.
 #[derive(Clone)]
 pub struct Spot<'a> {
     pub plane: Cow<'a, [u16]>,
@@ -22,15 +22,15 @@ pub struct Spot<'a> {
     pub y: usize,
 }
 
-/// The samples looked at, as rows and columns of the plane.
+/// The examined samples, as rows and columns of the plane.
 pub struct Area {
     pub rows: Range<usize>,
     pub columns: Range<usize>,
 }
 
 impl Spot<'_> {
-    /// A block from the place on, widened on each side and cut to the plane. Only
-    /// for a place on the plane.
+    /// A block from the position on, widened on each side and cropped to the plane. Only
+    /// for a position on the plane.
     pub fn area(&self, block_width: usize, block_height: usize, widened: usize) -> Area {
         let along = |at: usize, length: usize, side: usize| {
             at.saturating_sub(widened)..(at + length + widened).min(side)
@@ -59,7 +59,7 @@ impl Spot<'_> {
         ])
     }
 
-    /// Writes what is looked at, of each plane, where the questions went that far.
+    /// Writes what is examined, of each plane, where validation went that far.
     pub(crate) fn show(
         &self,
         f: &mut Formatter,
@@ -73,7 +73,7 @@ impl Spot<'_> {
         for plane in planes {
             let area = area();
             let samples = self.rows(plane, &area).flatten();
-            write!(f, ", looked at {}", joined(samples))?;
+            write!(f, ", examined {}", joined(samples))?;
         }
         Ok(())
     }
@@ -85,7 +85,7 @@ impl Spot<'_> {
         }
     }
 
-    /// Numbers that no question takes wherever the area does not reach.
+    /// Numbers that are no samples wherever the area does not reach.
     pub fn spoil_elsewhere(&mut self, area: &Area, r: &mut Random) {
         let mut spoilt = vec![u16::MAX; self.plane.len()];
         if r.below(2) == 0 && spoilt.len() <= SMALL * SMALL {

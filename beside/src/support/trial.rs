@@ -10,16 +10,16 @@ use crate::refusals::{Break, GOOD, Stated, broken, side_limits};
 use crate::{Case, joined, questions};
 use std::fmt::{Display, Formatter, Result};
 
-/// Places of twelve trial blocks.
+/// Elements of twelve trial blocks.
 pub const PLACES: usize = 768;
 
 #[derive(Clone)]
 pub struct Trial<'a> {
     pub block: Block<'a>,
-    /// 1 the luma way, 0 the chroma way.
+    /// 1 by luma's rules, 0 by chroma's.
     pub luma: u8,
     pub variance: u32,
-    /// The list's length; before the call place k holds `held` + k * `step`.
+    /// The list's length; before the call element k holds `held` + k * `step`.
     pub places: usize,
     pub held: u16,
     pub step: u16,
@@ -37,8 +37,8 @@ impl<'a> Trial<'a> {
         }
     }
 
-    /// A block of a plane, a third of them small, in the way given or in any; in part of
-    /// the cases nothing that isn't looked at is a sample.
+    /// A block of a plane, a third of them small, by the rules given or by any; in part of
+    /// the cases nothing that isn't examined is a sample.
     pub fn on(plane: &'a Plane, luma: Option<u8>, r: &mut Random) -> Self {
         let most = r.pick(&[4, 8, 8]);
         let mut block = Block {
@@ -55,7 +55,7 @@ impl<'a> Trial<'a> {
         c
     }
 
-    /// As `on`, in one way, with a list that holds different numbers.
+    /// As `on`, by the rules given, with a list that holds different numbers.
     pub fn on_list(plane: &'a Plane, luma: u8, r: &mut Random) -> Self {
         let step = r.pick(&[0, 1, 12_345]);
         Trial {
@@ -83,7 +83,7 @@ impl<'a> Trial<'a> {
         (0..self.places).map(place).collect()
     }
 
-    /// The numbers of a stored line that stand before document 01's.
+    /// The numbers of a stored line that stand before the error code.
     pub fn numbers(&self) -> String {
         let b = &self.block;
         let rules = [
@@ -105,7 +105,7 @@ impl<'a> Trial<'a> {
     }
 }
 
-/// A variance of any size; in the chroma way any number.
+/// A variance of any size; by chroma's rules any number.
 fn any_variance(luma: u8, r: &mut Random) -> u32 {
     match r.below(8) {
         0 => 0,
@@ -125,7 +125,7 @@ impl Trial<'static> {
     }
 
     /// Worked lines, marks that a large damping would let count, every block size,
-    /// every way of being cut, and the variances where the adjusted primary steps.
+    /// every way of crossing an edge, and the variances where the adjusted primary steps.
     pub fn edges() -> Vec<Self> {
         let r = &mut Random::new(5);
         let (rows, (square, centre)) = worked();
@@ -181,13 +181,13 @@ impl Trial<'static> {
         })
     }
 
-    /// The limits, and what is asked of good cases and broken ones.
+    /// The limits, good cases and broken ones.
     pub fn stated() -> Vec<Stated<Self>> {
         [Self::limits(), Self::asked()].concat()
     }
 
-    /// Each question's no, a scan of the samples looked at, and variances that the
-    /// chroma way doesn't look at.
+    /// Each failing check, a scan of the examined samples, and variances that chroma's
+    /// rules don't read.
     pub fn asked() -> Vec<Stated<Self>> {
         let r = &mut Random::new(6);
         let good = GOOD.map(|(size, depth, place)| {
@@ -221,7 +221,7 @@ impl Trial<'static> {
     }
 }
 
-/// Variances that the luma way refuses.
+/// Variances that luma's rules reject.
 const OFF_VARIANCES: [u32; 4] = [VARIANCE_MAX + 1, 1 << 20, 1 << 31, u32::MAX];
 
 impl Display for Trial<'_> {
@@ -258,7 +258,7 @@ impl Case for Trial<'_> {
         list
     }
 
-    /// The twelve blocks, without the later places of their 64.
+    /// The twelve blocks, without the later elements of their 64.
     fn amount(&self) -> Amount {
         Amount::samples(12 * self.block.width * self.block.height)
     }

@@ -1,4 +1,4 @@
-//! Which of the stated cases are stored: the limits, and some of each number.
+//! Which of the stated cases are stored: the limits, and some of each error code.
 //! A line has as many samples as its sizes say, so others can't be stored.
 
 use crate::SEED;
@@ -11,10 +11,10 @@ use support::refusals::Stated;
 use support::spot::Spot;
 use support::trial::Trial;
 
-/// Cases of each number.
+/// Cases of each error code.
 const EACH: usize = 12;
 
-/// Numbers have at most 15 digits, which is what the reader of the sample takes.
+/// Numbers have at most 15 digits, which is what the reader of the sample accepts.
 const END: usize = 10usize.pow(15);
 
 /// The longest list of trial blocks.
@@ -44,7 +44,7 @@ pub fn distances(weighted: bool) -> Vec<Distance<'static>> {
     })
 }
 
-/// All of the limits that fit, and some of what is asked.
+/// All of the limits that fit, and some of the stated cases.
 fn chosen<C>(limits: Vec<Stated<C>>, asked: Vec<Stated<C>>, fits: fn(&C) -> bool) -> Vec<C> {
     let mut list = some(limits, usize::MAX, fits);
     list.extend(some(asked, EACH, fits));
@@ -60,7 +60,7 @@ fn fits(s: &Spot) -> bool {
     whole && s.x < END && s.y < END
 }
 
-/// At most `each` cases of each number, from anywhere in the list.
+/// At most `each` cases of each error code, from anywhere in the list.
 fn some<C>(cases: Vec<Stated<C>>, each: usize, fits: impl Fn(&C) -> bool) -> Vec<C> {
     let r = &mut Random::new(SEED);
     let mut by_number: Vec<Vec<C>> = (0..=9).map(|_| Vec::new()).collect();

@@ -1,5 +1,5 @@
-//! Writes the stored sample of the Rust's answers: vectors FOLDER. One file a
-//! call, one case a line: the inputs, document 01's number, the answer.
+//! Writes the stored sample of the reference's answers: vectors FOLDER. One file per
+//! call, one case per line: the inputs, the error code, the answer.
 
 mod chosen;
 
@@ -41,12 +41,12 @@ impl Sample {
     }
 }
 
-/// The line of a call that answers with one number.
+/// The line of a call that returns one number.
 fn one_number<C: Case<Value = i64>>(case: &C, answer: Answer<i64>) -> String {
     format!("{case} {} {}", answer.number, answer.value)
 }
 
-/// The samples stand after the answer.
+/// The samples follow the answer.
 fn direction(case: &Direction, answer: Answer<[i64; 2]>) -> String {
     let [direction, variance] = answer.value;
     let numbers = format!(
@@ -68,7 +68,7 @@ fn filter(case: &Filter, answer: Answer<Vec<u16>>) -> String {
 }
 
 /// The plane, and where it is done the twelve trial blocks; what is past a block's
-/// width × height places holds what it held.
+/// width × height elements holds what it held.
 fn trial(case: &Trial, answer: Answer<Vec<u16>>) -> String {
     let b = &case.block;
     let numbers = format!("{} {}", case.numbers(), answer.number);
@@ -81,7 +81,7 @@ fn trial(case: &Trial, answer: Answer<Vec<u16>>) -> String {
     line([numbers, joined(b.spot.plane.iter()), joined(after)])
 }
 
-/// The original and the other plane stand after the answer.
+/// The original and the other plane follow the answer.
 fn distance(case: &Distance, answer: Answer<i64>) -> String {
     let [original, other] = case.planes().map(joined);
     let Answer { number, value } = answer;
@@ -89,7 +89,7 @@ fn distance(case: &Distance, answer: Answer<i64>) -> String {
     line([numbers, original, other])
 }
 
-/// Lists parted by a space; an empty one leaves none.
+/// Lists separated by a space; an empty one leaves none.
 fn line<const N: usize>(lists: [String; N]) -> String {
     joined(lists.into_iter().filter(|l| !l.is_empty()))
 }

@@ -1,5 +1,5 @@
-// Tries, applies and measures made pictures, and prints each unit's pair and totals.
-// The totals in the file stdout were compared once with those of the Rust.
+// Tries, applies and measures synthetic pictures, and prints each unit's pair and totals.
+// The totals in the file stdout were compared once with those of the Rust reference.
 fn main() {
     made_pictures::all(false);
 }

@@ -1,4 +1,4 @@
-// What applying answers to a list of one pair n times, for a flat luma picture of 64 by 128: two units.
+// What applying returns for a list of one pair n times, for a flat luma picture of 64 by 128: two units.
 ghost use Prim.Native.Nat.{_≤_};
 use cdef_spec::Answer;
 use cdef_spec::DampingChoice;

@@ -1,5 +1,5 @@
-// The pictures of the program `agreement` with the pairs lent as one slice of structs: it prints the same lines.
-// Then what applying answers to lists of other lengths and to strengths out of range.
+// The pictures of the program `agreement` with the pairs passed as one slice of structs: it prints the same lines.
+// Then what applying returns for lists of other lengths and for strengths out of range.
 mod answers; // answers.rt: applying with some pairs
 
 ghost use Prim.Native.Nat.{_≤_};

@@ -1,16 +1,16 @@
-// Decimal numbers out of a text of stored cases: one case a line, numbers parted by single spaces.
+// Decimal numbers out of a text of stored cases: one case per line, numbers separated by single spaces.
 pub mod samples; // samples.rt: many numbers at once, as samples
 
 ghost use Prim.Native.Nat.{_≤_};
 ghost use lib.ListN.{length};
 
-// The digits from a place on as a number, and the place after them.
+// The digits from a position on as a number, and the position after them.
 pub struct Digits {
     pub value: u64,
     pub next: usize,
 }
 
-// A number by its sign and its size, and the place after the blank that ends it.
+// A number by its sign and its size, and the position after the blank that ends it.
 pub struct Number {
     pub minus: bool,
     pub size: u64,
@@ -51,7 +51,7 @@ pub fn read_digits(text: &[u8], from: usize) -> Digits
     Digits { value, next }
 }
 
-// One place further, or the end of the text.
+// One position further, or the end of the text.
 pub fn past(text: &[u8], at: usize) -> usize
     ensures { λ r. ⌜ r ≤ length (now (text .entry)) ⌝ }
 {
@@ -61,7 +61,7 @@ pub fn past(text: &[u8], at: usize) -> usize
     text.len()
 }
 
-// The number at a place of the text, and the place after it and the blank behind it; 0 past the end.
+// The number at a position of the text, and the position after it and the blank behind it; 0 past the end.
 pub fn read_number(text: &[u8], from: usize) -> Number
     ensures { λ r. ⌜ r .next ≤ length (now (text .entry)) ⌝ }
 {
@@ -104,7 +104,7 @@ pub fn numbers_in(line: &[u8]) -> usize {
     count
 }
 
-// Up to sixteen numbers at the start of a line, by sign and size, and the place after them.
+// Up to sixteen numbers at the start of a line, by sign and size, and the position after them.
 pub struct Line {
     pub minus: [bool; 16],
     pub size: [u64; 16],

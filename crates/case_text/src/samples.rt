@@ -3,7 +3,7 @@ ghost use Prim.Native.Nat.{_≤_};
 ghost use lib.ListN.{length};
 use crate::Number;
 
-// The next `count` numbers of a line put into a list of samples. Handed back is the place after them.
+// The next `count` numbers of a line put into a list of samples. Returns the position after them.
 pub fn read_samples(line: &[u8], from: usize, count: usize, samples: &mut [u16]) -> usize
     requires { ⌜ (from ≤ length (now line)) × (count ≤ length (now samples)) ⌝ }
     ensures { λ r. ⌜ r ≤ length (now (line .entry)) ⌝ }
@@ -26,7 +26,7 @@ pub fn same_samples(line: &[u8], from: usize, count: usize, samples: &[u16]) -> 
     same_in_blocks(line, from, 64, 0, count, samples)
 }
 
-// The first `count` samples by 64: whether the rest of a line is the first `stored` of each 64 in order and no more,
+// The first `count` samples in groups of 64: whether the rest of a line is the first `stored` of each 64 in order and no more,
 // and every other sample is `held`.
 pub fn same_in_blocks(
     line: &[u8],

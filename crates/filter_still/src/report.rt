@@ -1,4 +1,4 @@
-// What is printed: a line with the sizes, a line a unit, and whether all agree.
+// What is printed: a line with the sizes, a line per unit, and whether all agree.
 ghost use Prim.Native.Nat.{_+_, _*_, _≤_, _<_};
 ghost use mathlib.Core.Path.{_≡_};
 ghost use lib.ListN.{length};

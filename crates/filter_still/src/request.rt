@@ -18,7 +18,7 @@ pub enum Asked {
     Wrong,
 }
 
-// The damping that argument 3 says.
+// The damping given by argument 3.
 fn damping_argument() -> DampingText {
     let mut space = io::buffer();
     let n = os::arg(3, &mut space);
@@ -32,7 +32,7 @@ fn damping_argument() -> DampingText {
     answer
 }
 
-// The number that an argument says.
+// The number given by an argument.
 fn strength_argument(i: usize, no: &[u8]) -> Number {
     let mut space = io::buffer();
     let n = os::arg(i, &mut space);
@@ -43,7 +43,7 @@ fn strength_argument(i: usize, no: &[u8]) -> Number {
     answer
 }
 
-// The request of arguments 3 to 5; Wrong, once it is said what is wrong.
+// The request of arguments 3 to 5; Wrong, once the error is reported.
 pub fn request_of_arguments() -> Asked {
     let DampingText::Choice(damping) = damping_argument() else {
         return Asked::Wrong;

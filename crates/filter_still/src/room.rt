@@ -1,4 +1,4 @@
-// Room for the file, the planes and the totals: all of it in two frames of the stack, and lent from there.
+// Room for the file, the planes and the totals: all of it in two frames of the stack, and borrowed from there.
 ghost use Prim.Native.Nat.{_*_, _≤_};
 ghost use mathlib.Core.Path.{_≡_};
 ghost use mathlib.Core.Bool.{true};
@@ -54,7 +54,7 @@ fn is_same(h: Header, o: Header) -> bool {
     h.width == o.width && h.height == o.height && h.maximum == o.maximum
 }
 
-// Lends planes and totals of their size.
+// Passes slices of the planes and totals, of the picture's size.
 fn sized(
     r: Request,
     h: Header,

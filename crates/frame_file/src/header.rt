@@ -8,7 +8,7 @@ pub const MOST_BLOCKS: usize = 4800;
 
 pub const MOST_UNITS: usize = 80;
 
-// Sizes are of luma, in samples; sx and sy are the halving flags; on: CDEF is on in the sequence.
+// Sizes are of luma, in samples; sx and sy are the subsampling flags; on: CDEF is on in the sequence.
 pub struct Header {
     pub depth: u8,
     pub sx: u8,
@@ -44,7 +44,7 @@ fn number(file: &[u8], k: usize) -> u32
     (low as u32) + (high as u32) * 65536
 }
 
-// One of the numbers as a u8; every larger one is 255, which no question takes.
+// One of the numbers as a u8; every larger one is 255, which no check accepts.
 fn small(file: &[u8], k: usize) -> u8
     requires { ⌜ k < 16 ⌝ }
 {

@@ -7,7 +7,7 @@ pub mod units; // units.rt: skip flags, and the pairs of units
 
 ghost use Prim.Native.Nat.{_≤_, _+_};
 
-// The byte at a place, 0 past the end.
+// The byte at a position, 0 past the end.
 pub fn byte_at(file: &[u8], at: usize) -> u8 {
     if at < file.len() {
         return file[at];
@@ -21,7 +21,7 @@ fn wide(b: u8) -> u16
     b as u16
 }
 
-// The two bytes at a place as a number, the low one first.
+// The two bytes at a position as a number, the low one first.
 pub fn two_at(file: &[u8], at: usize) -> u16
     requires { ⌜ at ≤ 4400000 ⌝ }
 {

@@ -3,7 +3,7 @@ ghost use Prim.Native.Nat.{_≤_};
 ghost use lib.ListN.{length};
 use crate::header::Counts;
 
-// The place of the first plane: the lists of units and of blocks stand before it.
+// The position of the first plane: the lists of units and of blocks stand before it.
 pub fn first_plane(n: Counts) -> usize
     requires { ⌜ (n .blocks ≤ 4800) × (n .units ≤ 80) ⌝ }
     ensures { λ r. ⌜ r ≤ 4968 ⌝ }
@@ -19,7 +19,7 @@ pub fn all_samples(n: Counts) -> usize
     n.luma + 2 * n.chroma
 }
 
-// The place behind so many samples of the planes; step: the bytes of a sample.
+// The position behind so many samples of the planes; step: the bytes of a sample.
 pub fn place_after(n: Counts, samples: usize, step: usize) -> usize
     requires { ⌜ (n .blocks ≤ 4800) × (n .units ≤ 80) × (samples ≤ 1843200) × (step ≤ 2) ⌝ }
     ensures { λ r. ⌜ r ≤ 3691368 ⌝ }
@@ -44,7 +44,7 @@ fn sample_at(file: &[u8], at: usize, k: usize, step: usize) -> u16
     crate::two_at(file, at + 2 * k)
 }
 
-// The samples of the plane at a place.
+// The samples of the plane at a position.
 pub fn read_plane(file: &[u8], at: usize, step: usize, samples: &mut [u16])
     requires { ⌜ (at ≤ 3691368) × (length (now samples) ≤ 307200) ⌝ }
 {
@@ -53,7 +53,7 @@ pub fn read_plane(file: &[u8], at: usize, step: usize, samples: &mut [u16])
     }
 }
 
-// How many samples differ from those of the plane at a place.
+// How many samples differ from those of the plane at a position.
 pub fn different(file: &[u8], at: usize, step: usize, samples: &[u16]) -> usize
     requires { ⌜ (at ≤ 3691368) × (length (now samples) ≤ 307200) ⌝ }
 {

@@ -1,4 +1,4 @@
-// Room for a file and for a plane, all zeros. The promises give only the lengths, which lending an array as a slice needs.
+// Room for a file and for a plane, all zeros. The contracts give only the lengths, which borrowing an array as a slice needs.
 ghost use mathlib.Core.Path.{_≡_};
 ghost use lib.ListN.{length};
 

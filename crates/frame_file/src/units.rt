@@ -1,9 +1,9 @@
-// The lists of a file: a set's index a unit, a skip flag a block.
+// The lists of a file: a set's index per unit, a skip flag per block.
 ghost use Prim.Native.Nat.{_≤_};
 ghost use mathlib.Core.Path.{_≡_};
 ghost use lib.ListN.{length};
 
-// The places of the luma and of the chroma sets, and of the units' indices.
+// The positions of the luma and of the chroma sets, and of the units' indices.
 pub const LUMA_SETS: usize = 72;
 
 pub const CHROMA_SETS: usize = 80;
@@ -46,7 +46,7 @@ fn secondary(set: u8) -> u8 {
     coded
 }
 
-// Each unit's pair from the sets at a place.
+// Each unit's pair from the sets at a position.
 pub fn read_pairs(file: &[u8], on: bool, sets: usize, pris: &mut [u8], secs: &mut [u8])
     requires { ⌜ (sets ≤ 80) × (length (now pris) ≤ 80) × (length (now secs) ≡ length (now pris)) ⌝ }
 {
@@ -57,7 +57,7 @@ pub fn read_pairs(file: &[u8], on: bool, sets: usize, pris: &mut [u8], secs: &mu
     }
 }
 
-// The skip flags behind the indices. Handed back is how many blocks are skipped.
+// The skip flags behind the indices. Returns how many blocks are skipped.
 pub fn read_skips(file: &[u8], units: usize, skip: &mut [u8]) -> usize
     requires { ⌜ (units ≤ 80) × (length (now skip) ≤ 4800) ⌝ }
 {

@@ -9,9 +9,9 @@ pub fn fault(f: Fault) {
         Fault::Sound => print::text(b"nothing"),
         Fault::Magic => print::text(b"it does not begin with CDEFRAW1"),
         Fault::Depth => print::text(b"the depth is not 8, 10 or 12"),
-        Fault::Layout => print::text(b"a halving flag or the monochrome flag is not 0 or 1"),
+        Fault::Layout => print::text(b"a subsampling flag or the monochrome flag is not 0 or 1"),
         Fault::Size => print::text(
-            b"a side is no multiple of 8, or the size is not 8 by 8 to 640 by 480",
+            b"a side is not a multiple of 8, or the size is not 8 by 8 to 640 by 480",
         ),
         Fault::VisibleSize => print::text(b"the visible size is 0 or larger than the coded one"),
         Fault::Damping => print::text(b"the damping is not 3 to 6"),
@@ -59,7 +59,7 @@ fn layout(h: Header) {
     print::text(b"4:2:0");
 }
 
-// What came of a plane, 0 to 2 for Y, U and V: the samples compared and those that differ, or the number of a refusal.
+// The result for a plane, 0 to 2 for Y, U and V: the samples compared and those that differ, or an error code.
 pub fn plane(plane: u8, answer: Answer, samples: usize, different: usize) {
     match plane {
         0 => print::text(b"; Y "),
@@ -78,6 +78,6 @@ pub fn plane(plane: u8, answer: Answer, samples: usize, different: usize) {
 }
 
 pub fn refused(n: u8) {
-    print::text(b"refused, ");
+    print::text(b"error code ");
     print::number(n as u64);
 }

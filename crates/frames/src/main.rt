@@ -1,5 +1,5 @@
-// Filters frames of AV1 streams and compares every sample with what a stock decoder's CDEF made of it.
-// One line a file; data/README.md gives the layout of the files and where they come from.
+// Filters frames of AV1 streams and compares every sample with the output of a stock decoder's CDEF.
+// One line per file; data/README.md gives the layout of the files and where they come from.
 mod lines; // lines.rt: the parts of a line
 mod planes; // planes.rt: the planes of a file, filtered and compared
 
@@ -7,7 +7,7 @@ use frame_file::checks;
 use frame_file::header;
 use frame_file::space;
 
-// The line of a file; one longer than the largest taken is read in part, and its length is wrong.
+// The line of a file; one longer than the largest accepted is read in part, and its length is wrong.
 fn frame_line(path: &[u8]) {
     let fd = os::open_read(path);
     if fd < 0 {
@@ -23,7 +23,7 @@ fn frame_line(path: &[u8]) {
     print::text(b"\n");
 }
 
-// Filters and compares a file with which nothing is wrong, or says what is.
+// Filters and compares a file with which nothing is wrong, or prints what is.
 fn checked(file: &[u8]) {
     let h = header::header_of(file);
     match checks::fault_of(file, h) {

@@ -13,7 +13,7 @@ use frame_file::planes;
 use frame_file::space;
 use frame_file::units;
 
-// Makes room for planes and lists, and lends it.
+// Allocates room for planes and lists, and passes slices of it.
 pub fn compared(file: &[u8], h: Header) {
     let mut before = space::plane_space();
     let mut after = space::plane_space();
@@ -35,7 +35,7 @@ pub fn compared(file: &[u8], h: Header) {
     );
 }
 
-// Lends lists as long as the file's.
+// Passes lists as long as the file's.
 fn listed(
     file: &[u8],
     h: Header,
@@ -106,7 +106,7 @@ fn samples_of(n: Counts, plane: u8) -> usize
     n.chroma
 }
 
-// Lends planes of their size.
+// Passes planes of their size.
 fn sized(
     file: &[u8],
     h: Header,
@@ -191,7 +191,7 @@ fn one_plane(
     );
 }
 
-// The place of a plane's sets.
+// The position of a plane's sets.
 fn sets_of(plane: u8) -> usize
     ensures { λ r. ⌜ r ≤ 80 ⌝ }
 {

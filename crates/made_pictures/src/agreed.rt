@@ -1,4 +1,4 @@
-// Trying, applying and measuring with six pairs, lent as one slice of structs or as two lists.
+// Trying, applying and measuring with six pairs, passed as one slice of structs or as two lists.
 use crate::lists;
 use cdef_agree::Agreement;
 use cdef_spec::DampingChoice;

@@ -1,13 +1,13 @@
-// Made pictures for the programs that try, apply and measure them, and what is printed of one.
+// Synthetic pictures for the programs that try, apply and measure them, and what is printed of one.
 mod agreed; // agreed.rt: the pairs as one slice or as two lists
 mod lists; // lists.rt: skip flags and pairs
-mod picture; // picture.rt: the samples of a made picture
+mod picture; // picture.rt: the samples of a synthetic picture
 mod report; // report.rt: what is printed
 pub mod run; // run.rt: one picture
 
 use run::Layout;
 
-// All made pictures. as_pairs: the pairs are lent as one slice of structs, and not as two lists.
+// All synthetic pictures. as_pairs: the pairs are passed as one slice of structs, and not as two lists.
 pub fn all(as_pairs: bool) {
     run::luma(as_pairs, 8, 0);
     run::luma(as_pairs, 10, 1);

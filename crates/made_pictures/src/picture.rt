@@ -1,9 +1,9 @@
-// The samples of a made picture: slopes and squares with grain. The original has the same slopes and squares and other grain.
+// The samples of a synthetic picture: slopes and squares with grain. The original has the same slopes and squares and other grain.
 ghost use Prim.Native.Nat.{_≤_, _<_};
 ghost use mathlib.Core.Path.{_≡_};
 ghost use lib.ListN.{length};
 
-// 0 to 255, by a place and a seed.
+// 0 to 255, by a position and a seed.
 fn noise(k: usize, seed: u32) -> u32
     requires { ⌜ seed ≤ 1000 ⌝ }
     ensures { λ r. ⌜ r ≤ 255 ⌝ }

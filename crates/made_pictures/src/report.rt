@@ -27,7 +27,7 @@ fn halved_down(sy: u8, full: &[u8], halved: &[u8]) {
     print::text(halved);
 }
 
-// A line a unit, and what came of the picture.
+// A line per unit, and the result for the picture.
 pub fn units(
     a: Agreement,
     number: u32,
@@ -93,6 +93,6 @@ fn outcome(a: Agreement) {
 fn refusal(call: &[u8], n: u8) {
     print::text(b"different: ");
     print::text(call);
-    print::text(b" ");
+    print::text(b", ");
     print::refused(n);
 }

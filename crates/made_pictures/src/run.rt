@@ -1,4 +1,4 @@
-// One made picture of 72 by 136, of which 70 by 131 is visible.
+// One synthetic picture of 72 by 136, of which 70 by 131 is visible.
 ghost use Prim.Native.Nat.{_≤_, _*_, _/_};
 ghost use mathlib.Core.Path.{_≡_};
 ghost use lib.ListN.{length};
@@ -11,7 +11,7 @@ use cdef_spec::DampingChoice;
 use cdef_spec::SignalledDamping;
 use cdef_spec::Visible;
 
-// The halving flags of a chroma plane.
+// The subsampling flags of a chroma plane.
 pub struct Layout {
     pub sx: u8,
     pub sy: u8,
@@ -24,7 +24,7 @@ fn visible() -> Visible {
     }
 }
 
-// as_pairs: the pairs are lent as one slice of structs, and not as two lists.
+// as_pairs: the pairs are passed as one slice of structs, and not as two lists.
 pub fn luma(as_pairs: bool, depth: u8, number: u32)
     requires { ⌜ number ≤ 5 ⌝ }
 {
@@ -45,7 +45,7 @@ pub fn luma(as_pairs: bool, depth: u8, number: u32)
     report::units(a, number, &pris, &secs, &tried, &measured);
 }
 
-// Luma is given its damping.
+// Luma is given a signalled damping.
 fn luma_agreement(
     as_pairs: bool,
     depth: u8,
@@ -160,7 +160,7 @@ fn chroma_agreement(
     )
 }
 
-// Lends chroma planes of their size; chroma takes the damping of a quality index.
+// Passes chroma planes of their size; chroma is given its damping by a quality index.
 fn lent(
     as_pairs: bool,
     l: Layout,

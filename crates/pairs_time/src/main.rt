@@ -1,5 +1,5 @@
-// Times applying with the pairs lent as one slice of structs and as two lists, by turns: 25 lines a size, the processor time in microseconds before, between and after.
-// It needs an argument, any, to run; without one it says so.
+// Times applying with the pairs passed as one slice of structs and as two lists, in turn: 25 lines per size, the processor time in microseconds before, between and after.
+// It needs an argument, any, to run; without one it prints that.
 mod timed; // timed.rt: calls, timed
 
 ghost use Prim.Native.Nat.{_≤_};

@@ -8,7 +8,7 @@ use Rattle.pgm.specs.declared.header.Word.{Word}
 use Rattle.pgm.specs.declared.header.Header.{Header}
 use Rattle.pgm.specs.Text.{digitCount, decimal, most, isBlank, blanks}
 
--- the place after the blanks and comments, and the place after the digits, from a place on
+-- the position after the blanks and comments, and the position after the digits, from a position on
 unfoldable pub afterBlanks : List ℕ → ℕ → ℕ
 afterBlanks s from = from + blanks false (drop from s)
 

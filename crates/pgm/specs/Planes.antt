@@ -7,7 +7,7 @@ use lib.ListN.{getD, length, set}
 use Rattle.pgm.specs.declared.header.Header.{Header}
 use Rattle.pgm.specs.Sizes.{stepOf, padded, faultOf, isSound}
 
--- f 0, f 1, .. f (n - 1) stored at the first n places of a list
+-- f 0, f 1, .. f (n - 1) stored as the first n elements of a list
 unfoldable pub stored : (ℕ → ℕ) → ℕ → List ℕ → List ℕ
 stored f zero l = l
 stored f (suc n) l = set (stored f n l) n (f n)
@@ -16,7 +16,7 @@ stored f (suc n) l = set (stored f n l) n (f n)
 unfoldable pub sampleAt : List ℕ → ℕ → ℕ → ℕ → ℕ
 sampleAt file start step k = cond (eqb step 1) (getD file (start + k) 0) (getD file (start + 2 * k) 0 * 256 + getD file (start + 2 * k + 1) 0)
 
--- place k of a plane whose rows are `pitch` long: past the last row and column the nearest sample repeats
+-- sample k of a plane whose rows are `pitch` long: past the last row and column the nearest sample repeats
 unfoldable pub paddedSample : List ℕ → Header → ℕ → ℕ → ℕ
 paddedSample file h pitch k =
     sampleAt file (h .start) (stepOf (h .maximum)) (min (k / pitch) (h .height - 1) * h .width + min (k % pitch) (h .width - 1))
@@ -32,7 +32,7 @@ decodedPlane file h l =
 unfoldable pub byteOf : ℕ → Bool → ℕ
 byteOf sample last = cond last (sample % 256) (sample / 256)
 
--- byte k of the samples: rows of `width` samples out of a plane whose rows are `pitch` long, `step` bytes a sample
+-- byte k of the samples: rows of `width` samples out of a plane whose rows are `pitch` long, `step` bytes per sample
 unfoldable pub fileByte : List ℕ → ℕ → ℕ → ℕ → ℕ → ℕ
 fileByte plane width pitch step k =
     let sample = k / step in

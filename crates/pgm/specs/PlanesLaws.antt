@@ -1,4 +1,4 @@
--- Laws of the padded plane of a file and of a plane as bytes: one more place stored, a sample of one byte and of two.
+-- Laws of the padded plane of a file and of a plane as bytes: one more element stored, a sample of one byte and of two.
 use mathlib.Core.Path.{_≡_, refl, _∙_}
 use mathlib.Core.Bool.{true, false}
 use mathlib.Core.List.{List}
@@ -40,7 +40,7 @@ module _ (file : List ℕ) (start step k : ℕ) where
   unfolding sampleAt
   sample-two a b n g h = rw (ne-eqb step 1 n, g, h)
 
--- place k of a plane, from its row, its column and the bytes of a sample
+-- sample k of a plane, from its row, its column and the bytes of a sample
 pub padded-is : (file : List ℕ) (h : Header) (pitch k step row column v : ℕ) → step ≡ stepOf (h .maximum) → row ≡ min (k / pitch) (h .height - 1) → column ≡ min (k % pitch) (h .width - 1) → v ≡ sampleAt file (h .start) step (row * h .width + column) → v ≡ paddedSample file h pitch k
 unfolding paddedSample
 padded-is file h pitch k step row column v e r c g = rw (← e, ← r, ← c) g
@@ -69,7 +69,7 @@ pub byte-is : (plane : List ℕ) (width pitch step k sample v : ℕ) → sample 
 unfolding fileByte
 byte-is plane width pitch step k sample v e g = rw (← e) g
 
--- the place of a byte's sample in a plane with rows of at most 4,096
+-- the position of a byte's sample in a plane with rows of at most 4,096
 pub byte-room : (k step width pitch : ℕ) → k ≤ 1572864 → pitch ≤ 4096 → (k / step / width * pitch ≤ 1572864 * 4096) × (k / step / width * pitch + k / step % width ≤ 1572864 * 4096 + 1572864)
 byte-room k step width pitch a b =
     let c : k / step ≤ 1572864 = le-trans (div-le-self k step) a in

@@ -28,7 +28,7 @@ getD-stored f l (suc n) k a b = go (ℕ-discrete k n) (λ c. getD-stored f l n k
     go (yes e) ih = rw e (getD-set-same (stored f n l) n (f n) 0 (omega (arith, length-stored f l n)))
     go (no g) ih = getD-set-other (stored f n l) n k (f n) 0 g ∙ ih (omega arith)
 
--- ---- the place of sample q in a plane of longer rows
+-- ---- the position of sample q in a plane of longer rows
 
 module _ (w h pitch q : ℕ) (low : 0 < w) (wide : w ≤ pitch) (inside : q < h * w) where
   row-low : q / w < h

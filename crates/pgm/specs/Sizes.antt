@@ -1,4 +1,4 @@
--- Which pictures are taken, and their padded sizes. Definitions only.
+-- Which pictures are accepted, and their padded sizes. Definitions only.
 use Prim.Native.Nat.{ℕ, _+_, _-_, _*_, _/_, _^_}
 use mathlib.Core.Bool.{Bool, true, false, cond, _&&_}
 use lib.Dec.{leb, eqb}

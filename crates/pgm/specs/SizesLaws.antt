@@ -1,4 +1,4 @@
--- Laws of the sizes that are taken, and of what is wrong with a file.
+-- Laws of the sizes that are accepted, and of what is wrong with a file.
 use mathlib.Core.Path.{_≡_, refl}
 use mathlib.Core.Bool.{Bool, true, false, cond}
 use Prim.Native.Nat.{ℕ, _+_, _*_, _≤_, _<_}
@@ -34,7 +34,7 @@ padded-room w h a b =
     let d : padded h ≤ 4096 = omega arith in
     mul-le-mul c d
 
--- what holds of sides that are taken
+-- what holds of sides that are accepted
 pub record Taken (w h : ℕ) : Type 0 where
   pub width-low : 0 < w
   pub width-high : w ≤ 4096
@@ -74,7 +74,7 @@ module _ (n : ℕ) (h : Header) where
   unfolding faultOf
   fault-none f d t l = rw (f, ne-eqb (depthOf (h .maximum)) 0 d, t, eq-eqb n (h .start + h .width * h .height * stepOf (h .maximum)) l)
 
-  -- a sound file has sides that are taken, and its length
+  -- a sound file has sides that are accepted, and its length
   pub sound-taken : isSound (faultOf n h) ≡ true → (isTaken (h .width) (h .height) ≡ true) × (n ≡ h .start + h .width * h .height * stepOf (h .maximum))
   unfolding faultOf
   sound-taken e =
@@ -96,14 +96,14 @@ module _ (n : ℕ) (h : Header) where
       go false d false true e = (e, refl)
       go false d false false e = (e, e)
 
--- the samples of sides that are taken
+-- the samples of sides that are accepted
 pub samples-room : (w h m : ℕ) → isTaken w h ≡ true → (w * h ≤ 4096 * 4096) × (w * h * stepOf m ≤ 4096 * 4096 * 2)
 samples-room w h m e =
     let t = taken w h e in
     let a : w * h ≤ 4096 * 4096 = mul-le-mul (t .width-high) (t .height-high) in
     (a, mul-le-mul a (step-range m .1))
 
--- the bytes of the samples of sides that are taken
+-- the bytes of the samples of sides that are accepted
 pub bytes-room : (w h m : ℕ) → isTaken w h ≡ true → w * h * stepOf m ≤ 1572864
 bytes-room w h m e =
     let t = taken w h e in

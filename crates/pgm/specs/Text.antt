@@ -18,7 +18,7 @@ unfoldable pub decimal : ℕ → List ℕ → ℕ
 decimal n [] = n
 decimal n (b ∷ s) = cond (isDigit b) (decimal (n * 10 + (b - 48)) s) n
 
--- numbers above it count as this one, which nothing takes
+-- numbers above it count as this one, which nothing accepts
 abbrev pub most : ℕ
 most = 4294967295
 

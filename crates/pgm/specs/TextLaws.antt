@@ -65,7 +65,7 @@ decimal-ge n (b ∷ s) = go (isDigit b) (decimal-ge (n * 10 + (b - 48)) s)
     go true h = omega arith
     go false h = omega arith
 
--- cut on the way or at the end
+-- limited to `most` on the way or at the end
 pub cut-once : (n : ℕ) (s : List ℕ) → min most (decimal (min most n) s) ≡ min most (decimal n s)
 cut-once n s = go (decLe n most)
   where

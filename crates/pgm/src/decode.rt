@@ -39,7 +39,7 @@ fn nearest(k: usize, side: usize) -> usize
     side - 1
 }
 
-// The first n places of a plane whose rows are `pitch` long.
+// The first n samples of a plane whose rows are `pitch` long.
 fn fill(plane: &mut [u16], n: usize, pitch: usize, file: &[u8], h: Header)
     requires { ⌜ (n ≤ length (now plane)) × (0 < pitch) × (h .start ≤ 2 ^ 63) ⌝ }
     requires { ⌜ (0 < h .width) × (h .width ≤ 4096) × (0 < h .height) × (h .height ≤ 4096) ⌝ }
@@ -53,7 +53,7 @@ fn fill(plane: &mut [u16], n: usize, pitch: usize, file: &[u8], h: Header)
     }
 }
 
-// Puts the padded plane of a file, whose header is h, at the start of a plane; or says what is wrong, and leaves it as it is.
+// Puts the padded plane of a file, whose header is h, at the start of a plane; or returns what is wrong, and leaves it as it is.
 pub fn decode(plane: &mut [u16], file: &[u8], h: Header) -> Fault
     requires { ⌜ length (now plane) ≡ 786432 ⌝ }
     ensures { λ r. ⌜ r ≡ faultOf (length (now (file .entry))) h ⌝ }

@@ -4,7 +4,7 @@ ghost use mathlib.Core.Path.{_≡_};
 ghost use lib.ListN.{getD, length};
 ghost use Rattle.pgm.specs.Planes.{stored, byteOf, fileByte};
 
-// The sample at a place, 0 past the end.
+// The sample at a position, 0 past the end.
 fn at_or_zero(plane: &[u16], k: usize) -> u16
     ensures { λ r. ⌜ r ≡ getD (now (plane .entry)) k 0 ⌝ }
 {

@@ -1,18 +1,18 @@
-// The header of a binary PGM: P5, width, height and maximum, parted by blanks and comments, and one blank before the samples.
+// The header of a binary PGM: P5, width, height and maximum, separated by blanks and comments, and one blank before the samples.
 ghost use mathlib.Core.Path.{_≡_};
 ghost use mathlib.Core.Bool.{_&&_};
 ghost use Rattle.pgm.specs.Header.{wordAt, headerOf, isP5};
 use crate::numbers;
 use crate::text;
 
-// A number behind blanks, the place after it, and whether there is one.
+// A number behind blanks, the position after it, and whether there is one.
 pub struct Word {
     pub value: usize,
     pub next: usize,
     pub found: bool,
 }
 
-// start: the place of the first sample.
+// start: the position of the first sample.
 pub struct Header {
     pub found: bool,
     pub width: usize,

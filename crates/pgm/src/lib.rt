@@ -3,5 +3,5 @@ pub mod decode; // decode.rt: the padded plane of a file
 pub mod encode; // encode.rt: the visible part of a plane as bytes
 pub mod header; // header.rt: the numbers of a header
 pub mod numbers; // numbers.rt: decimal numbers
-pub mod sizes; // sizes.rt: which pictures are taken, and their padded sizes
+pub mod sizes; // sizes.rt: which pictures are accepted, and their padded sizes
 pub mod text; // text.rt: bytes of a text: digits, blanks, comments

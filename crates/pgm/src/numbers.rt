@@ -6,7 +6,7 @@ ghost use Rattle.pgm.specs.Text.{most, decimal, digitCount};
 ghost use Rattle.pgm.specs.Number.{numberOf};
 use crate::text;
 
-// The digits from a place on as a number, and the place after them.
+// The digits from a position on as a number, and the position after them.
 pub struct Digits {
     pub value: usize,
     pub next: usize,
@@ -18,7 +18,7 @@ pub enum Number {
     NoNumber,
 }
 
-// Numbers above it count as this one, which nothing takes.
+// Numbers above it count as this one, which nothing accepts.
 const MOST: usize = 4_294_967_295;
 
 // A number with one more digit.

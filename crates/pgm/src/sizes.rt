@@ -1,4 +1,4 @@
-// Which pictures are taken: the maximum, the sides and the length of a file; and the padded sizes.
+// Which pictures are accepted: the maximum, the sides and the length of a file; and the padded sizes.
 ghost use Prim.Native.Nat.{_≤_};
 ghost use mathlib.Core.Path.{_≡_};
 ghost use lib.ListN.{length};

@@ -5,7 +5,7 @@ ghost use mathlib.Core.Bool.{false};
 ghost use lib.ListN.{getD, drop};
 ghost use Rattle.pgm.specs.Text.{isDigit, isBlank, passed, inComment, blanks};
 
-// The byte at a place, 0 past the end.
+// The byte at a position, 0 past the end.
 pub fn byte_at(text: &[u8], at: usize) -> u8
     ensures { λ r. ⌜ r ≡ getD (now (text .entry)) at 0 ⌝ }
 {
@@ -51,7 +51,7 @@ fn comment_after(comment: bool, b: u8) -> bool
     b == b'#'
 }
 
-// The place after the blanks and comments from a place on.
+// The position after the blanks and comments from a position on.
 pub fn past_blanks(text: &[u8], from: usize) -> usize
     ensures { λ r. ⌜ r ≡ from + blanks false (drop from (now (text .entry))) ⌝ }
 {

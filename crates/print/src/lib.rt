@@ -27,9 +27,9 @@ pub fn whole(d: i64) {
     number(d as u64);
 }
 
-// A refusal, by the number of the first question that says no, and the line's end.
+// An error code, and the line's end.
 pub fn refused(n: u8) {
-    text(b"refused, ");
+    text(b"error code ");
     number(n as u64);
     text(b"\n");
 }

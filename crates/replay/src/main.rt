@@ -1,4 +1,4 @@
-// Replays the stored answers of the Rust through the public calls: one file a call, one case a line.
+// Replays the stored answers of the Rust reference through the public calls: one file per call, one case per line.
 // Prints for each call how many cases there were, how many differ, and the line of the first that does.
 mod pieces; // pieces.rt: a file in pieces
 
@@ -16,7 +16,7 @@ pub struct Tally {
     pub first: u64,
 }
 
-// The tally after the whole lines of a text, and the place after them.
+// The tally after the whole lines of a text, and the position after them.
 pub struct Piece {
     pub tally: Tally,
     pub used: usize,
@@ -38,7 +38,7 @@ fn replayed(call: u32, text: &[u8], before: Tally) -> Piece
     Piece { tally, used }
 }
 
-// Whether a call gives what its line has stored.
+// Whether a call returns what its line has stored.
 fn same(call: u32, line: &[u8]) -> bool {
     match call {
         4 => block_cases::same_direction(line),
@@ -50,7 +50,7 @@ fn same(call: u32, line: &[u8]) -> bool {
     }
 }
 
-// The tally with one case more; past 1,000,000,000 it stands still.
+// The tally with one case more; past 1,000,000,000 it stays as it is.
 fn counted(t: Tally, same: bool) -> Tally {
     if 1_000_000_000 < t.cases {
         return t;

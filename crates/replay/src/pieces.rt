@@ -2,7 +2,7 @@
 ghost use Prim.Native.Nat.{_≤_};
 ghost use lib.ListN.{length};
 
-// Reads on behind what the buffer has, and hands back how much it has then.
+// Reads on behind what the buffer has, and returns how much it has then.
 pub fn fill(fd: i32, buffer: &mut [u8], have: usize) -> usize
     requires { ⌜ have ≤ length (now buffer) ⌝ }
     ensures { λ r. ⌜ r ≤ length (now (buffer .exit)) ⌝ }
@@ -10,7 +10,7 @@ pub fn fill(fd: i32, buffer: &mut [u8], have: usize) -> usize
     have + io::read_full(fd, &mut buffer[have..])
 }
 
-// Moves what stands from a place on to the front, and hands back how much that is.
+// Moves what stands from a position on to the front, and returns how much that is.
 pub fn keep_rest(buffer: &mut [u8], from: usize, have: usize) -> usize
     requires { ⌜ (from ≤ have) × (have ≤ length (now buffer)) ⌝ }
     ensures { λ r. ⌜ r ≤ length (now (buffer .exit)) ⌝ }
@@ -23,7 +23,7 @@ pub fn keep_rest(buffer: &mut [u8], from: usize, have: usize) -> usize
     k
 }
 
-// The place of the first newline from a place on, or the end of the text.
+// The position of the first newline from a position on, or the end of the text.
 pub fn line_end(text: &[u8], from: usize) -> usize
     requires { ⌜ from ≤ length (now text) ⌝ }
     ensures { λ r. ⌜ (from ≤ r) × (r ≤ length (now (text .entry))) ⌝ }

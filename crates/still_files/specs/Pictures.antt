@@ -5,7 +5,7 @@ use Rattle.pgm.specs.Sizes.{isTaken}
 use Rattle.still_files.specs.declared.files.Picture.{Picture}
 use Rattle.still_files.specs.declared.files.Picture.the-variants.{Read, NoPicture}
 
--- its sides are taken
+-- its sides are accepted
 abbrev pub TakenPicture : Picture → Type 0
 TakenPicture (Read h) = isTaken (h .width) (h .height) ≡ true
 TakenPicture NoPicture = Unit

@@ -1,4 +1,4 @@
-// Pictures read and written. What is wrong is said.
+// Pictures read and written. Errors are reported on stderr.
 ghost use Prim.Native.Nat.{_+_, _≤_};
 ghost use mathlib.Core.Path.{_≡_};
 ghost use mathlib.Core.Bool.{true};
@@ -12,7 +12,7 @@ use pgm::header;
 use pgm::header::Header;
 use pgm::sizes;
 
-// How many bytes of a file lie at the start of a space; whole: all of them.
+// How many bytes of a file lie at the start of a buffer; whole: all of them.
 pub struct Bytes {
     pub count: usize,
     pub whole: bool,
@@ -24,7 +24,7 @@ pub enum Picture {
     NoPicture,
 }
 
-// Reads once into a space, from a place on; whole: the read did not fail.
+// Reads once into a buffer, from a position on; whole: the read did not fail.
 fn read_some(fd: i32, path: &[u8], space: &mut [u8], from: usize) -> Bytes
     requires { ⌜ from ≤ length (now space) ⌝ }
     ensures { λ r. ⌜ from + r .count ≤ length (now (space .entry)) ⌝ }
@@ -43,7 +43,7 @@ fn read_some(fd: i32, path: &[u8], space: &mut [u8], from: usize) -> Bytes
     }
 }
 
-// Reads until the file ends or the space is full.
+// Reads until the file ends or the buffer is full.
 fn read_all(fd: i32, path: &[u8], space: &mut [u8]) -> Bytes
     ensures { λ r. ⌜ r .count ≤ length (now (space .entry)) ⌝ }
 {
@@ -128,7 +128,7 @@ fn write_all(fd: i32, h: Header, samples: &[u8]) -> bool {
     io::write_all(fd, samples)
 }
 
-// Writes a header and samples to the file that argument 6 names. Handed back is whether it was done.
+// Writes a header and samples to the file that argument 6 names. Returns whether it was done.
 fn write_file(h: Header, samples: &[u8]) -> bool {
     let mut name = io::buffer();
     let n = os::arg(6, &mut name);

@@ -1,3 +1,3 @@
-// Pictures out of files and into files, and what is said on the error output.
+// Pictures out of files and into files, and what is printed on stderr.
 pub mod files; // files.rt: pictures read and written
-pub mod say; // say.rt: what is said
+pub mod say; // say.rt: what is printed

@@ -1,4 +1,4 @@
-// What is said on the error output.
+// What is printed on stderr.
 use pgm::sizes::Fault;
 use still_steps::steps::Outcome;
 
@@ -15,7 +15,7 @@ pub fn usage() {
     text(b"PRIMARY: 0 to 15; SECONDARY: 0, 1, 2 or 4; OUTPUT: the filtered picture\n");
 }
 
-// An argument that is none of its kind.
+// An argument that is not of its kind.
 pub fn argument(what: &[u8], given: &[u8]) {
     text(what);
     text(given);
@@ -45,23 +45,23 @@ pub fn different() {
     text(b"the still and the original differ in size or maximum\n");
 }
 
-// A call's no, by document 01's number and in words.
+// A rejected call: its error code (RULES, Questions) and what that means.
 fn refusal(call: &[u8], n: u8) {
     text(call);
-    text(b" says no to question ");
+    text(b" returned error code ");
     io::print_decimal(libc::STDERR_FILENO, n as u64);
     match n {
         1 => text(b": the depth is not 8 to 12\n"),
-        2 => text(b": a side is not 1 to 4096, or no multiple of 8\n"),
+        2 => text(b": a side is not 1 to 4096, or not a multiple of 8\n"),
         4 => text(b": a plane is not as long as its sides say\n"),
-        7 => text(b": a list has not its length, or the visible size is out of range\n"),
+        7 => text(b": a list has the wrong length, or the visible size is out of range\n"),
         8 => text(b": a strength, the damping or the quality index is out of range\n"),
         9 => text(b": a sample is above the maximum\n"),
         _ => text(b"\n"),
     }
 }
 
-// Whether the calls were done; a no is said.
+// Whether the calls were done; an error code is printed.
 pub fn is_filtered(outcome: Outcome) -> bool {
     match outcome {
         Outcome::Filtered => return true,

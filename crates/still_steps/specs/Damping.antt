@@ -10,7 +10,7 @@ use Rattle.pgm.specs.Number.{numberOf}
 use Rattle.still_steps.specs.declared.damping.DampingText.{DampingText}
 use Rattle.still_steps.specs.declared.damping.DampingText.the-variants.{Choice, NoDamping}
 
--- what a letter says of a number: q (113) a quality index, d (100) a signalled damping. One above 255 counts as 255, which no call takes
+-- what a letter says of a number: q (113) a quality index, d (100) a signalled damping. One above 255 counts as 255, which no call accepts
 abbrev pub lettered : ℕ → Number → DampingText
 lettered letter NoNumber = NoDamping
 lettered letter (Value n) =

@@ -1,4 +1,4 @@
--- Laws of the sizes of the lists: the room that they need, and a list's first places.
+-- Laws of the sizes of the lists: the room that they need, and a list's first elements.
 use mathlib.Core.Path.{_≡_, refl}
 use mathlib.Core.List.{List}
 use Prim.Native.Nat.{ℕ, _+_, _-_, _*_, _/_, _≤_}
@@ -9,7 +9,7 @@ use Rattle.pgm.specs.Sizes.{padded}
 use Rattle.pgm.specs.SizesLaws.{Taken}
 use Rattle.still_steps.specs.Lists.{along, Counted}
 
--- the first places of a list are as many as asked for
+-- the first elements of a list are as many as requested
 pub cut : {A : Type 0} (l : List A) (n : ℕ) → n ≤ length l → n ≡ length (take n l)
 cut l n h = omega (arith, length-take n l)
 
@@ -37,7 +37,7 @@ module _ (w h : ℕ) (t : Taken w h) where
           let d : a * 64 * (b * 64) ≤ 786432 = le-trans c (t .room) in
           rw (e, f) (omega arith)
 
-  -- the counts, from what the functions hand back
+  -- the counts, from what the functions return
   pub counted : (a b x y : ℕ) → a ≡ padded w → b ≡ padded h → x ≡ along a → y ≡ along b
       → Counted w h (record { width = a; height = b; samples = a * b; blocks = (a / 8) * (b / 8); units = x * y; totals = 12 * (x * y); scratch = a * 8 })
   counted a b x y e f g i = record {

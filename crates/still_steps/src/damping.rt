@@ -12,7 +12,7 @@ pub enum DampingText {
     NoDamping,
 }
 
-// A number as a u8; every larger one is 255, which no call takes.
+// A number as a u8; every larger one is 255, which no call accepts.
 pub fn small(n: usize) -> u8
     ensures { λ r. ⌜ r ≡ min n 255 ⌝ }
 {

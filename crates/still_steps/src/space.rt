@@ -1,8 +1,8 @@
-// Room for the lists of the largest picture. The promises give only the lengths, which lending an array as a slice needs.
+// Room for the lists of the largest picture. The contracts give only the lengths, which borrowing an array as a slice needs.
 ghost use mathlib.Core.Path.{_≡_};
 ghost use lib.ListN.{length};
 
-// A number a block.
+// One number per block.
 pub fn block_bytes() -> [u8; 12288]
     ensures { λ r. ⌜ 12288 ≡ length r ⌝ }
 {
@@ -22,7 +22,7 @@ pub fn unit_strengths(strength: u8) -> [u8; 320]
     [strength; 320]
 }
 
-// A total a unit, and twelve.
+// One total per unit, and twelve.
 pub fn unit_totals() -> [i64; 320]
     ensures { λ r. ⌜ 320 ≡ length r ⌝ }
 {

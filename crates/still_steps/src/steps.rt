@@ -1,4 +1,4 @@
-// The calls, one after the other: the direction pass, trying, applying, measuring. The first no ends them.
+// The calls, one after the other: the direction pass, trying, applying, measuring. The first that is rejected ends them.
 ghost use Rattle.still_steps.specs.Lists.{Counted};
 use crate::lists::Counts;
 use crate::space;
@@ -16,7 +16,7 @@ pub struct Job {
     pub counts: Counts,
 }
 
-// What comes of it: the plane is filtered and measured; or which call says no, and to which question.
+// The outcome: the plane is filtered and measured; or which call was rejected, with its error code.
 pub enum Outcome {
     Filtered,
     PassRefused(u8),
@@ -25,7 +25,7 @@ pub enum Outcome {
     MeasuringRefused(u8),
 }
 
-// Lends lists of their size to the calls. No block is skipped.
+// Passes lists of their size to the calls. No block is skipped.
 pub fn calls(
     job: Job,
     still: &[u16],

@@ -9,7 +9,7 @@ use cdef_spec::DirectionAnswer;
 use cdef_spec::FilterParams;
 use cdef_spec::WorkingDamping;
 
-// depth width height x y number direction variance, and the plane
+// depth width height x y code direction variance, and the plane
 pub fn same_direction(line: &[u8]) -> bool {
     let l = case_text::read_line(line, 8);
     let numbers = case_text::numbers_in(line);
@@ -50,7 +50,7 @@ fn same_found(answer: DirectionAnswer, l: Line) -> bool {
     }
 }
 
-// depth width height x y bw bh y0 dst_rows pri sec dir damping number,
+// depth width height x y bw bh y0 dst_rows pri sec dir damping code,
 // and the plane, the destination before and the destination after, as large as the sizes say
 pub fn same_filter(line: &[u8]) -> bool {
     let l = case_text::read_line(line, 14);

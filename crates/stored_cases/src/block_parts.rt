@@ -1,4 +1,4 @@
-// What the calls on a block share: the size of a plane, the block of a case and the number of a refusal.
+// What the calls on a block share: the size of a plane, the block of a case and the error code.
 ghost use Prim.Native.Nat.{_≤_};
 use case_text::Line;
 use cdef_spec::Answer;
@@ -7,7 +7,7 @@ use cdef_spec::Block;
 // The most samples of a plane or of a destination that a case can have here.
 pub const MOST: usize = 8192;
 
-// The samples of a plane of this size; too many ones need not be counted.
+// The samples of a plane of this size; too many need not be counted.
 pub fn samples_of(width: u64, height: u64) -> usize
     ensures { λ r. ⌜ r ≤ 67108864 ⌝ }
 {
@@ -31,7 +31,7 @@ pub fn block_of(l: Line) -> Block {
     }
 }
 
-// Whether an answer is the stored number.
+// Whether an answer is the stored error code.
 pub fn same_number(answer: Answer, number: u64) -> bool {
     match answer {
         Answer::Done => number == 0,

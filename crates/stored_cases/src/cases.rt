@@ -1,4 +1,4 @@
-// One stored case of each call on numbers: its inputs, document 01's number (0 where the work is done), and the answer.
+// One stored case of each call on numbers: its inputs, the error code (RULES, Questions; 0 where the work is done), and the answer.
 ghost use Prim.Native.Nat.{_≤_};
 use case_text::Line;
 use cdef_spec::DampingAnswer;
@@ -6,7 +6,7 @@ use cdef_spec::DifferenceAnswer;
 use cdef_spec::StrengthAnswer;
 use cdef_spec::WorkingDamping;
 
-// Whether one case of a call, by the call's number, gives what is stored.
+// Whether one case of a call, by the call's number, returns what is stored.
 pub fn same_numbers(call: u32, line: &[u8]) -> bool {
     let count = numbers_of(call);
     let l = case_text::read_line(line, count);
@@ -32,7 +32,7 @@ fn numbers_of(call: u32) -> usize
     }
 }
 
-// difference strength damping number answer
+// difference strength damping code answer
 fn same_constrain(l: Line) -> bool {
     let minus = l.minus;
     let size = l.size;
@@ -49,7 +49,7 @@ fn same_constrain(l: Line) -> bool {
     }
 }
 
-// strength variance number answer
+// strength variance code answer
 fn same_adjust(l: Line) -> bool {
     let size = l.size;
     let answer = cdef::numbers::adjust(case_text::as_u32(size[0]), case_text::as_u32(size[1]));
@@ -59,7 +59,7 @@ fn same_adjust(l: Line) -> bool {
     }
 }
 
-// index number answer
+// index code answer
 fn same_damping(l: Line) -> bool {
     let size = l.size;
     let answer = cdef::numbers::damping(case_text::as_u32(size[0]));
@@ -69,7 +69,7 @@ fn same_damping(l: Line) -> bool {
     }
 }
 
-// v number answer: nothing is refused
+// v code answer: nothing is rejected
 fn same_log2(l: Line) -> bool {
     let size = l.size;
     size[1] == 0 && (cdef_leaf::log2_floor(case_text::as_u32(size[0])) as u64) == size[2]

@@ -6,8 +6,8 @@ use case_text::Line;
 use case_text::samples;
 use cdef_spec::DistanceAnswer;
 
-// depth width height x y number answer, and the original plane and the other one, as many samples each;
-// the answer is that of the plain squares or of the weighted distance
+// depth width height x y code answer, and the original plane and the other one, as many samples each;
+// the answer is the sum of squared differences or the weighted distance
 pub fn same_distance(line: &[u8], plain: bool) -> bool {
     let l = case_text::read_line(line, 7);
     let numbers = case_text::numbers_in(line);

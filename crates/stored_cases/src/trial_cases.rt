@@ -8,11 +8,11 @@ use cdef_spec::Answer;
 use cdef_spec::TrialWay;
 use cdef_spec::WorkingDamping;
 
-// The most places that the list of a trial can have here.
+// The most elements that the list of a trial can have here.
 const PLACES: usize = 1024;
 
-// depth width height x y bw bh luma variance dir damping places held number,
-// and the plane, and the twelve trial blocks where the number is 0
+// depth width height x y bw bh luma variance dir damping places held code,
+// and the plane, and the twelve trial blocks where the code is 0
 pub fn same_trial(line: &[u8]) -> bool {
     let l = case_text::read_line(line, 14);
     let size = l.size;
@@ -36,7 +36,7 @@ pub fn same_trial(line: &[u8]) -> bool {
         && samples::same_in_blocks(line, after, block, size[12], places, &out)
 }
 
-// The samples of each trial block that a line has stored: none where the work is refused.
+// The samples of each trial block that a line has stored: none where the call is rejected.
 fn stored_of(l: Line) -> usize
     ensures { λ r. ⌜ r ≤ 67108864 ⌝ }
 {
@@ -47,7 +47,7 @@ fn stored_of(l: Line) -> usize
     block_parts::samples_of(size[5], size[6])
 }
 
-// Tries the block of a case whose list and plane are the first places of the two.
+// Tries the block of a case whose list and plane are the first elements of the two.
 fn tried(l: Line, out: &mut [u16], places: usize, plane: &[u16], count: usize) -> Answer
     requires { ⌜ (places ≤ length (now out)) × (count ≤ length (now plane)) ⌝ }
 {

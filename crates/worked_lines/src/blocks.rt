@@ -57,7 +57,7 @@ pub fn direction_lines() {
     direction_line(b"depth 7 and an empty plane", &[], 0, 0, 7);
 }
 
-// The sample at a place, 0 past the end.
+// The sample at a position, 0 past the end.
 fn sample(row: &[u16], at: usize) -> u16 {
     if at < row.len() {
         return row[at];

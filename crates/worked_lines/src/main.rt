@@ -1,5 +1,5 @@
-// Runs document 01's worked lines through the public calls and prints one line each.
-// The file stdout was written from document 01, not from a run.
+// Runs RULES, Worked lines (docs/RULES.md) through the public calls and prints one line each.
+// The file stdout was written from the rules, not from a run.
 mod blocks; // blocks.rt: lines on one block
 mod distances; // distances.rt: lines on two blocks
 mod numbers; // numbers.rt: lines on single numbers

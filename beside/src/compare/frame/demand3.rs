@@ -1,5 +1,5 @@
-//! Demand 3: trying, then applying any of the twelve pairs unit by unit to a copy of the
-//! snapshot, then measuring with pair 0, 0 what applying left.
+//! The agreement theorem (RULES, Agreement): trying, then applying any of the twelve pairs
+//! unit by unit to a copy of the snapshot, then measuring the result with pair 0, 0.
 
 use ours::frame as ours;
 use support::Answer;
@@ -46,7 +46,7 @@ pub fn picture(tally: &mut Tally, d: &Drawn, kind: Kind) {
     tally.case(&measuring, left);
 }
 
-/// The same figure in force, told in any way.
+/// The same figure in force, given in either way.
 fn told_anew(picture: &Picture, figure: u8, r: &mut Random) -> Picture {
     Picture {
         damping: DampingChoice::random(figure, r),

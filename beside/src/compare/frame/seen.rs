@@ -1,4 +1,4 @@
-//! Which pictures were among the cases.
+//! Which pictures occurred among the cases.
 
 use crate::seen::Seen;
 use support::frame::Size;
@@ -19,12 +19,12 @@ pub struct PictureSeen {
 }
 
 impl PictureSeen {
-    /// Of so many planes a picture.
+    /// Of so many planes per picture.
     pub fn new(kinds: usize) -> Self {
         PictureSeen {
             depths: Seen::new("depths of each layout", 5 * kinds),
             pairs: Seen::new("pairs at each depth of each layout", 5 * kinds * PAIRS),
-            dampings: Seen::new("dampings, told in two ways", 8),
+            dampings: Seen::new("dampings, given in two ways", 8),
             sides: Seen::new("sides of 4,096", 2),
             taken: [false; 2],
             pictures: 0,
@@ -32,7 +32,7 @@ impl PictureSeen {
         }
     }
 
-    /// A case of the k-th plane, where it was taken.
+    /// A case of the k-th plane, where it was accepted.
     pub fn see<C: FrameCase>(&mut self, c: &C, k: usize, number: u32) {
         if number != 0 {
             return;
@@ -66,7 +66,8 @@ impl PictureSeen {
         self.cut += usize::from(cut(width) && cut(height));
     }
 
-    /// Each of them is wanted, and a quarter of the pictures over 64 in both sides and cut.
+    /// Each of them must have occurred; and a quarter of the pictures must be over 64 in both
+    /// sides, with partial units in both.
     pub fn check(&self, tally: &mut Tally) {
         self.depths.check(tally);
         self.sides.check(tally);
@@ -76,6 +77,6 @@ impl PictureSeen {
             }
         }
         let quarter = 4 * self.cut >= self.pictures;
-        tally.number("a quarter of cut pictures", i64::from(quarter), 1);
+        tally.number("a quarter with partial units", i64::from(quarter), 1);
     }
 }

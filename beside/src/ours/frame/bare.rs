@@ -1,4 +1,4 @@
-//! The entries for whole pictures, with nothing held around what they write: for
+//! The entries for whole pictures, without guards around what they write: for
 //! measuring.
 
 use super::entries::*;
@@ -6,11 +6,11 @@ use support::frame::applying::Applying;
 use support::frame::comparing::Compared;
 use support::frame::{Kind, Size};
 
-/// An entry's number. In this order it takes what it writes, planes, numbers, lists and
-/// numbers; a slice is lent as its address and its length.
+/// An entry's error code. In this order it takes what it writes, planes, numbers, lists and
+/// numbers; a slice is passed as its address and its length.
 macro_rules! number {
     ($entry:ident: $($out:ident),*; $($plane:expr),*; $($n:expr),*; $($list:expr),*; $($m:expr),*) => {
-        // SAFETY: the slices have the lengths given, and are apart.
+        // SAFETY: the slices have the lengths given, and do not overlap.
         unsafe {
             $entry(
                 $($out.as_mut_ptr(), $out.len(),)*
@@ -29,7 +29,7 @@ pub fn direction_pass(dirs: &mut [u8], vars: &mut [u32], plane: &[u16], size: &S
     number!(quern_direction_pass: dirs, vars; plane; size.width, size.height, size.depth;;)
 }
 
-/// Twelve totals a unit are written.
+/// Twelve totals per unit are written.
 #[inline]
 pub fn trying(totals: &mut [i64], c: &Compared) -> u32 {
     let (p, size, d) = (&c.picture, &c.picture.size, &c.picture.damping);
@@ -45,7 +45,7 @@ pub fn trying(totals: &mut [i64], c: &Compared) -> u32 {
     }
 }
 
-/// One total a unit is written, and the scratch.
+/// One total per unit is written, and the scratch.
 #[inline]
 pub fn measuring(
     totals: &mut [i64],
@@ -68,7 +68,7 @@ pub fn measuring(
     }
 }
 
-/// A destination is written; the case's own is not looked at.
+/// A destination is written; the case's own is not read.
 #[inline]
 pub fn applying(dst: &mut [u16], c: &Applying) -> u32 {
     let (p, size, d) = (&c.picture, &c.picture.size, &c.picture.damping);

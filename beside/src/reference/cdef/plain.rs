@@ -3,7 +3,7 @@
 
 use super::CdefDispatch;
 
-/// Trial blocks of one block: twelve of 64 places.
+/// Trial blocks of one block: twelve of 64 elements.
 pub type Trial = [[i32; 64]; 12];
 
 pub const MARK: u16 = super::CDEF_VERY_LARGE as u16;
@@ -18,7 +18,7 @@ pub fn adjust_pri(strength: u32, variance: u32) -> u32 {
     super::adjust_pri(strength as i32, variance as i32) as u32
 }
 
-/// The Rust takes an i32, so `v` is at most 2^31 - 1.
+/// The reference takes an i32, so `v` is at most 2^31 - 1.
 #[inline]
 pub fn log2_floor(v: u32) -> u32 {
     super::log2_floor(v.try_into().expect("log2_floor takes an i32")) as u32

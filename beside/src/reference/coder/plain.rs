@@ -4,7 +4,7 @@ use super::{CdefMetric, Pool};
 use crate::cdef::CdefDispatch;
 use crate::rd_sse::RdDispatch;
 
-/// Lists with one entry a luma block, in rows, of the types that the Rust takes.
+/// Lists with one entry per luma block, in rows, of the types that the reference takes.
 #[derive(Clone)]
 pub struct Lists {
     pub skip: Vec<bool>,
@@ -118,7 +118,7 @@ pub type Try = fn(&Frame, &[u16], &[u16]) -> Vec<[i64; 12]>;
 pub type Measure = fn(&Frame, &[u16], &[u16], u8, u8) -> Vec<i64>;
 pub type Apply = fn(&Frame, &mut [u16], &[u16], &[(u8, u8)]);
 
-/// Trying, luma: twelve totals a unit.
+/// Trying, luma: twelve totals per unit.
 pub fn cdef_luma_unit_dists_all(f: &Frame, recon: &[u16], src: &[u16]) -> Vec<[i64; 12]> {
     super::cdef_luma_unit_dists_all(
         &CdefDispatch::scalar(),
@@ -141,7 +141,7 @@ pub fn cdef_luma_unit_dists_all(f: &Frame, recon: &[u16], src: &[u16]) -> Vec<[i
     )
 }
 
-/// Trying, one chroma plane: twelve totals a unit.
+/// Trying, one chroma plane: twelve totals per unit.
 pub fn cdef_chroma_unit_sse_all(f: &Frame, recon: &[u16], src: &[u16]) -> Vec<[i64; 12]> {
     let (visible_width, visible_height) = f.chroma_visible();
     super::cdef_chroma_unit_sse_all(
@@ -167,7 +167,7 @@ pub fn cdef_chroma_unit_sse_all(f: &Frame, recon: &[u16], src: &[u16]) -> Vec<[i
     )
 }
 
-/// Measuring, luma: one total a unit, for one pair.
+/// Measuring, luma: one total per unit, for one pair.
 pub fn cdef_luma_unit_dists(f: &Frame, recon: &[u16], src: &[u16], pri: u8, sec: u8) -> Vec<i64> {
     super::cdef_luma_unit_dists(
         recon,
@@ -190,7 +190,7 @@ pub fn cdef_luma_unit_dists(f: &Frame, recon: &[u16], src: &[u16], pri: u8, sec:
     )
 }
 
-/// Measuring, one chroma plane: one total a unit, for one pair.
+/// Measuring, one chroma plane: one total per unit, for one pair.
 pub fn cdef_chroma_unit_sse(f: &Frame, recon: &[u16], src: &[u16], pri: u8, sec: u8) -> Vec<i64> {
     let (visible_width, visible_height) = f.chroma_visible();
     super::cdef_chroma_unit_sse(
@@ -220,7 +220,7 @@ fn pair_list(pairs: &[(u8, u8)]) -> Vec<(i32, i32)> {
     pairs.iter().map(|&(p, s)| (p as i32, s as i32)).collect()
 }
 
-/// Applying, luma: one pair a unit.
+/// Applying, luma: one pair per unit.
 pub fn apply_cdef_plane(f: &Frame, plane: &mut [u16], snapshot: &[u16], pairs: &[(u8, u8)]) {
     super::apply_cdef_plane(
         plane,
@@ -239,7 +239,7 @@ pub fn apply_cdef_plane(f: &Frame, plane: &mut [u16], snapshot: &[u16], pairs: &
     );
 }
 
-/// Applying, one chroma plane: one pair a unit.
+/// Applying, one chroma plane: one pair per unit.
 pub fn apply_cdef_chroma(f: &Frame, plane: &mut [u16], snapshot: &[u16], pairs: &[(u8, u8)]) {
     super::apply_cdef_chroma(
         plane,

@@ -5,14 +5,14 @@ use super::{Pool, Speed};
 use crate::cdef::CdefDispatch;
 use crate::rd_sse::RdDispatch;
 
-/// The picked pairs, one a unit, and the signalled damping.
+/// The picked pairs, one per unit, and the signalled damping.
 pub struct Picked {
     pub luma: Vec<(u8, u8)>,
     pub chroma: Vec<(u8, u8)>,
     pub signalled_damping: u8,
 }
 
-/// Filters the three planes in place, or answers nothing and leaves them.
+/// Filters the three planes in place, or returns nothing and leaves them unchanged.
 pub fn frame_cdef(
     f: &crate::Frame,
     quality_index: u8,

@@ -1,4 +1,4 @@
-//! Chosen cases of the block filter, and its refusals.
+//! Chosen cases of the block filter, and its rejected calls.
 
 use super::{Filter, destination, strengths_max, under};
 use crate::WIDE;
@@ -39,7 +39,7 @@ impl Filter<'static> {
     }
 
     /// Worked lines, marks that a large damping would let count, every block size,
-    /// every way of being cut, and the ends of the strengths.
+    /// every way of crossing an edge, and the ends of the strengths.
     pub fn edges() -> Vec<Self> {
         let r = &mut Random::new(3);
         let (rows, (square, centre)) = worked();
@@ -116,12 +116,12 @@ impl Filter<'static> {
         list
     }
 
-    /// The limits, and what is asked of good cases and broken ones.
+    /// The limits, good cases and broken ones.
     pub fn stated() -> Vec<Stated<Self>> {
         [Self::limits(), Self::asked()].concat()
     }
 
-    /// Each question's no, and a scan of the samples looked at.
+    /// Each failing check, and a scan of the examined samples.
     pub fn asked() -> Vec<Stated<Self>> {
         let r = &mut Random::new(4);
         let good = GOOD.map(|(size, depth, place)| {

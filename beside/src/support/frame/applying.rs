@@ -118,7 +118,7 @@ impl FrameCase for Applying {
         list
     }
 
-    /// The destination is not looked at.
+    /// The destination is not examined.
     fn scans(&self) -> Vec<Break<Self>> {
         type C = Applying;
         let (units, samples) = (self.primaries.len(), self.dst.len());

@@ -1,5 +1,5 @@
-//! Changes of the numbers and lists of a picture, each with document 01's number for
-//! what it leaves; the calls on pictures gather theirs from here.
+//! Changes of the numbers and lists of a picture, each with the error code (RULES, Questions)
+//! of the result; the calls on pictures gather theirs from here.
 
 use super::{DampingChoice, Kind, Picture, Size};
 use crate::WIDE;
@@ -12,7 +12,7 @@ use reference::MARK;
 
 type Part<C, T> = fn(&mut C) -> &mut T;
 
-/// Signalled strengths that no call takes.
+/// Signalled strengths that no call accepts.
 pub(crate) const PRIMARIES: [u8; 4] = [16, 17, 128, 255];
 pub(crate) const SECONDARIES: [u8; 5] = [3, 5, 6, 128, 255];
 
@@ -32,7 +32,7 @@ pub(crate) fn larger<C: 'static>(number: u32, part: Part<C, usize>, by: &[usize]
     by.iter().map(add).collect()
 }
 
-/// A list has one place more, one less, none, and twice as many.
+/// A list has one element more, one less, none, and twice as many.
 pub(crate) fn lengths<C: 'static, T: Copy + Default + 'static>(
     number: u32,
     list: Part<C, Vec<T>>,
@@ -47,7 +47,7 @@ pub(crate) fn lengths<C: 'static, T: Copy + Default + 'static>(
     ]
 }
 
-/// The first or the last place of a list holds a value.
+/// The first or the last element of a list holds a value.
 pub(crate) fn values<C: 'static, T: Copy + 'static>(
     number: u32,
     list: Part<C, Vec<T>>,
@@ -67,7 +67,7 @@ pub(crate) fn values<C: 'static, T: Copy + 'static>(
     values.iter().flat_map(ends).collect()
 }
 
-/// Each place of a list in turn holds each value, beside which stands the number.
+/// Each element of a list in turn holds each value, which is paired with its error code.
 pub(crate) fn scan<C: 'static, T: Copy + 'static>(
     list: Part<C, Vec<T>>,
     places: usize,
@@ -80,7 +80,7 @@ pub(crate) fn scan<C: 'static, T: Copy + 'static>(
     (0..places).flat_map(at).collect()
 }
 
-/// 9: a sample in the first, the middle or the last place of a plane.
+/// 9: a sample at the first, the middle or the last position of a plane.
 pub(crate) fn samples<C: 'static>(depth: fn(&C) -> u8, plane: Part<C, Vec<u16>>) -> Vec<Break<C>> {
     let mut list = Vec::new();
     for half in 0..3 {
@@ -98,7 +98,7 @@ pub(crate) fn samples<C: 'static>(depth: fn(&C) -> u8, plane: Part<C, Vec<u16>>)
     list
 }
 
-/// Each place of a plane in turn holds a sample at or past the end of its range.
+/// Each position of a plane in turn holds a sample at or past the end of its range.
 pub(crate) fn sample_scan<C: 'static>(
     plane: Part<C, Vec<u16>>,
     places: usize,
@@ -188,8 +188,8 @@ fn dampings() -> Vec<Break<DampingChoice>> {
     list
 }
 
-/// What is taken, and what isn't, in each place of a picture's lists, and dampings that
-/// are taken.
+/// Values that are accepted, and values that aren't, in each element of a picture's lists, and
+/// dampings that are accepted.
 pub(crate) fn picture_scans(p: &Picture) -> Vec<Break<Picture>> {
     type P = Picture;
     let flags = [(0, 0), (0, 1), (8, 2), (8, 128), (8, 255)];

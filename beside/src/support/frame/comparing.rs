@@ -58,7 +58,7 @@ impl Compared {
         c
     }
 
-    /// The same for the Rust.
+    /// The same for the reference.
     pub fn frame(&self) -> Frame {
         let visible = (self.visible_width, self.visible_height);
         self.picture.frame(visible)

@@ -5,10 +5,10 @@ use crate::adjust_pri::AdjustPri;
 use crate::planes::Plane;
 use crate::random::Random;
 
-/// After as many pictures each depth has met each pair.
+/// After as many pictures as this each depth has met each pair.
 pub const CYCLE: usize = 320;
 
-/// The pairs that applying and measuring take.
+/// The pairs that applying and measuring accept.
 pub const PAIRS: usize = 64;
 
 /// A pair of signalled strengths by its number.
@@ -66,7 +66,7 @@ impl Drawn {
     }
 
     /// The picture of a number: depths and pairs in turn, a quarter of the pictures over
-    /// 64 in both sides and cut in both.
+    /// 64 in both sides, with partial units in both.
     pub fn numbered(number: usize, seed: u64) -> Self {
         let r = &mut Random::new(seed ^ Random::new(number as u64).next());
         let sides = sides((number + number / CYCLE) % 4, r);
@@ -130,7 +130,7 @@ impl Drawn {
         pair(self.number)
     }
 
-    /// Any pairs, one a unit, the picture's own first.
+    /// Any pairs, one per unit, the picture's own first.
     pub fn pairs(&self, kind: Kind) -> Vec<(u8, u8)> {
         let r = &mut self.random(kind, What::Pairs);
         let apart = r.below(4) != 0;
@@ -142,7 +142,7 @@ impl Drawn {
     }
 }
 
-/// Small ones; long ones; whole units; and over 64 in both sides, cut in both.
+/// Small ones; long ones; whole units; and over 64 in both sides, with partial units in both.
 fn sides(class: usize, r: &mut Random) -> (usize, usize) {
     let mut times_8 = |low, high| 8 * r.between(low, high) as usize;
     match class {

@@ -15,7 +15,7 @@ pub struct Measuring {
     pub compared: Compared,
     pub primary: u8,
     pub secondary: u8,
-    /// One a unit, before the call, and the scratch.
+    /// One per unit, before the call, and the scratch.
     pub totals: Vec<i64>,
     pub scratch: Vec<u16>,
 }

@@ -1,5 +1,5 @@
-//! Document 01's questions to the calls on pictures, written from that paper alone:
-//! the number of the first one that says no, or 0.
+//! The questions (RULES, Questions) for the calls on pictures, written from the rules alone:
+//! the error code, which is the number of the first check that fails, or 0.
 
 use super::applying::Applying;
 use super::comparing::Compared;
@@ -115,7 +115,7 @@ fn of_size(s: &Size) -> u32 {
     }
 }
 
-/// One flag, direction and variance a block.
+/// One flag, direction and variance per block.
 fn listed(p: &Picture) -> bool {
     let blocks = (p.size.width / 8) * (p.size.height / 8);
     let variances = p.kind != Kind::Luma || p.vars.len() == blocks;

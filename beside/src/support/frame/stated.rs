@@ -1,4 +1,4 @@
-//! Good cases of the calls on pictures, and broken ones with the number stated beside
+//! Good cases of the calls on pictures, and broken ones with the error code stated with
 //! each.
 
 use super::drawn::Drawn;
@@ -11,10 +11,10 @@ use std::slice::from_ref;
 
 /// A case of a call on a picture.
 pub trait FrameCase: Case + Clone + PartialEq + 'static {
-    /// Of a plane of a drawn picture; it is taken.
+    /// Of a plane of a drawn picture; it is accepted.
     fn drawn(d: &Drawn, kind: Kind) -> Self;
 
-    /// Luma pictures made for the call.
+    /// Luma pictures built for the call.
     fn edges(_: &mut Random) -> Vec<Self> {
         Vec::new()
     }
@@ -31,10 +31,10 @@ pub trait FrameCase: Case + Clone + PartialEq + 'static {
         Vec::new()
     }
 
-    /// Each question's no, to be made alone and in twos.
+    /// Each failing check, to be made alone and in twos.
     fn breaks(kind: Kind) -> Vec<Break<Self>>;
 
-    /// Each place of each list, to be made alone; where it is taken the number is 0.
+    /// Each element of each list, to be changed alone; where it is accepted the error code is 0.
     fn scans(&self) -> Vec<Break<Self>>;
 
     /// One sample somewhere is out of range.

@@ -13,7 +13,7 @@ use std::fmt::{Display, Formatter, Result};
 #[derive(Clone, PartialEq)]
 pub struct Trying {
     pub compared: Compared,
-    /// Twelve a unit, before the call.
+    /// Twelve per unit, before the call.
     pub totals: Vec<i64>,
 }
 

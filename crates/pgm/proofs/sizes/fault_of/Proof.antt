@@ -15,7 +15,7 @@ use Rattle.pgm.proofs.sizes.depth_of.Reads as depth-of-reads
 use Rattle.pgm.proofs.sizes.is_taken.Reads as is-taken-reads
 use Rattle.pgm.proofs.sizes.step_of.Reads as step-of-reads
 
--- past the first three questions
+-- past the first three checks
 taken-is : (c : tie.Else3) → isTaken (c .before .before .before .before .before .before .before .args .h .width) (c .before .before .before .before .before .before .before .args .h .height) ≡ true
 taken-is c = sym (c .before .is-taken .ensures) ∙ not-false (c .before .is-taken .result) (c .if3 .left)
 

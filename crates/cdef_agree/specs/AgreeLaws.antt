@@ -138,10 +138,18 @@ module _ (trial : Bool) (asked : List ℕ → ℕ) (applied : List ℕ → Apply
       (eqb-true _ _ (y .0), y .1, eqb-true _ _ (y .2), eqb-true _ _ (y .3))
 
   -- the error code: trying's; else 8 for a pair that is none of the twelve; else applying's; else measuring's, 0 where the totals agree
-  pub number-is : agreementNumber (readAgreement (out .answer))
-      ≡ cond (eqb (tryingNo q d v snapshot original tried) 0) (cond trial (cond (eqb (asked (copied snapshot dst)) 0) (measuringNo q d v plane original off measured scratch) (asked (copied snapshot dst))) 8) (tryingNo q d v snapshot original tried)
+  abbrev first : ℕ
+  first = tryingNo q d v snapshot original tried
+
+  abbrev second : ℕ
+  second = asked (copied snapshot dst)
+
+  abbrev last : ℕ
+  last = measuringNo q d v plane original off measured scratch
+
+  pub number-is : agreementNumber (readAgreement (out .answer)) ≡ cond (eqb first 0) (cond trial (cond (eqb second 0) last second) 8) first
   unfolding agreeWith
-  number-is = number-of _ trial _ _ (measuringNo q d v plane original off measured scratch) _ _ (eqb-true (measuringNo q d v plane original off measured scratch) 0)
+  number-is = number-of (eqb first 0) trial (eqb second 0) (eqb last 0) last second first (eqb-true last 0)
 
   totals-are : tryingNo q d v snapshot original tried ≡ 0 → trial ≡ true → asked (copied snapshot dst) ≡ 0
       → (out .tried ≡ (tryingOutcome q d v snapshot original tried) .totals) × (out .measured ≡ (measuringOutcome q d v plane original off measured scratch) .totals)

@@ -1,6 +1,6 @@
--- `cdef_pairs::gather` meets its contract: its MIR, walked step by step. walks/write writes this file.
--- The slice is looked into once, before the loop, and given back after it; the array is a row of elements meanwhile.
--- The invariant: with t turns left, i + t is n, and the array holds `gathered (take i ys)`.
+-- `cdef_pairs::gather` meets its contract: a proof by hand over its MIR, step by step. walks/write generates this file.
+-- The borrow of the slice is opened once, before the loop, and closed after it; in between, the array is held as a row of elements.
+-- The loop invariant: with t iterations left, i + t is n, and the array holds `gathered (take i ys)`.
 use mathlib.Core.Path.{_≡_, refl, sym, _∙_, ap, subst}
 use mathlib.Core.Bool.{Bool}
 use mathlib.Core.List.{List, [], _∷_}
@@ -92,7 +92,7 @@ slice = sliceTy (tyRef (named 0) imm (pointee (T.the-row .written)))
 abbrev mach : Elem → Val
 mach = LL.val T.the-type T′.the-laws
 
--- the lent slice is had at exit as it came
+-- the borrowed slice is at exit as it was at entry
 abbrev stayed : Stays (fun.ended .signature .params) (fun.ended .kept)
 stayed = (stay-none-slice (0 ∷ []) tt (plain (λ _. R)) yes, tt)
 
@@ -148,7 +148,7 @@ module _ {M : Type 1} (𝓤 : URA M) (H : Heap 𝓤) (A : Atoms 𝓤) (W : Given
   at_most-said : (n : ℕ) → ent 𝓤 (ensured 𝓤 H A at_most.ended (at_most.clauses 𝓤 H A mem run) tt (length ys, tt) tt n) (fact 𝓤 (AtMostSays n))
   at_most-said n = exE 𝓤 _ (λ ws. snd∗ 𝓤 (sem 𝓤 H A (lasts at_most.ended tt (length ys, tt) ws)) (fact 𝓤 (AtMostSays n)))
 
-  -- ---- the exit, where the array is what the contract says
+  -- ---- the exit, where the array is the one that the contract states
   module _ (room : Room R (length ys)) where
     exits : (zs : List Elem) → zs ≡ gathered ys
         → ent 𝓤 (⋆ 𝓤 H A (‵ (flft κ q) ∷ ‵ (Rs .own zs (machs zs ∷ [])) ∷ ‵ (fres γ (codedHoleys R .code (heres R ys))) ∷ ‵ (fshr-bor κ (λ s. arr-parts (shares R) (length ys) .part s ys b o)) ∷ [])) (Post (machs zs))
@@ -169,7 +169,7 @@ module _ {M : Type 1} (𝓤 : URA M) (H : Heap 𝓤) (A : Atoms 𝓤) (W : Given
       abbrev En : Env 𝓤 H
       En = (arr, l₀) ∷ (slice, l₁) ∷ (arr, l₂) ∷ (word, l₃) ∷ (word, l₄) ∷ (arr, l₅) ∷ (word, l₆) ∷ (tyBool, l₇) ∷ (word, l₈) ∷ (tyPtr, l₉) ∷ (T′.mir, l₁₀) ∷ (word, l₁₁) ∷ (tyPtr, l₁₂) ∷ (tyPtr, l₁₃) ∷ []
 
-      -- i pairs are copied
+      -- the context at the head of the loop, with i pairs copied
       abbrev Head : ℕ → List (Item 𝓤)
       Head i = ‵ (row R fullShare (gathered (take i ys)) l₂ 0) ∷ ‵ (row R share ys b o) ∷ ‵ (fat fullShare word l₄ 0 (vint w64 i)) ∷ ‵ (froom tyBool l₇ 0) ∷ ‵ (froom word l₈ 0) ∷ ‵ (froom tyPtr l₉ 0) ∷ ‵ (froom T′.mir l₁₀ 0) ∷ ‵ (froom word l₁₁ 0) ∷ ‵ (froom tyPtr l₁₂ 0) ∷ ‵ (froom tyPtr l₁₃ 0) ∷ ‵ (fat fullShare slice l₁ 0 (sliceVal (b, o) (length ys))) ∷ ‵ (fat fullShare word l₃ 0 (vint w64 n)) ∷ ‵ (froom arr l₀ 0) ∷ ‵ (froom arr l₅ 0) ∷ ‵ (froom word l₆ 0) ∷ ‵ (fobor κ q (arr-parts (shares R) (length ys) .part share ys b o)) ∷ ‵ (fshr-bor κ (λ s. arr-parts (shares R) (length ys) .part s ys b o)) ∷ ‵ (fres γ (codedHoleys R .code (heres R ys))) ∷ ‵ (fdies arr l₀) ∷ ‵ (fdies slice l₁) ∷ ‵ (fdies arr l₂) ∷ ‵ (fdies word l₃) ∷ ‵ (fdies word l₄) ∷ ‵ (fdies arr l₅) ∷ ‵ (fdies word l₆) ∷ ‵ (fdies tyBool l₇) ∷ ‵ (fdies word l₈) ∷ ‵ (fdies tyPtr l₉) ∷ ‵ (fdies T′.mir l₁₀) ∷ ‵ (fdies word l₁₁) ∷ ‵ (fdies tyPtr l₁₂) ∷ ‵ (fdies tyPtr l₁₃) ∷ []
 

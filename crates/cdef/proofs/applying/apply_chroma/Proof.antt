@@ -1,5 +1,5 @@
--- `cdef::applying::apply_chroma` meets its contract: its MIR, walked step by step. walks/write writes this file.
--- The lent pairs are gathered into an array, and the covered core does the work; a law of the definitions says that the array stands for the list.
+-- `cdef::applying::apply_chroma` meets its contract: a proof by hand over its MIR, step by step. walks/write generates this file.
+-- The slice of pairs is gathered into an array, and a core that the borrow checker covers does the work; a lemma about the definitions says that the array gives the outcome of the list.
 use mathlib.Core.Path.{_≡_, refl}
 use mathlib.Core.List.{List, [], _∷_}
 use Prim.Native.Nat.{ℕ}
@@ -65,20 +65,20 @@ use Rattle.cdef.proofs.applying.apply_chroma as fun
 use Rattle.cdef.proofs.applying.apply_chroma.Statement as stated
 use Rattle.cdef.proofs.applying.apply_chroma.Code as code
 
--- ---- what is promised
+-- ---- the postconditions
 module _ (dst : List ℕ) (snapshot : List ℕ) (width : ℕ) (height : ℕ) (sx : ℕ) (sy : ℕ) (depth : ℕ) (skip : List ℕ) (dirs : List ℕ) (pairs : List UnitPair) (damping : DampingChoice) where
-  -- by the core, of the array a
+  -- of the core, for the array a
   abbrev Claims : (a : List UnitPair) (r : Answer) (dst′ : List ℕ) → Type 0
   Claims a r dst′ = applyingOutcome (chromaPicture depth width height sx sy skip dirs) damping snapshot (listed (length pairs) a) dst ≡ record { answer = readAnswer r; plane = dst′ }
 
-  -- by this call
+  -- of this call
   abbrev Said : (r : Answer) (dst′ : List ℕ) → Type 0
   Said r dst′ = applyingOutcome (chromaPicture depth width height sx sy skip dirs) damping snapshot pairs dst ≡ record { answer = readAnswer r; plane = dst′ }
 
   answer : (a : List UnitPair) (r : Answer) (dst′ : List ℕ) → a ≡ gathered pairs → Claims a r dst′ → Said r dst′
   answer a r dst′ gathers said = applying-gathered (chromaPicture depth width height sx sy skip dirs) damping snapshot pairs a dst _ gathers said
 
--- what is had of each parameter at exit
+-- the state of each parameter at exit
 abbrev stayed : Stays (fun.ended .signature .params) (fun.ended .kept)
 stayed = (gave-slice (0 ∷ []) tt (plain (λ _. u16)), (stay-none-slice (1 ∷ []) tt (plain (λ _. u16)) yes, (stay-none (λ _. usize) yes, (stay-none (λ _. usize) yes, (stay-none (λ _. u8) yes, (stay-none (λ _. u8) yes, (stay-none (λ _. u8) yes, (stay-none-slice (2 ∷ []) tt (plain (λ _. u8)) yes, (stay-none-slice (3 ∷ []) tt (plain (λ _. u8)) yes, (stay-none-slice (4 ∷ []) tt (plain (λ _. theUnitPair.the-row)) yes, (stay-none (λ _. theDampingChoice.the-row) yes, tt)))))))))))
 

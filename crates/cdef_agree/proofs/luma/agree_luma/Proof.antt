@@ -1,5 +1,5 @@
--- `cdef_agree::luma::agree_luma` meets its contract: its MIR, walked step by step. walks/write writes this file.
--- The lent pairs are gathered into an array, and the covered core does the work; a law of the definitions says that the array stands for the list.
+-- `cdef_agree::luma::agree_luma` meets its contract: a proof by hand over its MIR, step by step. walks/write generates this file.
+-- The slice of pairs is gathered into an array, and a core that the borrow checker covers does the work; a lemma about the definitions says that the array gives the outcome of the list.
 use mathlib.Core.Path.{_≡_, refl}
 use mathlib.Core.List.{List, [], _∷_}
 use Prim.Native.Nat.{ℕ}
@@ -70,20 +70,20 @@ use Rattle.cdef_agree.proofs.luma.agree_luma as fun
 use Rattle.cdef_agree.proofs.luma.agree_luma.Statement as stated
 use Rattle.cdef_agree.proofs.luma.agree_luma.Code as code
 
--- ---- what is promised
+-- ---- the postconditions
 module _ (tried : List ℤ) (dst : List ℕ) (measured : List ℤ) (scratch : List ℕ) (snapshot : List ℕ) (original : List ℕ) (width : ℕ) (height : ℕ) (visible : Visible) (depth : ℕ) (skip : List ℕ) (dirs : List ℕ) (vars : List ℕ) (pairs : List UnitPair) (damping : DampingChoice) where
-  -- by the core, of the array a
+  -- of the core, for the array a
   abbrev Claims : (a : List UnitPair) (r : Agreement) (tried′ : List ℤ) (dst′ : List ℕ) (measured′ : List ℤ) (scratch′ : List ℕ) → Type 0
   Claims a r tried′ dst′ measured′ scratch′ = agreeOutcome (lumaPicture depth width height skip dirs vars) damping visible snapshot original (listed (length pairs) a) tried dst measured scratch ≡ record { answer = r; tried = tried′; dst = dst′; measured = measured′; scratch = scratch′ }
 
-  -- by this call
+  -- of this call
   abbrev Said : (r : Agreement) (tried′ : List ℤ) (dst′ : List ℕ) (measured′ : List ℤ) (scratch′ : List ℕ) → Type 0
   Said r tried′ dst′ measured′ scratch′ = (agreeOutcome (lumaPicture depth width height skip dirs vars) damping visible snapshot original pairs tried dst measured scratch ≡ record { answer = r; tried = tried′; dst = dst′; measured = measured′; scratch = scratch′ }) × (isAgreed r ≡ true → Agrees (lumaPicture depth width height skip dirs vars) pairs tried′ measured′)
 
   answer : (a : List UnitPair) (r : Agreement) (tried′ : List ℤ) (dst′ : List ℕ) (measured′ : List ℤ) (scratch′ : List ℕ) → a ≡ gathered pairs → Claims a r tried′ dst′ measured′ scratch′ → Said r tried′ dst′ measured′ scratch′
   answer a r tried′ dst′ measured′ scratch′ gathers said = agree-said (lumaPicture depth width height skip dirs vars) damping visible snapshot original pairs a tried dst measured scratch _ _ _ _ _ gathers said
 
--- what is had of each parameter at exit
+-- the state of each parameter at exit
 abbrev stayed : Stays (fun.ended .signature .params) (fun.ended .kept)
 stayed = (gave-slice (0 ∷ []) tt (plain (λ _. i64)), (gave-slice (1 ∷ []) tt (plain (λ _. u16)), (gave-slice (2 ∷ []) tt (plain (λ _. i64)), (gave-slice (3 ∷ []) tt (plain (λ _. u16)), (stay-none-slice (4 ∷ []) tt (plain (λ _. u16)) yes, (stay-none-slice (5 ∷ []) tt (plain (λ _. u16)) yes, (stay-none (λ _. usize) yes, (stay-none (λ _. usize) yes, (stay-none (λ _. theVisible.the-row) yes, (stay-none (λ _. u8) yes, (stay-none-slice (6 ∷ []) tt (plain (λ _. u8)) yes, (stay-none-slice (7 ∷ []) tt (plain (λ _. u8)) yes, (stay-none-slice (8 ∷ []) tt (plain (λ _. u32)) yes, (stay-none-slice (9 ∷ []) tt (plain (λ _. theUnitPair.the-row)) yes, (stay-none (λ _. theDampingChoice.the-row) yes, tt)))))))))))))))
 

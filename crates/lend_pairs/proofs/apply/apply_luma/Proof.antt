@@ -1,5 +1,5 @@
--- `lend_pairs::apply::apply_luma` meets its contract: its MIR, walked step by step. walks/write writes this file.
--- The array is lent as a slice for a lifetime that is made for the call, and is back once the lifetime is over.
+-- `lend_pairs::apply::apply_luma` meets its contract: a proof by hand over its MIR, step by step. walks/write generates this file.
+-- The array is borrowed as a slice for a lifetime created for the call, and owned in full again once that lifetime has ended.
 use mathlib.Core.Path.{_≡_, refl, sym, _∙_}
 use mathlib.Core.List.{List, [], _∷_}
 use Prim.Native.Nat.{ℕ, _≤_}
@@ -78,12 +78,12 @@ arr = tyArray theUnitPair′.mir 128
 abbrev slice : Ty
 slice = sliceTy (tyRef erased imm (pointee (theUnitPair.the-row .written)))
 
--- ---- what is promised
+-- ---- the postcondition
 module _ (dst : List ℕ) (snapshot : List ℕ) (width : ℕ) (height : ℕ) (depth : ℕ) (skip : List ℕ) (dirs : List ℕ) (vars : List ℕ) (n : ℕ) (a : List UnitPair) (damping : DampingChoice) where
   abbrev Said : (r : Answer) (dst′ : List ℕ) → Type 0
   Said r dst′ = applyingOutcome (lumaPicture depth width height skip dirs vars) damping snapshot (take n a) dst ≡ record { answer = readAnswer r; plane = dst′ }
 
--- what is had of each parameter at exit
+-- the state of each parameter at exit
 abbrev stayed : Stays (fun.ended .signature .params) (fun.ended .kept)
 stayed = (gave-slice (0 ∷ []) tt (plain (λ _. u16)), (stay-none-slice (1 ∷ []) tt (plain (λ _. u16)) yes, (stay-none (λ _. usize) yes, (stay-none (λ _. usize) yes, (stay-none (λ _. u8) yes, (stay-none-slice (2 ∷ []) tt (plain (λ _. u8)) yes, (stay-none-slice (3 ∷ []) tt (plain (λ _. u8)) yes, (stay-none-slice (4 ∷ []) tt (plain (λ _. u32)) yes, (stay-none (λ _. usize) yes, (stay-none (λ _. (Array theUnitPair.the-row 128)) yes, (stay-none (λ _. theDampingChoice.the-row) yes, tt)))))))))))
 
@@ -102,14 +102,14 @@ module _ {M : Type 1} (𝓤 : URA M) (H : Heap 𝓤) (A : Atoms 𝓤) (W : Given
   a-room : Room R (length a)
   a-room = (omega (arith, a-long), omega (arith, a-long))
 
-  -- the slice that is lent: the first n of the array at l
+  -- the slice that is passed: the first n pairs of the array at l
   abbrev ref : ℕ → GName → RefT (List UnitPair)
   ref l γ = record { ptr = (l, 0); name = γ; now = take n a }
 
   abbrev Post : Val → SProp 𝓤
   Post = walkOf 𝓤 H A fun.ended stayed (fun.clauses 𝓤 H A mem run) .post (((κ₀, (κ₁, (κ₂, (κ₃, (κ₄, tt))))), (q₀, (q₁, (q₂, (q₃, (q₄, tt))))), tt, (dst, (snapshot, (width, (height, (depth, (skip, (dirs, (vars, (n, (a, (damping, tt))))))))))), (sliceVal (dst .ptr) (length (dst .now)) ∷ [], (sliceVal (snapshot .ptr) (length (snapshot .now)) ∷ [], (vint w64 width ∷ [], (vint w64 height ∷ [], (vint w8 depth ∷ [], (sliceVal (skip .ptr) (length (skip .now)) ∷ [], (sliceVal (dirs .ptr) (length (dirs .now)) ∷ [], (sliceVal (vars .ptr) (length (vars .now)) ∷ [], (vint w64 n ∷ [], (a-val ∷ [], (EnumLaws.val theDampingChoice.the-type theDampingChoice′.the-laws damping ∷ [], tt)))))))))))), tt)
 
-  -- ---- the call, lent x for the lifetime α
+  -- ---- the call, with the slice x borrowed for the lifetime α
   abbrev to-callee : ℕ → RefT (List UnitPair) → Callee 𝓤 H A mem run .Ghost
   to-callee α x = (((κ₀, (κ₁, (κ₂, (κ₃, (κ₄, ((α ∷ []), tt)))))), (q₀, (q₁, (q₂, (q₃, (q₄, (fullShare, tt)))))), tt, (dst, (snapshot, (width, (height, (depth, (skip, (dirs, (vars, (x, (damping, tt)))))))))), (sliceVal (dst .ptr) (length (dst .now)) ∷ [], (sliceVal (snapshot .ptr) (length (snapshot .now)) ∷ [], (vint w64 width ∷ [], (vint w64 height ∷ [], (vint w8 depth ∷ [], (sliceVal (skip .ptr) (length (skip .now)) ∷ [], (sliceVal (dirs .ptr) (length (dirs .now)) ∷ [], (sliceVal (vars .ptr) (length (vars .now)) ∷ [], (sliceVal (x .ptr) (length (x .now)) ∷ [], (EnumLaws.val theDampingChoice.the-type theDampingChoice′.the-laws damping ∷ [], tt))))))))))), tt)
 

@@ -1,4 +1,4 @@
--- The proof of demand 3.
+-- The proof of demand 3 (RULES, Agreement).
 use mathlib.Core.Path.{_≡_, refl, sym, ap, _∙_}
 use mathlib.Core.Bool.{Bool, true, false, cond, _&&_}
 use mathlib.Core.List.{List, [], _∷_}
@@ -69,7 +69,7 @@ module _ (q : Picture) (visible : Visible) (snapshot original : List ℕ) (pairs
   abbrev left : List ℕ
   left = appliedPlane q s snapshot pairs snapshot
 
-  -- the facts that trying's yes leaves
+  -- what trying's acceptance says
   module _ (totals : List ℤ) (t : Taken q s (snapshot ∷ original ∷ []) (eqb (length totals) (12 * units q) && visibleTaken q visible) true (snapshot ∷ original ∷ [])) where
     fine : Tiled q
     fine = let b = and-both _ _ (t .two) in tiled q (b .0) (b .1) (t .three)
@@ -128,7 +128,7 @@ module _ (q : Picture) (visible : Visible) (snapshot original : List ℕ) (pairs
           ∙ applied-here q s snapshot pairs fine no-mark by bx i j hy hx hi hj (eqb-true _ _ (unfold counted in and-both _ _ k .0))
           ∙ ap (λ (p : UnitPair). orElse mark (filteredBy q s snapshot p by bx (by * blockHeight q + i) (bx * blockWidth q + j))) (ap (pairAt pairs) e ∙ sym (trial-of (pairAt pairs u) (trials u hu) .1))))
 
--- ---- what a taken call leaves
+-- ---- what an accepted call leaves
 
 module _ (q : Picture) (d : DampingChoice) (v : Visible) (snapshot original : List ℕ) (totals : List ℤ) (z : tryingNo q d v snapshot original totals ≡ 0) where
   trying-taken : Taken q (inForce d) (snapshot ∷ original ∷ []) (eqb (length totals) (12 * units q) && visibleTaken q v) true (snapshot ∷ original ∷ [])

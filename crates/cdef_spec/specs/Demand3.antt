@@ -18,7 +18,7 @@ use Rattle.cdef_spec.specs.Answers.{taken, nothing}
 use Rattle.cdef_spec.specs.Questions.{pictureListed, pictureTaken}
 use Rattle.cdef_spec.specs.FrameCalls.{TryingOutcome, tryingOutcome, ApplyingOutcome, applyingOutcome, scratchLength, MeasuringOutcome, measuringOutcome}
 
--- the pair 0, 0: measuring takes the plane as it stands
+-- the pair 0, 0: measuring compares the plane as it is
 abbrev pub off : UnitPair
 off = record { primary = 0; secondary = 0 }
 

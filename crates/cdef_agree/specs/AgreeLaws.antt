@@ -20,8 +20,8 @@ use Rattle.cdef_spec.specs.Questions.{fullPlanes, pictureListed}
 use Rattle.cdef_spec.specs.QuestionLaws.{questions-yes}
 use Rattle.cdef_spec.specs.FrameCalls.{tryingNo, tryingOutcome, ApplyingOutcome, applyingNo, applyingOutcome, applyingListsNo, pairsOf, applyingListsOutcome, measuringNo, measuringOutcome}
 use Rattle.cdef_spec.specs.OutcomeLaws.{twin-is}
-use Rattle.cdef_spec.specs.Demand3.{off, otherKind, withDirections, Agrees, measuringAccepts}
-use Rattle.cdef_spec.specs.Agreement.{agreement, accepts-from}
+use Rattle.cdef_spec.specs.Demand3.{off, otherKind, withDirections, Agrees, ownInputPasses}
+use Rattle.cdef_spec.specs.Agreement.{agreement, own-from-accepted}
 use Rattle.cdef_pairs.specs.PairLaws.{few-units, twin-no}
 use Rattle.cdef_agree.specs.declared.Agreement.the-variants.{Agreed, NotTrialPairs, TryingRefused, ApplyingRefused, MeasuringRefused}
 use Rattle.cdef_agree.specs.Agree.{readAgreement, agreementNumber, isAgreed, trialPairs, copied, AgreeOutcome, agreeWith, agreeOutcome, agreeListsOutcome}
@@ -100,8 +100,8 @@ module _ (q : Picture) (d : DampingChoice) (v : Visible) (snapshot original : Li
   agrees-on ps tried measured scratch zt t za zm =
       let l = pairs-long q d snapshot ps snapshot za in
       let plane : List ℕ = (applyingOutcome q d snapshot ps snapshot) .plane in
-      let accepts : measuringAccepts (withDirections q (q .dirs) (ownVars (q .kind))) d measured scratch ≡ true =
-      rw (own q) (accepts-from q d v plane original measured scratch (measured-yes plane measured scratch zm)) in
+      let accepts : ownInputPasses (withDirections q (q .dirs) (ownVars (q .kind))) d measured scratch ≡ true =
+      rw (own q) (own-from-accepted q d v plane original measured scratch (measured-yes plane measured scratch zm)) in
       let both = agreement q v snapshot original ps d d d tried measured (q .dirs) (ownVars (q .kind)) scratch refl (trials-so ps (units q) t (l .0) (l .1)) (tried-yes tried zt) (applied-yes ps snapshot za) accepts in
       rw (own q) at (both .1)
 

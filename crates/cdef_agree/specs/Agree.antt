@@ -51,15 +51,15 @@ isAgreed (TryingRefused n) = false
 isAgreed (ApplyingRefused n) = false
 isAgreed (MeasuringRefused n) = false
 
--- each unit's pair is one of the twelve; a list of more than 4,096 pairs is not looked at and is left for applying to refuse
+-- each unit's pair is one of the twelve; a list of more than 4,096 pairs is not read and is left for applying to reject
 unfoldable pub trialPairs : List UnitPair → Bool
 trialPairs ps = cond (leb (length ps) 4096) (every (length ps) (λ u. isTrialPair (pairAt ps u))) true
 
--- the destination once the snapshot is copied into it; one of another length is left for applying to refuse
+-- the destination once the snapshot is copied into it; one of another length is left for applying to reject
 unfoldable pub copied : List ℕ → List ℕ → List ℕ
 copied snapshot dst = cond (eqb (length dst) (length snapshot)) snapshot dst
 
--- the answer, and every lent list at exit
+-- the answer, and every list of the caller's at exit
 pub record AgreeOutcome : Type 0 where
   pub answer : Agreement
   pub tried : List ℤ
@@ -68,7 +68,7 @@ pub record AgreeOutcome : Type 0 where
   pub scratch : List ℕ
 
 -- trying; then, with pairs of the twelve, applying to a copy of the snapshot; then measuring what applying left, with pair 0, 0.
--- trial: is each pair one of the twelve; asked and applied: applying's first no and its outcome, by its destination
+-- trial: is each pair one of the twelve; asked and applied: applying's error code, 0 for none, and its outcome, by its destination
 unfoldable pub agreeWith : Bool → (List ℕ → ℕ) → (List ℕ → ApplyingOutcome) → Picture → DampingChoice → Visible → List ℕ → List ℕ → List ℤ → List ℕ → List ℤ → List ℕ → AgreeOutcome
 agreeWith trial asked applied q damping v snapshot original tried dst measured scratch =
     let first = eqb (tryingNo q damping v snapshot original tried) 0 in
@@ -88,12 +88,12 @@ agreeWith trial asked applied q damping v snapshot original tried dst measured s
       scratch = cond third (m .scratch) scratch;
     }
 
--- one pair a unit
+-- one pair per unit
 unfoldable pub agreeOutcome : Picture → DampingChoice → Visible → List ℕ → List ℕ → List UnitPair → List ℤ → List ℕ → List ℤ → List ℕ → AgreeOutcome
 agreeOutcome q damping v snapshot original ps tried dst measured scratch =
     agreeWith (trialPairs ps) (applyingNo q damping snapshot ps) (applyingOutcome q damping snapshot ps) q damping v snapshot original tried dst measured scratch
 
--- the twin with two plain lists, a primary and a secondary a unit
+-- the twin with two plain lists, a primary and a secondary strength per unit
 unfoldable pub agreeListsOutcome : Picture → DampingChoice → Visible → List ℕ → List ℕ → List ℕ → List ℕ → List ℤ → List ℕ → List ℤ → List ℕ → AgreeOutcome
 agreeListsOutcome q damping v snapshot original pris secs tried dst measured scratch =
     agreeWith (trialPairs (pairsOf pris secs)) (applyingListsNo q damping snapshot pris secs) (applyingListsOutcome q damping snapshot pris secs) q damping v snapshot original tried dst measured scratch

@@ -1,4 +1,4 @@
--- THE AGREEMENT: where the three calls are taken, the measured totals agree with the tried ones, for every list of pairs and for two lists.
+-- THE AGREEMENT: where the three calls accept their input, the measured totals agree with the tried ones, for every list of pairs and for two lists.
 use mathlib.Core.Path.{_≡_, refl, sym, subst, _∙_}
 use mathlib.Core.Bool.{Bool, true, false, cond}
 use mathlib.Core.List.{List, []}
@@ -20,8 +20,8 @@ use Rattle.cdef_spec.specs.Questions.{fullPlanes, pictureListed}
 use Rattle.cdef_spec.specs.QuestionLaws.{questions-yes}
 use Rattle.cdef_spec.specs.FrameCalls.{tryingNo, tryingOutcome, ApplyingOutcome, applyingNo, applyingOutcome, applyingListsNo, pairsOf, applyingListsOutcome, measuringNo, measuringOutcome}
 use Rattle.cdef_spec.specs.OutcomeLaws.{twin-is}
-use Rattle.cdef_spec.specs.Demand3.{off, otherKind, withDirections, Agrees, measuringAccepts}
-use Rattle.cdef_spec.specs.Agreement.{agreement, accepts-from}
+use Rattle.cdef_spec.specs.Demand3.{off, otherKind, withDirections, Agrees, ownInputPasses}
+use Rattle.cdef_spec.specs.Agreement.{agreement, own-from-accepted}
 use Rattle.cdef_pairs.specs.PairLaws.{few-units, twin-no}
 use Rattle.cdef_agree.specs.declared.Agreement.the-variants.{Agreed, NotTrialPairs, TryingRefused, ApplyingRefused, MeasuringRefused}
 use Rattle.cdef_agree.specs.Agree.{readAgreement, agreementNumber, isAgreed, trialPairs, copied, AgreeOutcome, agreeWith, agreeOutcome, agreeListsOutcome}
@@ -29,7 +29,7 @@ use Rattle.cdef_agree.specs.Agree.{readAgreement, agreementNumber, isAgr
 pub never : {A : Type 0} → false ≡ true → A
 never e = let o : _≡_ {A = ℕ} 0 1 = cc in absurd (omega arith)
 
--- ---- what applying's yes says of its lists
+-- ---- what applying's acceptance says of its lists
 
 module _ (q : Picture) (d : DampingChoice) (snapshot : List ℕ) (ps : List UnitPair) (dst : List ℕ) (z : applyingNo q d snapshot ps dst ≡ 0) where
   same-long : length dst ≡ length snapshot
@@ -40,7 +40,7 @@ module _ (q : Picture) (d : DampingChoice) (snapshot : List ℕ) (ps : List Unit
       let b = and-both (eqb (length dst) (planeWidth q * planeHeight q)) true (a .1) in
       eqb-true _ _ (b .0) ∙ sym (eqb-true _ _ (a .0))
 
-  -- one pair a unit, at most 4,096
+  -- one pair per unit, at most 4,096
   pairs-long : (length ps ≡ units q) × (units q ≤ 4096)
   unfolding applyingNo
   pairs-long =
@@ -48,7 +48,7 @@ module _ (q : Picture) (d : DampingChoice) (snapshot : List ℕ) (ps : List Unit
       let a = and-both (pictureListed q) (eqb (length ps) (units q)) (t .seven) in
       (eqb-true _ _ (a .1), few-units q (t .two))
 
--- a destination that applying takes holds the snapshot
+-- a destination that applying accepts holds the snapshot
 copy-is : (q : Picture) (d : DampingChoice) (snapshot : List ℕ) (ps : List UnitPair) (dst : List ℕ) → applyingNo q d snapshot ps (copied snapshot dst) ≡ 0 → copied snapshot dst ≡ snapshot
 unfolding copied
 copy-is q d snapshot ps dst = go (eqb (length dst) (length snapshot)) refl
@@ -100,8 +100,8 @@ module _ (q : Picture) (d : DampingChoice) (v : Visible) (snapshot original : Li
   agrees-on ps tried measured scratch zt t za zm =
       let l = pairs-long q d snapshot ps snapshot za in
       let plane : List ℕ = (applyingOutcome q d snapshot ps snapshot) .plane in
-      let accepts : measuringAccepts (withDirections q (q .dirs) (ownVars (q .kind))) d measured scratch ≡ true =
-      rw (own q) (accepts-from q d v plane original measured scratch (measured-yes plane measured scratch zm)) in
+      let accepts : ownInputPasses (withDirections q (q .dirs) (ownVars (q .kind))) d measured scratch ≡ true =
+      rw (own q) (own-from-accepted q d v plane original measured scratch (measured-yes plane measured scratch zm)) in
       let both = agreement q v snapshot original ps d d d tried measured (q .dirs) (ownVars (q .kind)) scratch refl (trials-so ps (units q) t (l .0) (l .1)) (tried-yes tried zt) (applied-yes ps snapshot za) accepts in
       rw (own q) at (both .1)
 
@@ -156,7 +156,7 @@ module _ (trial : Bool) (asked : List ℕ → ℕ) (applied : List ℕ → Apply
   unfolding agreeWith
   totals-are z t a = rw (z, t, a) (refl, refl)
 
--- applying matters by what it asks and gives for the copy
+-- applying matters only by its error code and its outcome for the copy
 pub with-same : (trial trial′ : Bool) (asked asked′ : List ℕ → ℕ) (applied applied′ : List ℕ → ApplyingOutcome) (q : Picture) (d : DampingChoice) (v : Visible) (snapshot original : List ℕ) (tried : List ℤ) (dst : List ℕ) (measured : List ℤ) (scratch : List ℕ)
     → trial ≡ trial′ → asked (copied snapshot dst) ≡ asked′ (copied snapshot dst) → applied (copied snapshot dst) ≡ applied′ (copied snapshot dst)
     → agreeWith trial asked applied q d v snapshot original tried dst measured scratch ≡ agreeWith trial′ asked′ applied′ q d v snapshot original tried dst measured scratch
@@ -178,7 +178,7 @@ module _ (q : Picture) (d : DampingChoice) (v : Visible) (snapshot original : Li
       (subst (λ (x : List ℕ). Agrees q ps ((tryingOutcome q d v snapshot original tried) .totals) ((measuringOutcome q d v ((applyingOutcome q d snapshot ps x) .plane) original off measured scratch) .totals)) (sym c)
       (agrees-on q d v snapshot original ps tried measured scratch (y .0) (y .1) a m))
 
-  -- the twin is the calls with the pairs of its lists, where these are of one length
+  -- the twin is the calls with the pairs of its lists, where these have the same length
   pub lists-are : (pris secs : List ℕ) (tried : List ℤ) (dst : List ℕ) (measured : List ℤ) (scratch : List ℕ) → length pris ≡ length secs
       → agreeListsOutcome q d v snapshot original pris secs tried dst measured scratch ≡ agreeOutcome q d v snapshot original (pairsOf pris secs) tried dst measured scratch
   unfolding agreeListsOutcome agreeOutcome

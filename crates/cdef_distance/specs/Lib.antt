@@ -5,7 +5,7 @@ pub mod PatternLaws
 pub mod WideLaws
 pub mod RootLaws
 pub mod FloatLaws
-pub mod CutLaws
+pub mod TruncateLaws
 pub mod Weighing
 pub mod SequenceLaws
 pub mod WeighingLaws

@@ -219,14 +219,14 @@ module _ (C1 C2 a b e : ℕ) (c1 c2 : Float) (h1 : HasValue c1 false C1 1) (h2 :
   X = add binary64 half (mul binary64 (whole e) W)
 
   -- the value that is truncated, in units of 2 ^ -1074: at least 0.5, and below 2 ^ 53
-  pub record CutValue : Type 0 where
+  pub record TruncatedValue : Type 0 where
     pub num : ℕ
     pub value : HasValue X false num U
     pub half-up : U ≤ num * 2
     pub under : num < 9007199254740992 * U
 
-  pub value-of-cut : CutValue
-  value-of-cut =
+  pub value-truncated : TruncatedValue
+  value-truncated =
       let w = weight-within in
       let eqt : mul binary64 (whole e) W ≡ R (e * w .num) U = mul-whole (whole e) W e (w .num) U U-pos (whole-val e (omega arith)) (w .value) in
       let t : Within (mul binary64 (whole e) W) 9002801745100800 =
@@ -238,5 +238,5 @@ module _ (C1 C2 a b e : ℕ) (c1 c2 : Float) (h1 : HasValue c1 false C1 1) (h2 :
       let lo : 1 * U ≤ x .num * 2 = round-low (1 * U + n * 2) (2 * U) 1 2 (lit< tt) (lit< tt) held-half (high (1 * U + n * 2) (2 * U) 9007199254740991 (lit< tt) (held-whole 9007199254740991 (lit≤ tt)) (x-high n U (t .most-u)) .value) (x-low n U) in
       record { num = x .num; value = x .value; half-up = ones (x .num) U lo; under = under53 (x .num) U U-pos (x .most-u) }
 
-  pub cut-ready : (T (normal X)) × (T (lt X two53))
-  cut-ready = let v = value-of-cut in (normal-of X (v .num) (v .value) (v .half-up), lt-of-value X (v .num) U 53 U-pos (v .value) (v .under))
+  pub truncate-ready : (T (normal X)) × (T (lt X two53))
+  truncate-ready = let v = value-truncated in (normal-of X (v .num) (v .value) (v .half-up), lt-of-value X (v .num) U 53 U-pos (v .value) (v .under))

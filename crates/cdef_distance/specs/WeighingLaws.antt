@@ -13,8 +13,8 @@ use Rattle.cdef_spec.specs.declared.DistanceConstants.{DistanceConstants}
 use Rattle.cdef_spec.specs.Distance.{half, constantsOf, squaresLimit, weight, weighted}
 use Rattle.cdef_distance.specs.Weighing.{OfDepth, most}
 use Rattle.cdef_distance.specs.FloatLaws.{U, U-pos}
-use Rattle.cdef_distance.specs.CutLaws.{cut-value}
-use Rattle.cdef_distance.specs.SequenceLaws.{whole-val, X, value-of-cut}
+use Rattle.cdef_distance.specs.TruncateLaws.{truncated-value}
+use Rattle.cdef_distance.specs.SequenceLaws.{whole-val, X, value-truncated}
 
 pub in-float : (n : ℕ) → n ≤ 2 ^ 53 → T (inFloat binary64 (pos n))
 unfolding inFloat
@@ -74,7 +74,7 @@ weighted-low c depth a b e o A B E =
     let A' : a ≤ most = omega arith in
     let B' : b ≤ most = omega arith in
     let E' : e ≤ most = omega arith in
-    let v = value-of-cut (k .C1) (k .C2) a b e (c .c1) (c .c2) (k .h1) (k .h2) (k .l1) (k .l2) (k .u2) A' B' E' in
+    let v = value-truncated (k .C1) (k .C2) a b e (c .c1) (c .c2) (k .h1) (k .h2) (k .l1) (k .l2) (k .u2) A' B' E' in
     let q : v .num / U < 2 ^ 53 = div-lt-iff-lt-mul U-pos .1 (v .under) in
     let x = X (k .C1) (k .C2) a b e (c .c1) (c .c2) (k .h1) (k .h2) (k .l1) (k .l2) (k .u2) A' B' E' in
-    lt-of-le-of-lt (le-of-eq (cut-value x (v .num) U U-pos (v .value) (lt-of-lt-of-le q (lit≤ tt)))) q
+    lt-of-le-of-lt (le-of-eq (truncated-value x (v .num) U U-pos (v .value) (lt-of-lt-of-le q (lit≤ tt)))) q

@@ -62,7 +62,7 @@ pub fn root(v: f64) -> f64
 }
 
 // x truncated to a whole number, by its bits: the significand, shifted right as far as the exponent says.
-pub fn cut(x: f64) -> u64
+pub fn truncate(x: f64) -> u64
     requires { ⌜ (T (normal x)) × (T (Ieee.lt x two53)) ⌝ }
     ensures { λ r. ⌜ r ≡ Ieee.toUnsigned 64 x ⌝ }
 {

@@ -36,7 +36,7 @@ pub fn weighted(a: u64, b: u64, e: u64, c: DistanceConstants) -> u64
     ensures { λ r. ⌜ r ≡ weightedOf c a b e ⌝ }
 {
     let w = weight(a, b, c);
-    root::cut(0.5 + e as f64 * w)
+    root::truncate(0.5 + e as f64 * w)
 }
 
 // The weighted distance of two blocks from the sums of their samples, squares and products.

@@ -32,11 +32,11 @@ pub fn constrain_mag(a: u32, strength: u32, damping: u32) -> u32
     if l < damping {
         shift = damping - l;
     }
-    let cut = a >> shift;
-    if strength <= cut {
+    let shifted = a >> shift;
+    if strength <= shifted {
         return 0;
     }
-    let left = strength - cut;
+    let left = strength - shifted;
     if a < left {
         return a;
     }

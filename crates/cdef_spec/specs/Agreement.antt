@@ -1,4 +1,4 @@
--- The proof of demand 3.
+-- The proof of demand 3 (RULES, Agreement).
 use mathlib.Core.Path.{_≡_, refl, sym, ap, _∙_}
 use mathlib.Core.Bool.{Bool, true, false, cond, _&&_}
 use mathlib.Core.List.{List, [], _∷_}
@@ -19,7 +19,7 @@ use Rattle.cdef_spec.specs.Picture.{PlaneKind, luma, chroma, Picture, su
 use Rattle.cdef_spec.specs.Answers.{taken, refused, nothing, resultOf}
 use Rattle.cdef_spec.specs.Questions.{allBelow, flagsTaken, fullPlanes, pictureListed, visibleTaken, pictureTaken, primaryTaken, secondaryTaken, pairTaken, allSamplesBelow}
 use Rattle.cdef_spec.specs.FrameCalls.{tryingNo, tryingOutcome, applyingNo, applyingOutcome, scratchLength, measuringNo, measuringOutcome}
-use Rattle.cdef_spec.specs.Demand3.{off, otherKind, withDirections, Agrees, measuringAccepts, Demand3}
+use Rattle.cdef_spec.specs.Demand3.{off, otherKind, withDirections, Agrees, ownInputPasses, Demand3}
 use Rattle.cdef_spec.specs.DistanceLaws.{total-same, block-same}
 use Rattle.cdef_spec.specs.GeometryLaws.{Tiled, tiled, row-of, at-plane}
 use Rattle.cdef_spec.specs.QuestionLaws.{below-get, below-make, Taken, questions-yes, all-yes, samples-fit}
@@ -69,7 +69,7 @@ module _ (q : Picture) (visible : Visible) (snapshot original : List ℕ) (pairs
   abbrev left : List ℕ
   left = appliedPlane q s snapshot pairs snapshot
 
-  -- the facts that trying's yes leaves
+  -- what trying's acceptance says
   module _ (totals : List ℤ) (t : Taken q s (snapshot ∷ original ∷ []) (eqb (length totals) (12 * units q) && visibleTaken q visible) true (snapshot ∷ original ∷ [])) where
     fine : Tiled q
     fine = let b = and-both _ _ (t .two) in tiled q (b .0) (b .1) (t .three)
@@ -99,9 +99,9 @@ module _ (q : Picture) (visible : Visible) (snapshot original : List ℕ) (pairs
       abbrev own : Picture
       own = withDirections q dirs vars
 
-      own-taken : measuringAccepts own dm measured scratch ≡ true
+      own-taken : ownInputPasses own dm measured scratch ≡ true
           → Taken own (inForce dm) (left ∷ original ∷ []) ((eqb (length measured) (units own) && eqb (length scratch) (scratchLength own)) && visibleTaken own visible) (pairTaken off) (left ∷ original ∷ [])
-      unfolding measuringAccepts fullPlanes allSamplesBelow pairTaken primaryTaken secondaryTaken withDirections
+      unfolding ownInputPasses fullPlanes allSamplesBelow pairTaken primaryTaken secondaryTaken withDirections
       own-taken accepts =
           let own-78 = and-both (pictureListed own && (eqb (length measured) (units own) && eqb (length scratch) (scratchLength own))) (pictureTaken own (inForce dm)) accepts in
           let own-7 = and-both (pictureListed own) (eqb (length measured) (units own) && eqb (length scratch) (scratchLength own)) (own-78 .0) in
@@ -128,7 +128,7 @@ module _ (q : Picture) (visible : Visible) (snapshot original : List ℕ) (pairs
           ∙ applied-here q s snapshot pairs fine no-mark by bx i j hy hx hi hj (eqb-true _ _ (unfold counted in and-both _ _ k .0))
           ∙ ap (λ (p : UnitPair). orElse mark (filteredBy q s snapshot p by bx (by * blockHeight q + i) (bx * blockWidth q + j))) (ap (pairAt pairs) e ∙ sym (trial-of (pairAt pairs u) (trials u hu) .1))))
 
--- ---- what a taken call leaves
+-- ---- what an accepted call leaves
 
 module _ (q : Picture) (d : DampingChoice) (v : Visible) (snapshot original : List ℕ) (totals : List ℤ) (z : tryingNo q d v snapshot original totals ≡ 0) where
   trying-taken : Taken q (inForce d) (snapshot ∷ original ∷ []) (eqb (length totals) (12 * units q) && visibleTaken q v) true (snapshot ∷ original ∷ [])
@@ -197,16 +197,26 @@ module _ (q q′ : Picture) (visible : Visible) (snapshot original : List ℕ) (
             ∙ sym (tried-at q dt visible snapshot original totals zt u (trialNumber (pairAt pairs u)) hu (trial-of (pairAt pairs u) (trials u hu) .0));
       }
 
--- the claim asks no more of what measuring is given than measuring does: where measuring accepts its input, `measuringAccepts` holds of it
-pub accepts-from : (q : Picture) (d : DampingChoice) (v : Visible) (plane original : List ℕ) (measured : List ℤ) (scratch : List ℕ)
-    → (measuringOutcome q d v plane original off measured scratch) .answer ≡ taken nothing → measuringAccepts q d measured scratch ≡ true
-unfolding measuringOutcome measuringNo measuringAccepts
-accepts-from q d v plane original measured scratch y =
+-- the premise on measuring's own input is no more than what measuring validates: it holds wherever measuring accepts its input
+pub own-from-accepted : (q : Picture) (d : DampingChoice) (v : Visible) (plane original : List ℕ) (measured : List ℤ) (scratch : List ℕ)
+    → (measuringOutcome q d v plane original off measured scratch) .answer ≡ taken nothing → ownInputPasses q d measured scratch ≡ true
+unfolding measuringOutcome measuringNo ownInputPasses
+own-from-accepted q d v plane original measured scratch y =
     let t = questions-yes q _ _ _ _ _ (result-zero (measuringNo q d v plane original off measured scratch) y) in
     let seven = and-both (pictureListed q) ((eqb (length measured) (units q) && eqb (length scratch) (scratchLength q)) && visibleTaken q v) (t .seven) in
     let lists = and-both (eqb (length measured) (units q) && eqb (length scratch) (scratchLength q)) (visibleTaken q v) (seven .1) in
     let eight = and-both (pictureTaken q (inForce d)) (pairTaken off) (t .eight) in
     and-make (and-make (seven .0) (lists .0)) (eight .0)
+
+-- with the directions, variances and figure that were tried, totals and scratch of their length are all that the premise asks for
+pub own-from-tried : (q : Picture) (d dm : DampingChoice) (v : Visible) (snapshot original : List ℕ) (totals measured : List ℤ) (scratch : List ℕ)
+    → tryingNo q d v snapshot original totals ≡ 0 → inForce dm ≡ inForce d → length measured ≡ units q → length scratch ≡ scratchLength q → ownInputPasses q dm measured scratch ≡ true
+unfolding ownInputPasses
+own-from-tried q d dm v snapshot original totals measured scratch z e hm hs =
+    let t = trying-taken q d v snapshot original totals z in
+    let seven = and-both (pictureListed q) (eqb (length totals) (12 * units q) && visibleTaken q v) (t .seven) in
+    let eight = and-both (pictureTaken q (inForce d)) true (t .eight) in
+    and-make (and-make (seven .0) (and-make (eq-eqb _ _ hm) (eq-eqb _ _ hs))) (rw e (eight .0))
 
 -- DEMAND 3 holds.
 pub agreement : Demand3

@@ -18,7 +18,7 @@ use Rattle.cdef_spec.specs.Answers.{taken, nothing}
 use Rattle.cdef_spec.specs.Questions.{pictureListed, pictureTaken}
 use Rattle.cdef_spec.specs.FrameCalls.{TryingOutcome, tryingOutcome, ApplyingOutcome, applyingOutcome, scratchLength, MeasuringOutcome, measuringOutcome}
 
--- the pair 0, 0: measuring takes the plane as it stands
+-- the pair 0, 0: measuring compares the plane as it is
 abbrev pub off : UnitPair
 off = record { primary = 0; secondary = 0 }
 
@@ -36,9 +36,10 @@ pub record Agrees (q : Picture) (pairs : List UnitPair) (tried measured : List �
   pub measured-length : length measured ≡ units q
   pub unit-by-unit : (u : ℕ) → u < units q → getD measured u (pos 0) ≡ getD tried (12 * u + trialNumber (pairAt pairs u)) (pos 0)
 
--- what measuring alone is given passes questions 7 and 8: its lists of totals, scratch, directions and variances, and the figure that its damping puts in force
-unfoldable pub measuringAccepts : Picture → DampingChoice → List ℤ → List ℕ → Bool
-measuringAccepts q damping measured scratch = (pictureListed q && (eqb (length measured) (units q) && eqb (length scratch) (scratchLength q))) && pictureTaken q (inForce damping)
+-- what measuring is given of its own passes questions 7 and 8: the lengths of its totals and scratch, its directions, variances and the figure that its damping puts in force.
+-- (The skip flags, which it shares with trying, are tested here again; trying's acceptance implies that they pass.)
+unfoldable pub ownInputPasses : Picture → DampingChoice → List ℤ → List ℕ → Bool
+ownInputPasses q damping measured scratch = (pictureListed q && (eqb (length measured) (units q) && eqb (length scratch) (scratchLength q))) && pictureTaken q (inForce damping)
 
 -- for every input that trying and applying accept, and whatever directions, variances, damping, totals and scratch of its own measuring is given that pass questions 7 and 8:
 -- measuring accepts its input, and its totals agree with the tried ones
@@ -54,5 +55,5 @@ Demand3 =
     let m : MeasuringOutcome = measuringOutcome own dampingMeasured visible (applied .plane) original off measured scratch in
     tried .answer ≡ taken nothing
     → applied .answer ≡ taken nothing
-    → measuringAccepts own dampingMeasured measured scratch ≡ true
+    → ownInputPasses own dampingMeasured measured scratch ≡ true
     → (m .answer ≡ taken nothing) × Agrees q pairs (tried .totals) (m .totals)

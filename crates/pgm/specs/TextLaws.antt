@@ -66,8 +66,8 @@ decimal-ge n (b ∷ s) = go (isDigit b) (decimal-ge (n * 10 + (b - 48)) s)
     go false h = omega arith
 
 -- limited to `most` on the way or at the end
-pub cut-once : (n : ℕ) (s : List ℕ) → min most (decimal (min most n) s) ≡ min most (decimal n s)
-cut-once n s = go (decLe n most)
+pub capped-once : (n : ℕ) (s : List ℕ) → min most (decimal (min most n) s) ≡ min most (decimal n s)
+capped-once n s = go (decLe n most)
   where
     go : Dec (n ≤ most) → min most (decimal (min most n) s) ≡ min most (decimal n s)
     go (yes h) = let e : min most n ≡ n = omega arith in rw e

@@ -10,8 +10,8 @@ use Rattle.pgm.specs.SizesLaws.{Taken}
 use Rattle.still_steps.specs.Lists.{along, Counted}
 
 -- the first elements of a list are as many as requested
-pub cut : {A : Type 0} (l : List A) (n : ℕ) → n ≤ length l → n ≡ length (take n l)
-cut l n h = omega (arith, length-take n l)
+pub part-length : {A : Type 0} (l : List A) (n : ℕ) → n ≤ length l → n ≡ length (take n l)
+part-length l n h = omega (arith, length-take n l)
 
 module _ (w h : ℕ) (t : Taken w h) where
   width-high : padded w ≤ 4096

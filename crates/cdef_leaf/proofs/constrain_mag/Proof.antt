@@ -30,8 +30,8 @@ log2-floor-requires c κs = search needs
 sub-shift : tie.Need-sub-shift
 sub-shift c = search needs
 
-shr-cut : tie.Need-shr-cut
-shr-cut c = omega (arith, shift-is (c .before))
+shr-shifted : tie.Need-shr-shifted
+shr-shifted c = omega (arith, shift-is (c .before))
 
 returns-2 : tie.Need-returns-2
 returns-2 c = omega (arith, mag-is (c .before .before))
@@ -48,4 +48,4 @@ returns-4 c = omega (arith, mag-is (c .before .before .before))
 pub constrain-mag-spec : {M : Type 1} → statement M
 constrain-mag-spec =
     tie.close
-    (tie.spec returns log2-floor-requires sub-shift shr-cut returns-2 sub-left returns-3 returns-4)
+    (tie.spec returns log2-floor-requires sub-shift shr-shifted returns-2 sub-left returns-3 returns-4)

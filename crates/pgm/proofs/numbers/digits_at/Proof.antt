@@ -7,7 +7,7 @@ use borrow.Author.Tests.{not-true, not-false}
 use borrow.Author.Needs.{needs}
 use lib.ListN.{getD, length, drop}
 use Rattle.pgm.specs.Text.{most, isDigit, decimal, digitCount}
-use Rattle.pgm.specs.TextLaws.{digits-end, digits-stop, digits-more, digit-range, cut-once}
+use Rattle.pgm.specs.TextLaws.{digits-end, digits-stop, digits-more, digit-range, capped-once}
 use Rattle.pgm.proofs.numbers.digits_at.Statement.{statement}
 use Rattle.pgm.proofs.numbers.digits_at.Tie as tie
 use Rattle.pgm.proofs.numbers.digits_at.Reads as reads
@@ -54,7 +54,7 @@ loop-less c = omega arith
 loop-again : tie.Need-loop-again Inv-loop μ-loop
 loop-again c = let p = c .before .before .before .before .before in
     let m = more (c .before) in
-    (rw (c .with-digit .ensures) (cut-once _ _ ∙ ap (λ (n : ℕ). min most n) (sym (m .0)) ∙ p .loop .inv .0), sym (m .1) ∙ p .loop .inv .1, omega (arith, c .with-digit .ensures))
+    (rw (c .with-digit .ensures) (capped-once _ _ ∙ ap (λ (n : ℕ). min most n) (sym (m .0)) ∙ p .loop .inv .0), sym (m .1) ∙ p .loop .inv .1, omega (arith, c .with-digit .ensures))
 
 returns-2 : tie.Need-returns-2 Inv-loop μ-loop
 returns-2 c = let p = c .before in

@@ -1,7 +1,7 @@
 -- `still_steps::apply` meets its contract.
 use native.Mathlib.Omega.{arith}
 use borrow.Author.Needs.{needs}
-use Rattle.still_steps.specs.ListsLaws.{cut}
+use Rattle.still_steps.specs.ListsLaws.{part-length}
 use Rattle.still_steps.proofs.steps.apply.Statement.{statement}
 use Rattle.still_steps.proofs.steps.apply.Tie as tie
 use Rattle.still_steps.proofs.steps.apply.Reads as reads
@@ -24,13 +24,13 @@ array-share-prefix-pris : tie.Need-array-share-prefix-pris
 array-share-prefix-pris c = search needs
 
 slice-aggregate-apply-luma : tie.Need-slice-aggregate-apply-luma
-slice-aggregate-apply-luma c = cut _ _ (omega (arith, c .before .before .before .before .before .before .before .before .unit-strengths .ensures, c .before .before .before .before .before .before .before .before .before .before .before .before .before .before .before .pre .units-room))
+slice-aggregate-apply-luma c = part-length _ _ (omega (arith, c .before .before .before .before .before .before .before .before .unit-strengths .ensures, c .before .before .before .before .before .before .before .before .before .before .before .before .before .before .before .pre .units-room))
 
 array-share-prefix-secs : tie.Need-array-share-prefix-secs
 array-share-prefix-secs c = search needs
 
 slice-aggregate-apply-luma-2 : tie.Need-slice-aggregate-apply-luma-2
-slice-aggregate-apply-luma-2 c = cut _ _ (omega (arith, c .before .before .before .before .before .before .before .before .unit-strengths2 .ensures, c .before .before .before .before .before .before .before .before .before .before .before .before .before .before .before .before .pre .units-room))
+slice-aggregate-apply-luma-2 c = part-length _ _ (omega (arith, c .before .before .before .before .before .before .before .before .unit-strengths2 .ensures, c .before .before .before .before .before .before .before .before .before .before .before .before .before .before .before .before .pre .units-room))
 
 apply-luma-requires : tie.Need-apply-luma-requires
 apply-luma-requires c κs = search needs

@@ -1,7 +1,7 @@
 -- `still_steps::calls` meets its contract.
 use native.Mathlib.Omega.{arith}
 use borrow.Author.Needs.{needs}
-use Rattle.still_steps.specs.ListsLaws.{cut}
+use Rattle.still_steps.specs.ListsLaws.{part-length}
 use Rattle.still_steps.proofs.steps.calls.Statement.{statement}
 use Rattle.still_steps.proofs.steps.calls.Tie as tie
 use Rattle.still_steps.proofs.steps.calls.Reads as reads
@@ -23,19 +23,19 @@ array-share-prefix-skip : tie.Need-array-share-prefix-skip
 array-share-prefix-skip c = search needs
 
 slice-aggregate-direct : tie.Need-slice-aggregate-direct
-slice-aggregate-direct c = cut _ _ (omega (arith, c .before .before .before .before .block-bytes .ensures, c .before .before .before .before .before .before .before .before .pre .blocks-room))
+slice-aggregate-direct c = part-length _ _ (omega (arith, c .before .before .before .before .block-bytes .ensures, c .before .before .before .before .before .before .before .before .pre .blocks-room))
 
 array-borrow-prefix-dirs : tie.Need-array-borrow-prefix-dirs
 array-borrow-prefix-dirs c = search needs
 
 slice-aggregate-direct-2 : tie.Need-slice-aggregate-direct-2
-slice-aggregate-direct-2 c = cut _ _ (omega (arith, c .before .before .before .before .block-bytes2 .ensures, c .before .before .before .before .before .before .before .before .before .pre .blocks-room))
+slice-aggregate-direct-2 c = part-length _ _ (omega (arith, c .before .before .before .before .block-bytes2 .ensures, c .before .before .before .before .before .before .before .before .before .pre .blocks-room))
 
 array-borrow-prefix-vars : tie.Need-array-borrow-prefix-vars
 array-borrow-prefix-vars c = search needs
 
 slice-aggregate-direct-3 : tie.Need-slice-aggregate-direct-3
-slice-aggregate-direct-3 c = cut _ _ (omega (arith, c .before .before .before .before .block-numbers .ensures, c .before .before .before .before .before .before .before .before .before .before .pre .blocks-room))
+slice-aggregate-direct-3 c = part-length _ _ (omega (arith, c .before .before .before .before .block-numbers .ensures, c .before .before .before .before .before .before .before .before .before .before .pre .blocks-room))
 
 direct-requires : tie.Need-direct-requires
 direct-requires c κs = search needs

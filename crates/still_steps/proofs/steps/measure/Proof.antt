@@ -1,7 +1,7 @@
 -- `still_steps::measure` meets its contract.
 use native.Mathlib.Omega.{arith}
 use borrow.Author.Needs.{needs}
-use Rattle.still_steps.specs.ListsLaws.{cut}
+use Rattle.still_steps.specs.ListsLaws.{part-length}
 use Rattle.still_steps.proofs.steps.measure.Statement.{statement}
 use Rattle.still_steps.proofs.steps.measure.Tie as tie
 use Rattle.still_steps.proofs.steps.measure.Reads as reads
@@ -17,7 +17,7 @@ array-borrow-prefix-rows : tie.Need-array-borrow-prefix-rows
 array-borrow-prefix-rows c = search needs
 
 slice-aggregate-measure-luma : tie.Need-slice-aggregate-measure-luma
-slice-aggregate-measure-luma c = cut _ _ (omega (arith, c .before .before .before .rows .ensures, c .before .before .before .before .before .before .before .before .before .pre .scratch, c .before .before .before .before .before .before .before .before .before .pre .width-room, c .before .before .before .before .before .before .before .before .before .pre .width))
+slice-aggregate-measure-luma c = part-length _ _ (omega (arith, c .before .before .before .rows .ensures, c .before .before .before .before .before .before .before .before .before .pre .scratch, c .before .before .before .before .before .before .before .before .before .pre .width-room, c .before .before .before .before .before .before .before .before .before .pre .width))
 
 none-requires : tie.Need-none-requires
 none-requires c κs = search needs

@@ -27,12 +27,12 @@ below-value (fin false m e) a c k C v h =
     let l : m * up e * c < 2 ^ k * down e * c = mul-lt-mul-of-pos-right g' C in
     lt-of-mul-lt-mul-right (down e) (lt-of-le-of-lt (le-of-eq (sym (v .1))) (lt-of-lt-of-le l (le-of-eq (mul-right-comm (2 ^ k) (down e) c))))
 
-pub cut-value : (x : Float) (a c : ℕ) → 0 < c → HasValue x false a c → a / c < 2 ^ 64 → toUnsigned 64 x ≡ a / c
+pub truncated-value : (x : Float) (a c : ℕ) → 0 < c → HasValue x false a c → a / c < 2 ^ 64 → toUnsigned 64 x ≡ a / c
 unfolding toUnsigned
-cut-value nan a c C v h = absurd v
-cut-value (inf s) a c C v h = absurd v
-cut-value (fin true m e) a c C v h = absurd (true≢false (v .0))
-cut-value (fin false m e) a c C v h =
+truncated-value nan a c C v h = absurd v
+truncated-value (inf s) a c C v h = absurd v
+truncated-value (fin true m e) a c C v h = absurd (true≢false (v .0))
+truncated-value (fin false m e) a c C v h =
     let d : m * up e / down e ≡ a / c = div-same (m * up e) (down e) a c (down-pos e) C (v .1) in
     ap (λ (z : ℕ). min z (2 ^ 64 - 1)) d ∙ capped (a / c) h
   where

@@ -1,4 +1,4 @@
--- `cdef_distance::root::cut` meets its contract.
+-- `cdef_distance::root::truncate` meets its contract.
 use borrow.Author.Needs.{needs}
 use mathlib.Core.Path.{sym, _∙_, subst}
 use Prim.Native.Nat.{ℕ, _+_, _-_, _*_, _/_, _%_, _^_, _≤_, _<_}
@@ -11,9 +11,9 @@ use lib.Ieee.{Float, binary64, fits, toBits}
 use lib.Ieee.Bits.{ofBits-toBits}
 use lib.Ieee.Exact.{HasValue}
 use Rattle.cdef_distance.specs.PatternLaws.{pattern-range, normal-no-nan, pattern-value, unitsOf}
-use Rattle.cdef_distance.specs.CutLaws.{below-value, cut-value, field-high, none, some}
-use Rattle.cdef_distance.proofs.root.cut.Statement.{statement}
-use Rattle.cdef_distance.proofs.root.cut.Tie as tie
+use Rattle.cdef_distance.specs.TruncateLaws.{below-value, truncated-value, field-high, none, some}
+use Rattle.cdef_distance.proofs.root.truncate.Statement.{statement}
+use Rattle.cdef_distance.proofs.root.truncate.Tie as tie
 
 fits-so : (c : tie.Start) → T (fits binary64 (c .args .x))
 fits-so c = subst T (sym (c .good .0 .1)) tt
@@ -52,7 +52,7 @@ returns c =
     let s = c .before in
     let k = known s in
     let e = none (B s) (k .low) (omega (arith, c .if1 .taken)) in
-    sym (cut-value (s .args .x) (unitsOf (B s)) (2 ^ 1074) (pow-pos 1074) (k .value) (lt-of-le-of-lt (le-of-eq e) (lit< tt)) ∙ e)
+    sym (truncated-value (s .args .x) (unitsOf (B s)) (2 ^ 1074) (pow-pos 1074) (k .value) (lt-of-le-of-lt (le-of-eq e) (lit< tt)) ∙ e)
 
 returns-2 : tie.Need-returns-2
 returns-2 c =
@@ -61,7 +61,7 @@ returns-2 c =
     let b = B s in
     let e = some b (k .low) (omega arith) in
     let u : (2 ^ 52 + b % 2 ^ 52) / 2 ^ (1075 - b / 2 ^ 52) < 2 ^ 64 = lt-of-le-of-lt (div-le-self (2 ^ 52 + b % 2 ^ 52) (2 ^ (1075 - b / 2 ^ 52))) (omega arith) in
-    sym (cut-value (s .args .x) (unitsOf b) (2 ^ 1074) (pow-pos 1074) (k .value) (lt-of-le-of-lt (le-of-eq e) u) ∙ e)
+    sym (truncated-value (s .args .x) (unitsOf b) (2 ^ 1074) (pow-pos 1074) (k .value) (lt-of-le-of-lt (le-of-eq e) u) ∙ e)
 
-pub cut-spec : {M : Type 1} → statement M
-cut-spec = tie.close (tie.spec float-to-bits-b returns add-m sub-result shr-result returns-2)
+pub truncate-spec : {M : Type 1} → statement M
+truncate-spec = tie.close (tie.spec float-to-bits-b returns add-m sub-result shr-result returns-2)

@@ -65,6 +65,14 @@ uint32_t quern_adjust_pri(uint32_t strength, uint32_t variance, uint32_t *out);
  * Writes *out. */
 uint32_t quern_damping(uint32_t index, uint8_t *out);
 
+/* The working damping of a luma plane: signalled + depth - 8. Validates 1, 8.
+ * Writes *out. */
+uint32_t quern_luma_damping(uint8_t signalled, uint8_t depth, uint8_t *out);
+
+/* The working damping of a chroma plane: one less than luma's. Validates 1, 8.
+ * Writes *out. */
+uint32_t quern_chroma_damping(uint8_t signalled, uint8_t depth, uint8_t *out);
+
 /* ---- one block of a plane */
 
 /* Direction and variance of the 8 by 8 block at (x, y); past the right or bottom edge

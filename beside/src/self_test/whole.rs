@@ -12,22 +12,22 @@ const SIZE: [usize; 4] = [136, 72, 131, 70];
 /// Every signalled damping at every depth, under little noise and under much. In some picture
 /// the next lower and the next higher damping would leave other samples.
 pub fn check(tally: &mut Tally, r: &mut Random, long: bool) {
-    let mut told = [[false; 20]; 2];
+    let mut distinct = [[false; 20]; 2];
     for round in 0..if long { 40 } else { 8 } {
         let (step, noise) = (round % 4, [2, 16][round as usize / 4 % 2]);
         for layout in LAYOUTS {
             for depth in 8..=12 {
                 let index = (64 * step + r.below(64)) as u8;
                 let planes = picture(tally, r, layout, depth, index, noise);
-                for (told, plane) in told.iter_mut().zip(planes) {
-                    told[step as usize * 5 + usize::from(depth) - 8] |= plane;
+                for (distinct, plane) in distinct.iter_mut().zip(planes) {
+                    distinct[step as usize * 5 + usize::from(depth) - 8] |= plane;
                 }
             }
         }
     }
-    for (told, plane) in told.iter().zip(["luma", "chroma"]) {
-        let count = told.iter().filter(|&&t| t).count();
-        tally.number(&format!("dampings told apart, {plane}"), count as i64, 20);
+    for (distinct, plane) in distinct.iter().zip(["luma", "chroma"]) {
+        let count = distinct.iter().filter(|&&d| d).count();
+        tally.number(&format!("distinct dampings, {plane}"), count as i64, 20);
     }
 }
 

@@ -15,32 +15,35 @@
  *   one entry per block, or per unit, hold them row after row too.
  *
  * The nine questions
- * 1. Is the bit depth 8 to 12?
- * 2. Are width and height 1 to 4,096, and in frame calls multiples of 8?
+ * 1. Is the bit depth from 8 to 12?
+ * 2. Are the plane's width and height from 1 to 4,096, and in frame calls, which are
+ *    given luma's, multiples of 8?
  * 3. Is each chroma subsampling flag 0 or 1?
- * 4. Does each plane hold exactly width x height samples (chroma: each side shifted
- *    right by its flag)?
- * 5. Is x below the width and y below the height, and each block side 1 to 8?
- * 6. Does the block filter's destination hold whole rows, starting at or above y and
- *    reaching the smaller of y + block height and the plane height?
- * 7. Has every list its exact length (one flag, direction and variance per block; one
- *    pair per unit; 12 totals per unit for trying, one for measuring; 768 trial numbers;
- *    the measuring scratch), and is the visible width 1 to the luma width, the visible
- *    height likewise?
- * 8. Are flags 0 or 1, directions below 8, variances 0 to 860,160, and strengths,
- *    damping and quality index in range?
- * 9. Is each examined sample below 2^depth? Block filter and trial also accept the mark
- *    16384, an unavailable sample.
+ * 4. Does every plane have exactly width x height samples? A chroma plane's sides are
+ *    luma's, each shifted right by its flag.
+ * 5. Is the block's corner on the plane (x < width, y < height), and each block side from
+ *    1 to 8?
+ * 6. Is the length of the block filter's destination a multiple of the plane width, y0 at
+ *    most y, and y0 + its number of rows at least min(y + bh, plane height)?
+ * 7. Has each list the right number of entries (a skip flag, a direction and, in luma, a
+ *    variance per block; for applying a strength of each kind per unit; for trying 12
+ *    totals per unit, for measuring one; 768 for the trial; plane width x block height for
+ *    measuring's scratch), and is the visible size from 1 by 1 to the luma size?
+ * 8. Is every skip flag 0 or 1, every direction 0 to 7, every variance at most 860,160,
+ *    and every strength, damping and quality index in its range?
+ * 9. Is every examined sample below 2^depth? Block filter and trial also accept the mark
+ *    16384, an unavailable sample; frame calls do not.
  *
  * Ranges of question 8
- * - Frame calls: primary strengths 0 to 15, secondary ones 0, 1, 2 or 4; signalled
- *   damping 3 to 6. The block filter: every working strength from 0 up to 15 (primary) or
- *   4 (secondary) shifted left by depth - 8. quern_constrain and quern_adjust_pri:
- *   strengths 0 to 240. Working damping 0 to 31. Quality index 0 to 255.
+ * - Strengths. Frame calls: primary 0 to 15, secondary 0, 1, 2 or 4. The block filter:
+ *   every working strength from 0 up to 15 (primary) or 4 (secondary) shifted left by
+ *   depth - 8. quern_constrain and quern_adjust_pri: 0 to 240.
+ * - Signalled damping 3 to 6 (frame calls, quern_luma_damping, quern_chroma_damping).
+ *   Working damping 0 to 31. Quality index 0 to 255.
  *
  * Samples examined by question 9
  * - Direction and distances: the 8 by 8 block, cropped to the plane. Block filter and
- *   trial: the block widened by 2 on each side, cropped to the plane. Frame calls: the
+ *   trial: the block extended by 2 on every side, cropped to the plane. Frame calls: the
  *   whole planes that are read. quern_constrain: a difference outside -4,095 to 4,095 is
  *   error code 9.
  */
@@ -66,6 +69,14 @@ uint32_t quern_adjust_pri(uint32_t strength, uint32_t variance, uint32_t *out);
 /* The signalled damping of a quality index: 3 + min(index / 64, 3). Validates 8.
  * Writes *out. */
 uint32_t quern_damping(uint32_t index, uint8_t *out);
+
+/* The working damping of a luma plane: signalled + depth - 8. Validates 1, 8.
+ * Writes *out. */
+uint32_t quern_luma_damping(uint8_t signalled, uint8_t depth, uint8_t *out);
+
+/* The working damping of a chroma plane: one less than luma's. Validates 1, 8.
+ * Writes *out. */
+uint32_t quern_chroma_damping(uint8_t signalled, uint8_t depth, uint8_t *out);
 
 /* ---- one block of a plane */
 

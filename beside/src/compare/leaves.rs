@@ -7,6 +7,7 @@ use support::damping::{Damping, INDEX_MAX};
 use support::log2_floor::Log2Floor;
 use support::random::Random;
 use support::report::Report;
+use support::working_damping::WorkingDamping;
 
 /// What `out` holds before a call: no call's result, so that an unwritten one shows.
 const HELD_I32: i32 = i32::MIN;
@@ -21,6 +22,8 @@ pub fn compare(report: &mut Report, long: bool, seed: u64) {
     adjust_pri_refusals(report, long, &mut r());
     damping(report);
     damping_refusals(report);
+    working_damping(report, "luma_damping", false);
+    working_damping(report, "chroma_damping", true);
     log2_floor(report, long, &mut r());
 }
 
@@ -103,6 +106,20 @@ fn damping_refusals(report: &mut Report) {
             for held in [HELD_U8, 77] {
                 tally.case(&c, ours::damping(&c, held));
             }
+        }
+    });
+}
+
+/// Every signalled damping and every depth, with two numbers held in `out` in turn.
+fn working_damping(report: &mut Report, call: &'static str, chroma: bool) {
+    report.call(call, |tally| {
+        for c in WorkingDamping::all(chroma) {
+            let held = if (c.signalled ^ c.depth) & 1 == 0 {
+                HELD_U8
+            } else {
+                77
+            };
+            tally.case(&c, ours::working_damping(&c, held));
         }
     });
 }

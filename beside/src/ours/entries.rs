@@ -5,6 +5,8 @@ unsafe extern "C" {
     pub fn quern_constrain(difference: i32, strength: u32, damping: u8, out: *mut i32) -> u32;
     pub fn quern_adjust_pri(strength: u32, variance: u32, out: *mut u32) -> u32;
     pub fn quern_damping(index: u32, out: *mut u8) -> u32;
+    pub fn quern_luma_damping(signalled: u8, depth: u8, out: *mut u8) -> u32;
+    pub fn quern_chroma_damping(signalled: u8, depth: u8, out: *mut u8) -> u32;
     pub fn quern_log2_floor(v: u32) -> u32;
     pub fn quern_root(v: f64) -> f64;
     pub fn quern_direction(

@@ -17,6 +17,7 @@ use support::filter::Filter;
 use support::log2_floor::Log2Floor;
 use support::planes::SIDE_MAX;
 use support::trial::Trial;
+use support::working_damping::WorkingDamping;
 
 /// The error code of an answer after which memory outside what was passed was altered.
 const BESIDE: u32 = u32::MAX;
@@ -90,6 +91,19 @@ pub fn damping(c: &Damping, held: u8) -> Answer<i64> {
     answer(held, |out| {
         // SAFETY: as above.
         unsafe { quern_damping(c.0, out) }
+    })
+}
+
+#[inline]
+pub fn working_damping(c: &WorkingDamping, held: u8) -> Answer<i64> {
+    let of = if c.chroma {
+        quern_chroma_damping
+    } else {
+        quern_luma_damping
+    };
+    answer(held, |out| {
+        // SAFETY: as above.
+        unsafe { of(c.signalled, c.depth, out) }
     })
 }
 

@@ -8,6 +8,8 @@ pub enum Call {
     Constrain,
     AdjustPri,
     Damping,
+    LumaDamping,
+    ChromaDamping,
     Direction,
     FilterBlock,
     TrialLuma,
@@ -26,10 +28,12 @@ pub enum Call {
 use Call::*;
 
 /// Every entry that can reject a call, with its name after `quern_`.
-pub const CALLS: [(Call, &str); 16] = [
+pub const CALLS: [(Call, &str); 18] = [
     (Constrain, "constrain"),
     (AdjustPri, "adjust_pri"),
     (Damping, "damping"),
+    (LumaDamping, "luma_damping"),
+    (ChromaDamping, "chroma_damping"),
     (Direction, "direction"),
     (FilterBlock, "filter_block"),
     (TrialLuma, "trial_luma"),
@@ -78,7 +82,7 @@ impl Call {
     pub fn written(self) -> &'static [Slot] {
         match self {
             Constrain | AdjustPri => &[Slot::Vars],
-            Damping => &[Slot::Dirs],
+            Damping | LumaDamping | ChromaDamping => &[Slot::Dirs],
             Direction | DirectionPass => &[Slot::Dirs, Slot::Vars],
             FilterBlock | TrialLuma | TrialChroma | ApplyLuma | ApplyChroma => &[Slot::Dst],
             Distance | Squares | TryLuma | TryChroma => &[Slot::Totals],
@@ -90,7 +94,7 @@ impl Call {
     pub fn shared(self) -> &'static [Slot] {
         use Slot::{Dirs, Other, Plane, Pris, Secs, Skip, Vars};
         match self {
-            Constrain | AdjustPri | Damping => &[],
+            Constrain | AdjustPri | Damping | LumaDamping | ChromaDamping => &[],
             Direction | FilterBlock | TrialLuma | TrialChroma | DirectionPass => &[Plane],
             Distance | Squares => &[Plane, Other],
             TryLuma | MeasureLuma => &[Plane, Other, Skip, Dirs, Vars],

@@ -20,7 +20,10 @@ pub fn draw(c: &mut Case, call: Call, sides: Sides, r: &mut Random) {
     c.call = call;
     c.n = Numbers::default();
     single_numbers(&mut c.n, call, r);
-    if matches!(call, Constrain | AdjustPri | Damping) {
+    if matches!(
+        call,
+        Constrain | AdjustPri | Damping | LumaDamping | ChromaDamping
+    ) {
         any(&mut c.vars, 1, r);
         any(&mut c.dirs, 1, r);
         return;
@@ -88,6 +91,10 @@ fn single_numbers(n: &mut Numbers, call: Call, r: &mut Random) {
             n.variance = variance(r.next());
         }
         Damping => n.quality = r.below(256) as u32,
+        LumaDamping | ChromaDamping => {
+            n.damping = 3 + r.below(4) as u8;
+            n.depth = 8 + r.below(5) as u8;
+        }
         _ => n.depth = 8 + r.below(5) as u8,
     }
 }

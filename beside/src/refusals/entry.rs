@@ -23,6 +23,8 @@ pub fn answer(c: &Case) -> u32 {
         }
         AdjustPri => number!(quern_adjust_pri:; n.strength, n.variance, c.vars.at();;),
         Damping => number!(quern_damping:; n.quality, c.dirs.at();;),
+        LumaDamping => number!(quern_luma_damping:; n.damping, n.depth, c.dirs.at();;),
+        ChromaDamping => number!(quern_chroma_damping:; n.damping, n.depth, c.dirs.at();;),
         _ if c.call.is_frame() => frame(c),
         _ => block(c),
     }

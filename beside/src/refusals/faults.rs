@@ -168,10 +168,15 @@ fn lists(c: &mut Case, r: &mut Random) {
     }
 }
 
+/// Signalled dampings at the limits and past them.
+const SIGNALLED: [u8; 8] = [0, 2, 3, 6, 7, 31, 128, 255];
+
 fn values(c: &mut Case, r: &mut Random) {
     let shift = c.n.depth.wrapping_sub(8) & 7;
     match (c.call, r.below(4)) {
         (Damping, _) => c.n.quality = beyond_u32(255, r),
+        (LumaDamping | ChromaDamping, 0) => c.n.damping = r.next() as u8,
+        (LumaDamping | ChromaDamping, _) => c.n.damping = r.pick(&SIGNALLED),
         (Constrain | AdjustPri, 0 | 1) => c.n.strength = beyond_u32(240, r),
         (FilterBlock, 0) => c.n.pri = beyond_u32(15 << shift, r),
         (FilterBlock, 1) => c.n.sec = beyond_u32(4 << shift, r),
@@ -193,7 +198,7 @@ fn frame_values(c: &mut Case, r: &mut Random) {
         (MeasureLuma | MeasureChroma, 5) => c.n.secondary = secondary,
         (_, 6) => {
             c.n.from_quality = 0;
-            c.n.damping = r.pick(&[0, 2, 3, 6, 7, 31, 128, 255]);
+            c.n.damping = r.pick(&SIGNALLED);
         }
         _ => {
             c.n.from_quality = r.pick(&[1, 2, 128, 255]);

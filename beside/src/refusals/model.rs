@@ -9,6 +9,7 @@ pub fn asked(call: Call) -> &'static [u32] {
     match call {
         Constrain => &[8, 9],
         AdjustPri | Damping => &[8],
+        LumaDamping | ChromaDamping => &[1, 8],
         Direction | Distance | Squares => &[1, 2, 4, 5, 9],
         FilterBlock => &[1, 2, 4, 5, 6, 8, 9],
         TrialLuma | TrialChroma => &[1, 2, 4, 5, 7, 8, 9],
@@ -122,6 +123,7 @@ fn values(c: &Case) -> bool {
         Constrain => n.strength <= 240 && working_damping,
         AdjustPri => n.strength <= 240 && variance(&n.variance),
         Damping => n.quality <= 255,
+        LumaDamping | ChromaDamping => (3..=6).contains(&n.damping),
         FilterBlock => {
             let shift = n.depth - 8;
             n.pri <= 15 << shift && n.sec <= 4 << shift && n.dir < 8 && working_damping

@@ -14,8 +14,14 @@ use support::frame::{CHROMA, LUMA};
 use support::refusals::Stated;
 use support::report::Tally;
 use support::trial::Trial;
+use support::working_damping::WorkingDamping;
 
 pub fn check(tally: &mut Tally) {
+    for (chroma, call) in [(false, "luma damping"), (true, "chroma damping")] {
+        each(tally, call, WorkingDamping::stated(chroma), &[1, 8]);
+        let accepted = WorkingDamping::all(chroma).filter(|c| c.number() == 0);
+        tally.number(call, accepted.count() as i64, 20);
+    }
     each(tally, "direction", Direction::stated(), &[1, 2, 4, 5, 9]);
     each(tally, "filter", Filter::stated(), &[1, 2, 4, 5, 6, 8, 9]);
     each(tally, "trial", Trial::stated(), &[1, 2, 4, 5, 7, 8, 9]);

@@ -3,48 +3,82 @@
 //! what applying its own pairs leaves.
 
 use crate::agreement::{LAYOUTS, of_luma};
+use reference::{Frame, Picked};
 use support::random::Random;
 use support::report::Tally;
 
 const SIZE: [usize; 4] = [136, 72, 131, 70];
 
+/// Every signalled damping at every depth, under little noise and under much. In some picture
+/// the next lower and the next higher damping would leave other samples.
 pub fn check(tally: &mut Tally, r: &mut Random, long: bool) {
-    let mut filtered = 0;
-    for _ in 0..if long { 40 } else { 4 } {
+    let mut distinct = [[false; 20]; 2];
+    for round in 0..if long { 40 } else { 8 } {
+        let (step, noise) = (round % 4, [2, 16][round as usize / 4 % 2]);
         for layout in LAYOUTS {
             for depth in 8..=12 {
-                filtered += i64::from(picture(tally, r, layout, depth));
+                let index = (64 * step + r.below(64)) as u8;
+                let planes = picture(tally, r, layout, depth, index, noise);
+                for (distinct, plane) in distinct.iter_mut().zip(planes) {
+                    distinct[step as usize * 5 + usize::from(depth) - 8] |= plane;
+                }
             }
         }
     }
-    tally.number("some planes were filtered", i64::from(filtered > 0), 1);
+    for (distinct, plane) in distinct.iter().zip(["luma", "chroma"]) {
+        let count = distinct.iter().filter(|&&d| d).count();
+        tally.number(&format!("distinct dampings, {plane}"), count as i64, 20);
+    }
 }
 
-/// Whether any sample was changed.
-fn picture(tally: &mut Tally, r: &mut Random, layout: (usize, usize), depth: u8) -> bool {
+/// Whether the next dampings would leave other samples, in luma and in chroma.
+fn picture(
+    tally: &mut Tally,
+    r: &mut Random,
+    layout: (usize, usize),
+    depth: u8,
+    index: u8,
+    noise: i64,
+) -> [bool; 2] {
     let original = planes(r, layout, depth);
-    let snapshot = original.each_ref().map(|p| noisy(r, p, depth));
-    let index = r.below(256) as u8;
+    let snapshot = original.each_ref().map(|p| noisy(r, p, depth, noise));
     let damping = reference::cdef_damping(index);
     let f = of_luma(r, &snapshot[0], SIZE, layout, depth, damping);
     let mut left = snapshot.clone();
     let Some(picked) = reference::frame_cdef(&f, index, &mut left, &original) else {
-        return false;
+        return [false; 2];
     };
-    tally.number("damping", picked.signalled_damping, f.signalled_damping);
-    let mut applied = snapshot.clone();
-    reference::apply_cdef_plane(&f, &mut applied[0], &snapshot[0], &picked.luma);
-    for p in 1..3 {
-        reference::apply_cdef_chroma(&f, &mut applied[p], &snapshot[p], &picked.chroma);
-    }
-    for (applied, left) in applied.iter().zip(&left) {
+    tally.number("damping", picked.signalled_damping, damping);
+    for (applied, left) in applied(&f, &snapshot, &picked).iter().zip(&left) {
         tally.same(
             &format!("plane, layout {layout:?}"),
             wide(applied),
             wide(left),
         );
     }
-    left[1..] != snapshot[1..]
+    let next = [damping - 1, damping + 1].map(|signalled_damping| {
+        let lists = f.lists.clone();
+        let f = Frame {
+            signalled_damping,
+            lists,
+            ..f
+        };
+        applied(&f, &snapshot, &picked)
+    });
+    [
+        next.iter().all(|planes| planes[0] != left[0]),
+        next.iter().all(|planes| planes[1..] != left[1..]),
+    ]
+}
+
+/// The three planes filtered with the picked pairs.
+fn applied(f: &Frame, snapshot: &[Vec<u16>; 3], picked: &Picked) -> [Vec<u16>; 3] {
+    let mut planes = snapshot.clone();
+    reference::apply_cdef_plane(f, &mut planes[0], &snapshot[0], &picked.luma);
+    for p in 1..3 {
+        reference::apply_cdef_chroma(f, &mut planes[p], &snapshot[p], &picked.chroma);
+    }
+    planes
 }
 
 fn wide(plane: &[u16]) -> Vec<i64> {
@@ -61,8 +95,8 @@ fn planes(r: &mut Random, (sub_x, sub_y): (usize, usize), depth: u8) -> [Vec<u16
 }
 
 /// The plane with noise that filtering removes.
-fn noisy(r: &mut Random, plane: &[u16], depth: u8) -> Vec<u16> {
-    let (max, far) = ((1i64 << depth) - 1, 2i64 << (depth - 8));
+fn noisy(r: &mut Random, plane: &[u16], depth: u8, noise: i64) -> Vec<u16> {
+    let (max, far) = ((1i64 << depth) - 1, noise << (depth - 8));
     let mut moved = |s: u16| (i64::from(s) + r.between(-far, far)).clamp(0, max) as u16;
     plane.iter().map(|&s| moved(s)).collect()
 }

@@ -20,6 +20,7 @@ pub mod refusals;
 pub mod report;
 pub mod spot;
 pub mod trial;
+pub mod working_damping;
 
 use counts::Amount;
 use report::Value;

@@ -8,7 +8,19 @@ use crate::filter::Filter;
 use crate::planes::{DEPTHS, SIDE_MAX};
 use crate::spot::{Area, Spot};
 use crate::trial::Trial;
+use crate::working_damping::WorkingDamping;
 use reference::MARK;
+
+/// 1 and 8.
+pub fn working_damping(c: &WorkingDamping) -> u32 {
+    if !DEPTHS.contains(&c.depth) {
+        1
+    } else if c.signalled < 3 || c.signalled > 6 {
+        8
+    } else {
+        0
+    }
+}
 
 /// 1, 2, 4, 5 and 9.
 pub fn direction(c: &Direction) -> u32 {

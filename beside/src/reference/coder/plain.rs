@@ -61,15 +61,15 @@ impl Frame {
         self.height >> self.sub_y
     }
 
-    /// Repeated from `frame_cdef`, as the next three.
     fn damping(&self) -> i32 {
-        self.signalled_damping as i32 + (self.depth as i32 - 8)
+        luma_damping(self.signalled_damping, self.depth)
     }
 
     fn chroma_damping(&self) -> i32 {
-        self.damping() - 1
+        chroma_damping(self.signalled_damping, self.depth)
     }
 
+    /// Repeated from `frame_cdef`, as the next one.
     fn chroma_visible(&self) -> (usize, usize) {
         (
             self.visible_width.div_ceil(1 << self.sub_x),
@@ -85,6 +85,16 @@ impl Frame {
 /// The signalled damping of a quality index.
 pub fn cdef_damping(index: u8) -> u8 {
     super::cdef_damping(index)
+}
+
+/// The working damping of a luma plane, whose line is repeated from `frame_cdef`.
+pub fn luma_damping(signalled: u8, depth: u8) -> i32 {
+    signalled as i32 + (depth as i32 - 8)
+}
+
+/// The working damping of a chroma plane, whose line is repeated from `frame_cdef`.
+pub fn chroma_damping(signalled: u8, depth: u8) -> i32 {
+    luma_damping(signalled, depth) - 1
 }
 
 /// The direction pass, whose lines are repeated from `frame_cdef`.

@@ -3,7 +3,7 @@ use mathlib.Core.Path.{_≡_}
 use native.Mathlib.Omega.{arith}
 use borrow.Author.Needs.{needs}
 use lib.ListN.{length, take}
-use Rattle.still_steps.specs.ListsLaws.{cut}
+use Rattle.still_steps.specs.ListsLaws.{part-length}
 use Rattle.filter_still.proofs.room.sized.Statement.{statement}
 use Rattle.filter_still.proofs.room.sized.Tie as tie
 use Rattle.filter_still.proofs.room.sized.Reads as reads
@@ -14,10 +14,10 @@ use Rattle.still_steps.proofs.space.trial_totals.Reads as trial-totals-reads
 use Rattle.still_steps.proofs.space.unit_totals.Reads as unit-totals-reads
 
 tried-length : (c : tie.After-tried) → let n = c .before .before .before .before .before .before .before .counts-of .result in n .totals ≡ length (take (n .totals) (c .before .before .before .before .before .before .trial-totals .result))
-tried-length c = let n = c .before .before .before .before .before .before .before .counts-of .ensures in cut _ _ (omega (arith, c .before .before .before .before .before .before .trial-totals .ensures, n .totals, n .units-room))
+tried-length c = let n = c .before .before .before .before .before .before .before .counts-of .ensures in part-length _ _ (omega (arith, c .before .before .before .before .before .before .trial-totals .ensures, n .totals, n .units-room))
 
 measured-length : (c : tie.After-measured) → let n = c .before .before .before .before .before .before .before .before .counts-of .result in n .units ≡ length (take (n .units) (c .before .before .before .before .before .before .unit-totals .result))
-measured-length c = cut _ _ (omega (arith, c .before .before .before .before .before .before .unit-totals .ensures, c .before .before .before .before .before .before .before .before .counts-of .ensures .units-room))
+measured-length c = part-length _ _ (omega (arith, c .before .before .before .before .before .before .unit-totals .ensures, c .before .before .before .before .before .before .before .before .counts-of .ensures .units-room))
 
 counts-of-requires : tie.Need-counts-of-requires
 counts-of-requires c κs = search needs
@@ -29,16 +29,16 @@ unit-totals-requires : tie.Need-unit-totals-requires
 unit-totals-requires c κs = search needs
 
 slice-aggregate-run : tie.Need-slice-aggregate-run
-slice-aggregate-run c = cut _ _ (omega (arith, c .before .before .before .before .counts-of .ensures .samples-room, c .before .before .before .before .before .before .before .before .before .pre .1))
+slice-aggregate-run c = part-length _ _ (omega (arith, c .before .before .before .before .counts-of .ensures .samples-room, c .before .before .before .before .before .before .before .before .before .pre .1))
 
 slice-aggregate-run-2 : tie.Need-slice-aggregate-run-2
-slice-aggregate-run-2 c = cut _ _ (omega (arith, c .before .before .before .before .before .counts-of .ensures .samples-room, c .before .before .before .before .before .before .before .before .before .before .pre .1))
+slice-aggregate-run-2 c = part-length _ _ (omega (arith, c .before .before .before .before .before .counts-of .ensures .samples-room, c .before .before .before .before .before .before .before .before .before .before .pre .1))
 
 slice-relend-prefix-run : tie.Need-slice-relend-prefix-run
 slice-relend-prefix-run c = search needs
 
 slice-aggregate-run-3 : tie.Need-slice-aggregate-run-3
-slice-aggregate-run-3 c = cut _ _ (omega (arith, c .before .before .before .before .before .before .counts-of .ensures .samples-room, c .before .before .before .before .before .before .before .before .before .before .before .pre .1))
+slice-aggregate-run-3 c = part-length _ _ (omega (arith, c .before .before .before .before .before .before .counts-of .ensures .samples-room, c .before .before .before .before .before .before .before .before .before .before .before .pre .1))
 
 array-borrow-prefix-tried : tie.Need-array-borrow-prefix-tried
 array-borrow-prefix-tried c = search needs

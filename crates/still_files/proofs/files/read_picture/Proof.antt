@@ -1,7 +1,7 @@
 -- `still_files::read_picture` meets its contract.
 use native.Mathlib.Omega.{arith}
 use borrow.Author.Needs.{needs}
-use Rattle.still_steps.specs.ListsLaws.{cut}
+use Rattle.still_steps.specs.ListsLaws.{part-length}
 use Rattle.still_files.proofs.files.read_picture.Statement.{statement}
 use Rattle.still_files.proofs.files.read_picture.Tie as tie
 use Rattle.still_files.proofs.files.read_picture.Reads as reads
@@ -45,7 +45,7 @@ slice-reshare-prefix-decoded : tie.Need-slice-reshare-prefix-decoded
 slice-reshare-prefix-decoded c = search needs
 
 slice-aggregate-decoded-2 : tie.Need-slice-aggregate-decoded-2
-slice-aggregate-decoded-2 c = cut _ _ (omega (arith, c .before .before .before .before .before .before .read-file .ensures, c .before .before .before .before .before .before .read-file .kept))
+slice-aggregate-decoded-2 c = part-length _ _ (omega (arith, c .before .before .before .before .before .before .read-file .ensures, c .before .before .before .before .before .before .read-file .kept))
 
 decoded-requires : tie.Need-decoded-requires
 decoded-requires c κs = search needs

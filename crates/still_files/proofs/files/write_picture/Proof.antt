@@ -2,7 +2,7 @@
 use Prim.Native.Nat.{_*_, _≤_}
 use native.Mathlib.Omega.{arith}
 use borrow.Author.Needs.{needs}
-use Rattle.still_steps.specs.ListsLaws.{cut}
+use Rattle.still_steps.specs.ListsLaws.{part-length}
 use Rattle.pgm.specs.SizesLaws.{taken, step-range, samples-room, bytes-room}
 use Rattle.still_files.proofs.files.write_picture.Statement.{statement}
 use Rattle.still_files.proofs.files.write_picture.Tie as tie
@@ -38,7 +38,7 @@ slice-reshare-prefix-write-file : tie.Need-slice-reshare-prefix-write-file
 slice-reshare-prefix-write-file c = omega (arith, room (c .before .before .before .before .before), c .before .before .before .before .before .before .before .before .before .pre .1, c .before .before .encode .kept .0)
 
 slice-aggregate-write-file : tie.Need-slice-aggregate-write-file
-slice-aggregate-write-file c = cut _ _ (omega (arith, room (c .before .before .before .before .before .before), c .before .before .before .before .before .before .before .before .before .before .pre .1, c .before .before .before .encode .kept .0))
+slice-aggregate-write-file c = part-length _ _ (omega (arith, room (c .before .before .before .before .before .before), c .before .before .before .before .before .before .before .before .before .before .pre .1, c .before .before .before .encode .kept .0))
 
 write-file-requires : tie.Need-write-file-requires
 write-file-requires c κs = search needs

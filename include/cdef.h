@@ -11,6 +11,7 @@
  *   null and valid for that length; not null also where the length is 0. A pointer
  *   without a length is to one number.
  * - What a call writes overlaps none of its other arguments.
+ * - No call allocates memory or keeps state between calls.
  * - Sizes and positions are in samples. A plane is row after row, without gaps. Lists with
  *   one entry per block, or per unit, hold them row after row too.
  *
@@ -39,7 +40,7 @@
  *   every working strength from 0 up to 15 (primary) or 4 (secondary) shifted left by
  *   depth - 8. quern_constrain and quern_adjust_pri: 0 to 240.
  * - Signalled damping 3 to 6 (frame calls, quern_luma_damping, quern_chroma_damping).
- *   Working damping 0 to 31. Quality index 0 to 255.
+ *   Working damping 0 to 31. Quality index (the frame header's base_q_idx) 0 to 255.
  *
  * Samples examined by question 9
  * - Direction and distances: the 8 by 8 block, cropped to the plane. Block filter and
@@ -87,7 +88,11 @@ uint32_t quern_direction(const uint16_t *plane, size_t plane_len, size_t width, 
                          uint32_t *variance);
 
 /* Filters the block at (x, y), bw by bh, with working strengths, a direction and a working
- * damping. dst holds whole rows, of which the first is the plane's row y0.
+ * damping. A working strength is the signalled one << (depth - 8); luma's primary then goes
+ * through quern_adjust_pri. The direction is used as given: to filter as quern_apply_luma and
+ * quern_apply_chroma do, pass 0 where the signalled primary is 0, and in 4:2:2 chroma map
+ * luma's 0..7 to 7, 0, 2, 4, 5, 6, 6, 6. dst holds whole rows, of which the first is the
+ * plane's row y0.
  * Validates 1, 2, 4, 5, 6, 8, 9. Writes the block's positions in dst, except marked ones. */
 uint32_t quern_filter_block(uint16_t *dst, size_t dst_len, size_t y0, const uint16_t *plane,
                             size_t plane_len, size_t width, size_t height, size_t x, size_t y,
@@ -104,7 +109,8 @@ uint32_t quern_trial_luma(uint16_t *out, size_t out_len, const uint16_t *plane,
                           size_t bw, size_t bh, uint32_t variance, uint8_t dir,
                           uint8_t damping, uint8_t depth);
 
-/* The same of a chroma plane, whose primary strengths are not adjusted.
+/* The same of a chroma plane, whose primary strengths are not adjusted. dir is the chroma
+ * direction: in 4:2:2 map luma's first, as for quern_filter_block.
  * Validates 1, 2, 4, 5, 7, 8, 9. Writes the first bw x bh numbers of each trial. */
 uint32_t quern_trial_chroma(uint16_t *out, size_t out_len, const uint16_t *plane,
                             size_t plane_len, size_t width, size_t height, size_t x, size_t y,
@@ -129,9 +135,12 @@ uint32_t quern_squares(const uint16_t *orig, size_t orig_len, const uint16_t *ot
  *
  * width and height are luma's; a chroma call is passed one chroma plane with its
  * subsampling flags, sx horizontal and sy vertical. A block is 8 by 8 luma samples, a unit
- * 64 by 64 as far as the picture reaches. skip, dirs and, in luma, vars hold one flag
- * (1: skipped), direction and variance per block. Where from_quality is 0 the signalled
- * damping is damping, else it is that of the index quality; the other one is not read.
+ * 64 by 64 as far as the luma plane reaches. skip, dirs and, in luma, vars hold one flag
+ * (1: skipped), direction and variance per block, (width / 8) x (height / 8) entries. In
+ * chroma too dirs are luma's, as quern_direction_pass wrote them; they are mapped inside.
+ * There are ceil(width / 64) x ceil(height / 64) units; trying's total of unit u and trial
+ * t is totals[12 * u + t]. Where from_quality is 0 the signalled damping is damping; where
+ * it is not 0, it is that of the index quality. The other one is not read.
  */
 
 /* Direction and variance of each block of a luma plane. Validates 1, 2, 4, 7, 9.

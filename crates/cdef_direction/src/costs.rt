@@ -17,18 +17,18 @@ fn square_of(v: i16) -> u32
 
 // A line of n samples.
 fn one(l: &[i16; 16], a: usize, n: u32) -> u32
-    requires { ⌜ (a < 16) × (n ≤ 8) × (square (entry (now l) a) * divBy n ≤ 880803840) ⌝ }
+    requires { ⌜ (a < 16) × (1 ≤ n) × (n ≤ 8) × (square (entry (now l) a) * divBy n ≤ 880803840) ⌝ }
     ensures { λ r. ⌜ r ≡ square (entry (now (l .entry)) a) * divBy n ⌝ }
 {
-    square_of(l[a]) * tables::div_table(n)
+    square_of(l[a]) * tables::divisor(n)
 }
 
 // Two lines of n samples.
 fn two(l: &[i16; 16], a: usize, b: usize, n: u32) -> u32
-    requires { ⌜ (a < 16) × (b < 16) × (n ≤ 8) × ((square (entry (now l) a) + square (entry (now l) b)) * divBy n ≤ 880803840) ⌝ }
+    requires { ⌜ (a < 16) × (b < 16) × (1 ≤ n) × (n ≤ 8) × ((square (entry (now l) a) + square (entry (now l) b)) * divBy n ≤ 880803840) ⌝ }
     ensures { λ r. ⌜ r ≡ (square (entry (now (l .entry)) a) + square (entry (now (l .entry)) b)) * divBy n ⌝ }
 {
-    (square_of(l[a]) + square_of(l[b])) * tables::div_table(n)
+    (square_of(l[a]) + square_of(l[b])) * tables::divisor(n)
 }
 
 // Directions 2 and 6: eight lines of 8 samples.

@@ -2,12 +2,12 @@
 use mathlib.Core.Path.{_≡_, refl}
 use mathlib.Core.Bool.{true, cond}
 use mathlib.Core.List.{[]}
-use Prim.Native.Nat.{ℕ, _+_, _-_, _*_, _/_, _<_}
+use Prim.Native.Nat.{ℕ, _+_, _-_, _*_, _<_}
 use lib.Dec.{eqb}
 use lib.ListN.{getD}
 use Rattle.cdef_spec.specs.Words.{every}
 use Rattle.cdef_spec.specs.WordsLaws.{agree, agree2}
-use Rattle.cdef_spec.specs.Standard.{Cdef-Pri-Taps, Cdef-Sec-Taps, Cdef-Uv-Dir, Div-Table, divBy}
+use Rattle.cdef_spec.specs.Standard.{Cdef-Pri-Taps, Cdef-Sec-Taps, Cdef-Uv-Dir}
 use Rattle.cdef_spec.specs.Document01.{primaries, secondaries}
 use Rattle.cdef_spec.specs.CodeForm.{rows, cols, rowOf, colOf}
 
@@ -18,10 +18,6 @@ pri-is = agree2 2 2 (λ row k. getD (getD Cdef-Pri-Taps row []) k 0) (λ row k. 
 pub sec-is : (k : ℕ) → k < 2 → 2 - k ≡ getD Cdef-Sec-Taps k 0
 unfolding every Cdef-Sec-Taps
 sec-is = agree 2 (λ k. 2 - k) (λ k. getD Cdef-Sec-Taps k 0) refl
-
-pub div-is : (n : ℕ) → n < 9 → 840 / n ≡ divBy n
-unfolding every Div-Table
-div-is = agree 9 (λ n. 840 / n) divBy refl
 
 -- the 4:2:2 row of Cdef_Uv_Dir
 abbrev pub mapped : ℕ → ℕ

@@ -7,7 +7,7 @@ ghost use Rattle.cdef_spec.specs.CodeForm.{constrainMag};
 use cdef_spec::WorkingDamping;
 
 pub mod damping; // damping.rt: the signalled and the working damping
-pub mod tables; // tables.rt: the standard's tables as functions
+pub mod tables; // tables.rt: the standard's tables as functions, the divisors of the direction cost
 
 // The index of the highest set bit, 0 for 0.
 pub fn log2_floor(v: u32) -> u32

@@ -1,9 +1,9 @@
-// The tables, each as a function: a constant array would be built anew at each use.
+// The tables, each as a function (a constant array would be built anew at each use); the divisors of the direction cost, computed.
 ghost use mathlib.Core.Path.{_≡_};
 ghost use mathlib.Core.List.{[]};
-ghost use Prim.Native.Nat.{_≤_, _<_};
+ghost use Prim.Native.Nat.{_/_, _≤_, _<_};
 ghost use lib.ListN.{getD};
-ghost use Rattle.cdef_spec.specs.Standard.{Cdef-Pri-Taps, Cdef-Sec-Taps, divBy};
+ghost use Rattle.cdef_spec.specs.Standard.{Cdef-Pri-Taps, Cdef-Sec-Taps};
 ghost use Rattle.cdef_spec.specs.Document01.{chromaDirection, trialPair};
 ghost use Rattle.cdef_spec.specs.CodeForm.{rowOf, colOf};
 use cdef_spec::UnitPair;
@@ -27,14 +27,11 @@ pub fn sec_tap(k: u32) -> u32
     2 - k
 }
 
-// Div_Table: each entry is 840 / n.
-pub fn div_table(n: u32) -> u32
-    requires { ⌜ n ≤ 8 ⌝ }
-    ensures { λ r. ⌜ r ≡ divBy n ⌝ }
+// What the direction cost multiplies the squared sum of a line of n samples by. That it is the standard's Div_Table[n] is `DivisorIsStandard` (specs/Divisor.antt).
+pub fn divisor(n: u32) -> u32
+    requires { ⌜ (1 ≤ n) × (n ≤ 8) ⌝ }
+    ensures { λ r. ⌜ r ≡ 840 / n ⌝ }
 {
-    if n == 0 {
-        return 0;
-    }
     840 / n
 }
 

@@ -5,6 +5,7 @@ use native.Mathlib.Omega.{arith}
 use mir.Syntax.{w16}
 use mir.ValLaws.{toZ-ofZ}
 use Rattle.cdef_spec.specs.Standard.{square, divBy}
+use Rattle.cdef_leaf.specs.DivisorLaws.{divisor-is-standard}
 use Rattle.cdef_direction.specs.Costs.{entry}
 use borrow.Author.Needs.{needs}
 use Rattle.cdef_direction.proofs.costs.one.Statement.{statement}
@@ -14,8 +15,8 @@ first : (c : tie.After-square-of) → c .square-of .result ≡ square (entry (c 
 unfolding entry
 first c = c .square-of .ensures ∙ ap square (toZ-ofZ w16 _ (record { sfits = c .before .square-of-arg .given }))
 
-product : (c : tie.After-div-table) → c .before .square-of .result * c .div-table .result ≡ square (entry (c .before .before .before .args .l .now) (c .before .before .before .args .a)) * divBy (c .before .before .before .args .n)
-product c = rw (first (c .before), c .div-table .ensures)
+product : (c : tie.After-divisor) → c .before .square-of .result * c .divisor .result ≡ square (entry (c .before .before .before .args .l .now) (c .before .before .before .args .a)) * divBy (c .before .before .before .args .n)
+product c = rw (first (c .before), c .divisor .ensures, divisor-is-standard (c .before .before .before .args .n) (c .before .before .before .pre .1) (c .before .before .before .pre .2))
 
 mul-square-of : tie.Need-mul-square-of
 mul-square-of c = search needs
@@ -26,11 +27,11 @@ element-copy-out-square-of c = search needs
 square-of-requires : tie.Need-square-of-requires
 square-of-requires c κs = search needs
 
-div-table-requires : tie.Need-div-table-requires
-div-table-requires c κs = search needs
+divisor-requires : tie.Need-divisor-requires
+divisor-requires c κs = search needs
 
 mul-result : tie.Need-mul-result
-mul-result c = record { fits = omega (arith, product c, c .before .before .before .pre .2) }
+mul-result c = record { fits = omega (arith, product c, c .before .before .before .pre .3) }
 
 returns : tie.Need-returns
 returns c = product c
@@ -42,6 +43,6 @@ one-spec =
     mul-square-of
     element-copy-out-square-of
     square-of-requires
-    div-table-requires
+    divisor-requires
     mul-result
     returns)

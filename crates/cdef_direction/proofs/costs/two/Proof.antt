@@ -7,6 +7,7 @@ use lib.IntN.{pos}
 use mir.Syntax.{w16}
 use mir.ValLaws.{toZ-ofZ}
 use Rattle.cdef_spec.specs.Standard.{square, divBy}
+use Rattle.cdef_leaf.specs.DivisorLaws.{divisor-is-standard}
 use Rattle.cdef_direction.specs.Costs.{entry}
 use Rattle.cdef_direction.proofs.Squares.{square-low}
 use borrow.Author.Needs.{needs}
@@ -21,8 +22,8 @@ second : (c : tie.After-square-of2) → c .square-of2 .result ≡ square (entry 
 unfolding entry
 second c = c .square-of2 .ensures ∙ ap square (toZ-ofZ w16 _ (record { sfits = c .before .square-of-arg2 .given }))
 
-product : (c : tie.After-div-table) → (c .before .before .before .square-of .result + c .before .square-of2 .result) * c .div-table .result ≡ (square (entry (c .before .before .before .before .before .args .l .now) (c .before .before .before .before .before .args .a)) + square (entry (c .before .before .before .before .before .args .l .now) (c .before .before .before .before .before .args .b))) * divBy (c .before .before .before .before .before .args .n)
-product c = rw (first (c .before .before .before), second (c .before), c .div-table .ensures)
+product : (c : tie.After-divisor) → (c .before .before .before .square-of .result + c .before .square-of2 .result) * c .divisor .result ≡ (square (entry (c .before .before .before .before .before .args .l .now) (c .before .before .before .before .before .args .a)) + square (entry (c .before .before .before .before .before .args .l .now) (c .before .before .before .before .before .args .b))) * divBy (c .before .before .before .before .before .args .n)
+product c = rw (first (c .before .before .before), second (c .before), c .divisor .ensures, divisor-is-standard (c .before .before .before .before .before .args .n) (c .before .before .before .before .before .pre .2) (c .before .before .before .before .before .pre .3))
 
 mul-square-of : tie.Need-mul-square-of
 mul-square-of c = search needs
@@ -46,11 +47,11 @@ add-result : tie.Need-add-result
 add-result c = unfold entry in let a = c .before .before .before .before .args in
     record { fits = omega (arith, first (c .before .before), second c, square-low (getD (a .l .now) (a .a) (pos 0)) (record { sfits = c .before .before .before .square-of-arg .given }), square-low (getD (a .l .now) (a .b) (pos 0)) (record { sfits = c .before .square-of-arg2 .given })) }
 
-div-table-requires : tie.Need-div-table-requires
-div-table-requires c κs = search needs
+divisor-requires : tie.Need-divisor-requires
+divisor-requires c κs = search needs
 
 mul-result : tie.Need-mul-result
-mul-result c = record { fits = omega (arith, product c, c .before .before .before .before .before .pre .3) }
+mul-result c = record { fits = omega (arith, product c, c .before .before .before .before .before .pre .4) }
 
 returns : tie.Need-returns
 returns c = product c
@@ -66,6 +67,6 @@ two-spec =
     element-copy-out-square-of-2
     square-of-requires-2
     add-result
-    div-table-requires
+    divisor-requires
     mul-result
     returns)

@@ -1,7 +1,7 @@
 -- The proof of DivisorIsStandard: one computed test of the whole table (entry 0 too, as 840 / 0 is 0 in ℕ), and a lemma that gives the rule at each length.
 use mathlib.Core.Path.{_≡_, refl}
 use mathlib.Core.Bool.{true}
-use Prim.Native.Nat.{ℕ, _+_, _<_, _≤_}
+use Prim.Native.Nat.{ℕ, _≤_}
 use native.Mathlib.Omega.{arith}
 use lib.Dec.{eqb}
 use Rattle.cdef_spec.specs.Words.{every}

@@ -86,24 +86,44 @@ build_all() {
     build_ours
     build_program self_test
     build_program vectors
+    build_program made
     build_program compare --extern ours
 }
 
-# Compares a stored sample with a fresh one, line by line: check_sample DATA-FOLDER
+# Compares a stored file with a fresh one line by line, prints the first lines that differ, and
+# sets count to how many do: lines_apart NAME STORED FRESH
+lines_apart() {
+    diff "$2" "$3" >"$out/diff" || true
+    grep '^[<>]' "$out/diff" | head -n 10 | sed "s/^</DIFFERENT $1, stored:/; s/^>/expected:/"
+    stored=$(grep -c '^<' "$out/diff" || true)
+    count=$(grep -c '^>' "$out/diff" || true)
+    [ "$count" -ge "$stored" ] || count=$stored
+}
+
+# Compares a stored sample with a fresh one: check_sample DATA-FOLDER
 check_sample() {
     fresh=$out/fresh
     rm -rf "$fresh"
     mkdir -p "$fresh"
-    "$out/vectors" "$fresh" >/dev/null
+    "$out/vectors" "$fresh" >/dev/null || fail "vectors failed"
     different=0
     for file in "$fresh"/*.txt; do
         name=$(basename "$file")
         [ -f "$1/$name" ] || fail "the stored sample has no $name"
-        diff "$1/$name" "$file" >"$out/diff" || true
-        count=$(grep -c '^[<>]' "$out/diff" || true)
-        grep '^[<>]' "$out/diff" | head -n 10 | sed "s/^</DIFFERENT $name, stored:/; s/^>/expected:/"
-        echo "stored $name: $(wc -l <"$file") cases, $(((count + 1) / 2)) different"
+        lines_apart "$name" "$1/$name" "$file"
+        echo "stored $name: $(wc -l <"$file") cases, $count different"
         different=$((different + count))
     done
     [ "$different" = 0 ]
+}
+
+# Compares what the program agreement printed with the reference's answers:
+# check_agreement STORED-FILE [--own-map]
+check_agreement() {
+    printed=$1
+    shift
+    "$out/made" "$@" >"$out/made.txt" || fail "made failed"
+    lines_apart agreement "$printed" "$out/made.txt"
+    echo "agreement: $(wc -l <"$out/made.txt") lines, $count different"
+    [ "$count" = 0 ]
 }

@@ -90,9 +90,10 @@ uint32_t quern_direction(const uint16_t *plane, size_t plane_len, size_t width, 
 /* Filters the block at (x, y), bw by bh, with working strengths, a direction and a working
  * damping. A working strength is the signalled one << (depth - 8); luma's primary then goes
  * through quern_adjust_pri. The direction is used as given: to filter as quern_apply_luma and
- * quern_apply_chroma do, pass 0 where the signalled primary is 0, and in 4:2:2 chroma map
- * luma's 0..7 to 7, 0, 2, 4, 5, 6, 6, 6. dst holds whole rows, of which the first is the
- * plane's row y0.
+ * quern_apply_chroma do, pass 0 where the signalled primary is 0; elsewhere map luma's 0..7
+ * in 4:2:2 chroma (sx 1, sy 0) to 7, 0, 2, 4, 5, 6, 6, 6 and in 4:4:0 chroma (sx 0, sy 1)
+ * to 1, 2, 2, 2, 3, 4, 6, 0.
+ * dst holds whole rows, of which the first is the plane's row y0.
  * Validates 1, 2, 4, 5, 6, 8, 9. Writes the block's positions in dst, except marked ones. */
 uint32_t quern_filter_block(uint16_t *dst, size_t dst_len, size_t y0, const uint16_t *plane,
                             size_t plane_len, size_t width, size_t height, size_t x, size_t y,
@@ -110,7 +111,7 @@ uint32_t quern_trial_luma(uint16_t *out, size_t out_len, const uint16_t *plane,
                           uint8_t damping, uint8_t depth);
 
 /* The same of a chroma plane, whose primary strengths are not adjusted. dir is the chroma
- * direction: in 4:2:2 map luma's first, as for quern_filter_block.
+ * direction: in 4:2:2 and 4:4:0 map luma's first, as for quern_filter_block.
  * Validates 1, 2, 4, 5, 7, 8, 9. Writes the first bw x bh numbers of each trial. */
 uint32_t quern_trial_chroma(uint16_t *out, size_t out_len, const uint16_t *plane,
                             size_t plane_len, size_t width, size_t height, size_t x, size_t y,

@@ -102,7 +102,11 @@ impl Run {
                     let c = C::drawn(d, kind);
                     let answer = ours(&c);
                     seen.see(&c, k, answer.number);
-                    tally.case(&c, answer);
+                    let due = c.expected();
+                    if due.number == 0 {
+                        tally.count(c.by_other_map(&due.value));
+                    }
+                    tally.against(&c, answer, due);
                 }
             });
             seen.check(tally);

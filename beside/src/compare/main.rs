@@ -9,12 +9,16 @@ mod seen;
 mod trial;
 
 use std::process::ExitCode;
+use support::counts::Floors;
 
-/// Samples that a long run compares with the reference's at least.
-const LONG_FLOOR: u64 = 1_000_000_000;
+/// The least that a long run compares.
+const LONG_FLOORS: Floors = Floors {
+    samples: 1_000_000_000,
+    by_map: 1_000_000,
+};
 
 fn main() -> ExitCode {
-    support::options::run("compare", LONG_FLOOR, |report, long, seed| {
+    support::options::run("compare", LONG_FLOORS, |report, long, seed| {
         leaves::compare(report, long, seed);
         blocks::compare(report, long, seed);
         trial::compare(report, long, seed);

@@ -1,7 +1,7 @@
 //! Trying, applying and measuring agree in the reference: RULES, Agreement on small pictures.
 
 use reference::{Apply, Frame, Lists, Measure, Try};
-use support::frame::{CHROMA, Kind};
+use support::frame::{CHROMA, Kind, map};
 use support::random::Random;
 use support::report::Tally;
 
@@ -48,7 +48,7 @@ pub fn check(tally: &mut Tally, r: &mut Random, long: bool) {
     }
 }
 
-/// A frame of true directions and random flags.
+/// A frame of true directions and random flags, with the standard's chroma direction map.
 pub fn of_luma(
     r: &mut Random,
     luma: &[u16],
@@ -69,6 +69,7 @@ pub fn of_luma(
         sub_y,
         depth,
         signalled_damping,
+        chroma_map: map::standard(sub_x, sub_y),
         lists: Lists::new(&skip, &directions, &variances),
     }
 }

@@ -1,7 +1,8 @@
 //! RULES, Worked lines, run through the reference.
 
 use crate::last_clamp::Mirror;
-use reference::MARK;
+use reference::{Frame, Lists, MARK};
+use support::frame::map;
 use support::report::Tally;
 
 pub fn check(tally: &mut Tally) {
@@ -9,6 +10,7 @@ pub fn check(tally: &mut Tally) {
     rounding(tally);
     direction(tally);
     filter(tally);
+    chroma(tally);
     distance(tally);
 }
 
@@ -109,6 +111,37 @@ fn filter(tally: &mut Tally) {
     tally.number("all marked", filtered(&marks, 5, 2, 0, 1, 0, 2, 31), 100);
     let size = reference::constrain_spec(i32::from(MARK) - 100, 1, 31);
     tally.number("size of a mark", size, 1);
+}
+
+/// Chroma of an 8 by 8 picture, 0 but for a 1 in row 0, column 2: that sample after applying
+/// the pair 1, 0 with luma direction 0.
+fn applied(sub_y: usize, chroma_map: [u8; 8]) -> i64 {
+    let f = Frame {
+        width: 8,
+        height: 8,
+        visible_width: 8,
+        visible_height: 8,
+        sub_x: 0,
+        sub_y,
+        depth: 8,
+        signalled_damping: 3,
+        chroma_map,
+        lists: Lists::new(&[0], &[0], &[0]),
+    };
+    let mut snapshot = vec![0; 64 >> sub_y];
+    snapshot[2] = 1;
+    let mut plane = snapshot.clone();
+    reference::apply_cdef_chroma(&f, &mut plane, &snapshot, &[(1, 0)]);
+    plane[2].into()
+}
+
+/// In 4:4:0 the reference's own map would leave the sample.
+fn chroma(tally: &mut Tally) {
+    for (sub_y, result) in [(0, 1), (1, 0)] {
+        tally.number("chroma", applied(sub_y, map::standard(0, sub_y)), result);
+    }
+    let own = reference::chroma_direction_map(0, 1);
+    tally.number("chroma by its own map", applied(1, own), 1);
 }
 
 fn distance(tally: &mut Tally) {

@@ -12,6 +12,19 @@ pub struct Amount {
     pub totals: usize,
     /// Elements of measuring's scratch. They are compared with zeros: the reference has none.
     pub scratch: usize,
+    /// Samples and totals of 4:4:0 that differ by the chroma direction map: the standard's, or
+    /// the reference's own.
+    pub by_map: usize,
+    pub totals_by_map: usize,
+}
+
+/// The least that a run compares.
+#[derive(Clone, Copy, Default)]
+pub struct Floors {
+    /// Samples compared with the reference's.
+    pub samples: u64,
+    /// Samples of 4:4:0 that differ by the chroma direction map.
+    pub by_map: u64,
 }
 
 impl Amount {
@@ -38,6 +51,8 @@ pub struct Counts {
     samples: u64,
     totals: u64,
     scratch: u64,
+    by_map: u64,
+    totals_by_map: u64,
     pub refusals: u64,
     pub different: u64,
     /// Of processor time.
@@ -69,8 +84,8 @@ impl Counts {
     }
 
     /// Prints the row of all calls; whether as many samples as wanted were compared with
-    /// the reference's.
-    pub fn print_end(&self, floor: u64) -> bool {
+    /// the reference's, and as many as wanted of them differ by the map.
+    pub fn print_end(&self, floors: Floors) -> bool {
         self.print("in all");
         let (samples, scratch) = (self.samples, self.scratch);
         if scratch > 0 {
@@ -78,10 +93,15 @@ impl Counts {
                 "samples compared with the reference: {samples}; scratch compared with 0: {scratch}"
             );
         }
-        if samples < floor {
-            println!("TOO FEW samples: {samples} of {floor}");
+        let (by_map, totals) = (self.by_map, self.totals_by_map);
+        if by_map + totals > 0 {
+            println!(
+                "4:4:0: {by_map} samples and {totals} unit totals that the reference's own direction map would make otherwise"
+            );
         }
-        samples >= floor
+        let samples = enough("samples", samples, floors.samples);
+        let by_map = enough("4:4:0 samples", by_map, floors.by_map);
+        samples && by_map
     }
 }
 
@@ -91,6 +111,8 @@ impl AddAssign<Amount> for Counts {
         self.samples += more.samples as u64;
         self.totals += more.totals as u64;
         self.scratch += more.scratch as u64;
+        self.by_map += more.by_map as u64;
+        self.totals_by_map += more.totals_by_map as u64;
     }
 }
 
@@ -100,10 +122,20 @@ impl AddAssign for Counts {
         self.samples += more.samples;
         self.totals += more.totals;
         self.scratch += more.scratch;
+        self.by_map += more.by_map;
+        self.totals_by_map += more.totals_by_map;
         self.refusals += more.refusals;
         self.different += more.different;
         self.seconds += more.seconds;
     }
+}
+
+/// Whether there are as many as wanted; prints it where there are not.
+fn enough(name: &str, count: u64, floor: u64) -> bool {
+    if count < floor {
+        println!("TOO FEW {name}: {count} of {floor}");
+    }
+    count >= floor
 }
 
 fn print_row(name: &str, counts: [&str; 5], seconds: &str) {

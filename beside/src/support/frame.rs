@@ -6,6 +6,7 @@ mod breaks;
 pub mod comparing;
 pub mod direction_pass;
 pub mod drawn;
+pub mod map;
 pub mod measuring;
 mod questions;
 pub mod stated;
@@ -148,18 +149,20 @@ impl Picture {
         (8 >> self.kind.flags().1) * self.kind.sides(&self.size).0
     }
 
-    /// The same for the reference.
+    /// The same for the reference; flags are 0 or 1.
     pub fn frame(&self, (visible_width, visible_height): (usize, usize)) -> Frame {
         let (sx, sy) = self.kind.flags();
+        let (sub_x, sub_y) = (sx.into(), sy.into());
         Frame {
             width: self.size.width,
             height: self.size.height,
             visible_width,
             visible_height,
-            sub_x: sx.into(),
-            sub_y: sy.into(),
+            sub_x,
+            sub_y,
             depth: self.size.depth,
             signalled_damping: self.damping.in_force(),
+            chroma_map: map::chroma_map(sub_x, sub_y),
             lists: Lists::new(&self.skip, &self.dirs, &self.vars),
         }
     }

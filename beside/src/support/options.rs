@@ -1,8 +1,17 @@
-//! The arguments of the comparing programs:
-//! short|long [--seed N] [--only CALL] [--plant CALL:CASE] [--floor SAMPLES]
+//! The arguments of the comparing programs: short|long [--seed N] [--only CALL]
+//! [--plant CALL:CASE] [--floor SAMPLES] [--map-floor SAMPLES] [--own-map]
+//! `--own-map` gives the reference its own chroma direction map; the self-test, which runs
+//! both maps, is the same with it.
 
+use crate::counts::Floors;
+use crate::frame::map;
 use crate::report::{Plant, Report};
 use std::process::ExitCode;
+
+/// The call whose samples are counted where they differ by the map.
+const BY_MAP: &str = "apply_chroma";
+
+const USAGE: &str = "short|long [--seed N] [--only CALL] [--plant CALL:CASE] [--floor SAMPLES] [--map-floor SAMPLES] [--own-map]";
 
 struct Options {
     long: bool,
@@ -10,6 +19,22 @@ struct Options {
     only: Option<String>,
     plant: Option<Plant>,
     floor: Option<u64>,
+    map_floor: Option<u64>,
+    own_map: bool,
+}
+
+impl Options {
+    /// Those given; else those of a long run of all calls, and of `BY_MAP` alone the map's.
+    fn floors(&self, long: Floors) -> Floors {
+        let of_run = |all: bool, floor: u64| if self.long && all { floor } else { 0 };
+        let only = self.only.as_deref();
+        let samples = of_run(only.is_none(), long.samples);
+        let by_map = of_run(only.is_none_or(|call| call == BY_MAP), long.by_map);
+        Floors {
+            samples: self.floor.unwrap_or(samples),
+            by_map: self.map_floor.unwrap_or(by_map),
+        }
+    }
 }
 
 fn options() -> Option<Options> {
@@ -25,14 +50,21 @@ fn options() -> Option<Options> {
         only: None,
         plant: None,
         floor: None,
+        map_floor: None,
+        own_map: false,
     };
     while let Some(word) = words.next() {
+        if word == "--own-map" {
+            options.own_map = true;
+            continue;
+        }
         let value = words.next()?;
         match word.as_str() {
             "--seed" => options.seed = value.parse().ok()?,
             "--only" => options.only = Some(value),
             "--plant" => options.plant = Some(Plant::parse(&value)?),
             "--floor" => options.floor = Some(value.parse().ok()?),
+            "--map-floor" => options.map_floor = Some(value.parse().ok()?),
             _ => return None,
         }
     }
@@ -40,17 +72,23 @@ fn options() -> Option<Options> {
 }
 
 /// Prints the seed, runs the comparison and gives the exit status. A long run of all
-/// calls compares at least as many samples as `long_floor`.
-pub fn run(name: &str, long_floor: u64, compare: impl FnOnce(&mut Report, bool, u64)) -> ExitCode {
+/// calls compares at least as much as `long_floors`; one of applying in chroma alone has its
+/// floor too.
+pub fn run(
+    name: &str,
+    long_floors: Floors,
+    compare: impl FnOnce(&mut Report, bool, u64),
+) -> ExitCode {
     let Some(options) = options() else {
-        let words = "[--seed N] [--only CALL] [--plant CALL:CASE] [--floor SAMPLES]";
-        eprintln!("{name} short|long {words}");
+        eprintln!("{name} {USAGE}");
         return ExitCode::from(2);
     };
-    let whole = options.long && options.only.is_none();
-    let floor = options.floor.unwrap_or(if whole { long_floor } else { 0 });
+    let floors = options.floors(long_floors);
+    if options.own_map {
+        map::use_own();
+    }
     println!("{name}, seed {}", options.seed);
     let mut report = Report::new(options.plant, options.only);
     compare(&mut report, options.long, options.seed);
-    ExitCode::from(report.finish(floor))
+    ExitCode::from(report.finish(floors))
 }

@@ -1,6 +1,6 @@
 //! Differences, counts and the planted wrong answer.
 
-use crate::counts::{Amount, Counts, processor_time};
+use crate::counts::{Amount, Counts, Floors, processor_time};
 use crate::{Answer, Case};
 use std::fmt::{Debug, Display};
 use std::ops::BitXorAssign;
@@ -155,7 +155,7 @@ impl Report {
 
     /// The exit status: 0 all the same, 1 a difference or fewer samples than wanted, 2 no
     /// call was run, or no case was there to plant in.
-    pub fn finish(self, floor: u64) -> u8 {
+    pub fn finish(self, floors: Floors) -> u8 {
         if !self.ran {
             println!("no call of that name");
             return 2;
@@ -164,7 +164,7 @@ impl Report {
             println!("no case {} of {} to plant in", p.case, p.call);
             return 2;
         }
-        let enough = self.counts.print_end(floor);
+        let enough = self.counts.print_end(floors);
         let different = self.counts.different;
         println!("{different} different in all");
         u8::from(different != 0 || !enough)
@@ -175,7 +175,12 @@ impl Tally {
     /// Compares our answer to a case with the expected one.
     #[inline]
     pub fn case<C: Case>(&mut self, case: &C, ours: Answer<C::Value>) {
-        let due = case.expected();
+        self.against(case, ours, case.expected());
+    }
+
+    /// The same, where the expected answer is at hand.
+    #[inline]
+    pub fn against<C: Case>(&mut self, case: &C, ours: Answer<C::Value>, due: Answer<C::Value>) {
         if due.number == 0 {
             self.counts += case.amount();
         } else {
@@ -184,7 +189,8 @@ impl Tally {
         self.same(case, ours, due);
     }
 
-    /// Counts what is compared with something other than the expected answer to a case.
+    /// Counts what is compared with something other than the expected answer to a case, and
+    /// what differs by the direction map.
     pub fn count(&mut self, amount: Amount) {
         self.counts += amount;
     }

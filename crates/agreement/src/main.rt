@@ -1,5 +1,5 @@
 // Tries, applies and measures synthetic pictures, and prints each unit's pair and totals.
-// The totals in the file stdout were compared once with those of the Rust reference.
+// `beside/run` compares the file stdout with what the Rust reference gives on the same pictures.
 fn main() {
     made_pictures::all(false);
 }

@@ -5,13 +5,13 @@ use mathlib.Core.List.{List}
 use Prim.Native.Nat.{ℕ, _-_, _*_, _≤_, _<_}
 use lib.ListN.{getD}
 use Rattle.cdef_spec.specs.Words.{_<<_}
-use Rattle.cdef_spec.specs.Standard.{adjustPri}
+use Rattle.cdef_spec.specs.Standard.{adjustPri, chromaDirection}
 use Rattle.cdef_spec.specs.declared.Block.{Block}
 use Rattle.cdef_spec.specs.declared.SignalledDamping.{SignalledDamping}
 use Rattle.cdef_spec.specs.declared.WorkingDamping.{WorkingDamping}
 use Rattle.cdef_spec.specs.declared.TrialWay.{TrialWay}
 use Rattle.cdef_spec.specs.declared.TrialWay.the-variants.{Luma, Chroma}
-use Rattle.cdef_spec.specs.Document01.{chromaDirection, lumaDamping, chromaDamping}
+use Rattle.cdef_spec.specs.Document01.{lumaDamping, chromaDamping}
 use Rattle.cdef_spec.specs.Picture.{PlaneKind, luma, chroma, Picture, blockWidth, blockHeight}
 use Rattle.cdef_spec.specs.Questions.{lumaSideTaken}
 use Rattle.cdef_frame.specs.declared.Frame.{Frame}

@@ -1,35 +1,20 @@
 -- The filter accepts the parameters of every pair.
-use mathlib.Core.Path.{refl}
-use mathlib.Core.Bool.{Bool, true, false, cond, _&&_}
-use mathlib.Core.List.{List, []}
+use mathlib.Core.Bool.{Bool, true, false, cond}
+use mathlib.Core.List.{List}
 use Prim.Native.Nat.{ℕ, _-_, _≤_, _<_}
 use native.Mathlib.Omega.{arith}
-use borrow.Author.Tests.{ltb-true}
-use lib.Dec.{eqb, ltb}
+use lib.Dec.{eqb}
 use lib.ListN.{getD}
 use Rattle.cdef_spec.specs.declared.SignalledDamping.{SignalledDamping}
 use Rattle.cdef_spec.specs.declared.UnitPair.{UnitPair}
-use Rattle.cdef_spec.specs.Words.{_<<_, every}
-use Rattle.cdef_spec.specs.WordsLaws.{every-at}
-use Rattle.cdef_spec.specs.Standard.{Cdef-Uv-Dir}
-use Rattle.cdef_spec.specs.Document01.{chromaDirection, lumaDamping, chromaDamping, lumaParams, chromaParams}
+use Rattle.cdef_spec.specs.Words.{_<<_}
+use Rattle.cdef_spec.specs.ChromaLaws.{chroma-low}
+use Rattle.cdef_spec.specs.Standard.{chromaDirection}
+use Rattle.cdef_spec.specs.Document01.{lumaDamping, chromaDamping, lumaParams, chromaParams}
 use Rattle.cdef_spec.specs.Picture.{PlaneKind, luma, chroma, paramsFor}
 use Rattle.cdef_kernel.specs.ShapeLaws.{limit-low, adjust-low}
 use Rattle.cdef_filter.specs.Store.{Usable}
 use Rattle.cdef_frame.specs.Lent.{InForce}
-
--- a mapped direction is below 8
-mapped-low : (i : ℕ) → i < 8 → getD (getD (getD Cdef-Uv-Dir 1 []) 0 []) i 0 < 8
-unfolding Cdef-Uv-Dir every
-mapped-low i h = ltb-true _ 8 (every-at 8 (λ k. ltb (getD (getD (getD Cdef-Uv-Dir 1 []) 0 []) k 0) 8) refl i h)
-
-pub chroma-low : (sx sy i : ℕ) → i < 8 → chromaDirection sx sy i < 8
-unfolding chromaDirection
-chroma-low sx sy i h = go (eqb sx 1 && eqb sy 0)
-  where
-    go : (b : Bool) → cond b (getD (getD (getD Cdef-Uv-Dir 1 []) 0 []) i 0) i < 8
-    go true = mapped-low i h
-    go false = h
 
 or-zero : (b : Bool) (i : ℕ) → i < 8 → cond b 0 i < 8
 or-zero true i h = omega arith

@@ -27,7 +27,7 @@ pub fn damping_of(f: Frame, d: SignalledDamping) -> WorkingDamping
 
 // The block's direction in the plane.
 pub fn dir_of(f: Frame, dirs: &[u8], b: usize) -> u8
-    requires { ⌜ (b < length (now dirs)) × (getD (now dirs) b 0 < 8) ⌝ }
+    requires { ⌜ Shaped f × (b < length (now dirs)) × (getD (now dirs) b 0 < 8) ⌝ }
     ensures { λ r. ⌜ ((vs : List ℕ) → r ≡ dirOf (kindOf f vs) (now (dirs .entry)) b) ⌝ }
 {
     if f.luma {
@@ -61,7 +61,7 @@ fn primary_of(f: Frame, vars: &[u32], b: usize, s: u8) -> u32
 
 // The direction that a block is filtered in: 0 where the signalled primary is 0.
 fn dir_for(f: Frame, dirs: &[u8], b: usize, s: u8) -> u8
-    requires { ⌜ (b < length (now dirs)) × (getD (now dirs) b 0 < 8) ⌝ }
+    requires { ⌜ Shaped f × (b < length (now dirs)) × (getD (now dirs) b 0 < 8) ⌝ }
     ensures { λ r. ⌜ ((vs : List ℕ) → r ≡ cond (eqb s 0) 0 (dirOf (kindOf f vs) (now (dirs .entry)) b)) ⌝ }
 {
     if s == 0 {

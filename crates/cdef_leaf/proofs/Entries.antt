@@ -7,7 +7,7 @@ use lib.Dec.{eqb}
 use lib.ListN.{getD}
 use Rattle.cdef_spec.specs.Words.{every}
 use Rattle.cdef_spec.specs.WordsLaws.{agree, agree2}
-use Rattle.cdef_spec.specs.Standard.{Cdef-Pri-Taps, Cdef-Sec-Taps, Cdef-Uv-Dir}
+use Rattle.cdef_spec.specs.Standard.{Cdef-Pri-Taps, Cdef-Sec-Taps, Cdef-Uv-Dir, chromaDirection}
 use Rattle.cdef_spec.specs.Document01.{primaries, secondaries}
 use Rattle.cdef_spec.specs.CodeForm.{rows, cols, rowOf, colOf}
 
@@ -19,13 +19,20 @@ pub sec-is : (k : ℕ) → k < 2 → 2 - k ≡ getD Cdef-Sec-Taps k 0
 unfolding every Cdef-Sec-Taps
 sec-is = agree 2 (λ k. 2 - k) (λ k. getD Cdef-Sec-Taps k 0) refl
 
--- the 4:2:2 row of Cdef_Uv_Dir
-abbrev pub mapped : ℕ → ℕ
-mapped d = cond (eqb d 0) 7 (cond (eqb d 1) 0 (cond (eqb d 2) 2 (cond (eqb d 3) 4 (cond (eqb d 4) 5 6))))
+-- the rows of Cdef_Uv_Dir for 4:2:2 and for 4:4:0
+abbrev pub uv-422 : ℕ → ℕ
+uv-422 d = cond (eqb d 0) 7 (cond (eqb d 1) 0 (cond (eqb d 2) 2 (cond (eqb d 3) 4 (cond (eqb d 4) 5 6))))
 
-pub mapped-is : (d : ℕ) → d < 8 → getD (getD (getD Cdef-Uv-Dir 1 []) 0 []) d 0 ≡ mapped d
-unfolding every Cdef-Uv-Dir
-mapped-is = agree 8 (λ d. getD (getD (getD Cdef-Uv-Dir 1 []) 0 []) d 0) mapped refl
+abbrev pub uv-440 : ℕ → ℕ
+uv-440 d = cond (eqb d 0) 1 (cond (eqb d 4) 3 (cond (eqb d 5) 4 (cond (eqb d 6) 6 (cond (eqb d 7) 0 2))))
+
+pub uv-422-is : (d : ℕ) → d < 8 → chromaDirection 1 0 d ≡ uv-422 d
+unfolding every chromaDirection Cdef-Uv-Dir
+uv-422-is = agree 8 (chromaDirection 1 0) uv-422 refl
+
+pub uv-440-is : (d : ℕ) → d < 8 → chromaDirection 0 1 d ≡ uv-440 d
+unfolding every chromaDirection Cdef-Uv-Dir
+uv-440-is = agree 8 (chromaDirection 0 1) uv-440 refl
 
 pub primary-is : (i : ℕ) → i < 4 → cond (eqb i 3) 4 i ≡ getD primaries i 0
 unfolding every primaries

@@ -3,8 +3,8 @@ ghost use mathlib.Core.Path.{_≡_};
 ghost use mathlib.Core.List.{[]};
 ghost use Prim.Native.Nat.{_/_, _≤_, _<_};
 ghost use lib.ListN.{getD};
-ghost use Rattle.cdef_spec.specs.Standard.{Cdef-Pri-Taps, Cdef-Sec-Taps};
-ghost use Rattle.cdef_spec.specs.Document01.{chromaDirection, trialPair};
+ghost use Rattle.cdef_spec.specs.Standard.{Cdef-Pri-Taps, Cdef-Sec-Taps, chromaDirection};
+ghost use Rattle.cdef_spec.specs.Document01.{trialPair};
 ghost use Rattle.cdef_spec.specs.CodeForm.{rowOf, colOf};
 use cdef_spec::UnitPair;
 
@@ -35,24 +35,31 @@ pub fn divisor(n: u32) -> u32
     840 / n
 }
 
-// The chroma direction: mapped in 4:2:2, else the luma direction.
+// Cdef_Uv_Dir: 4:4:4 and 4:2:0 keep the luma direction; 4:2:2 and 4:4:0 have a row each.
 pub fn chroma_direction(sub_x: u8, sub_y: u8, dir: u8) -> u8
-    requires { ⌜ dir < 8 ⌝ }
+    requires { ⌜ («sub_x» < 2) × («sub_y» < 2) × (dir < 8) ⌝ }
     ensures { λ r. ⌜ r ≡ chromaDirection «sub_x» «sub_y» dir ⌝ }
 {
-    if sub_x != 1 {
+    if sub_x == sub_y {
         return dir;
     }
-    if sub_y != 0 {
-        return dir;
+    if sub_x == 1 {
+        return match dir {
+            0 => 7,
+            1 => 0,
+            2 => 2,
+            3 => 4,
+            4 => 5,
+            _ => 6,
+        };
     }
     match dir {
-        0 => 7,
-        1 => 0,
-        2 => 2,
-        3 => 4,
-        4 => 5,
-        _ => 6,
+        0 => 1,
+        4 => 3,
+        5 => 4,
+        6 => 6,
+        7 => 0,
+        _ => 2,
     }
 }
 

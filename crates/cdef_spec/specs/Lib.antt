@@ -18,6 +18,7 @@ pub mod WordsLaws
 pub mod SignedLaws
 pub mod ConstrainLaws
 pub mod LeafLaws
+pub mod ChromaLaws
 pub mod FilterLaws
 pub mod TapLaws
 pub mod PlaceLaws

@@ -9,8 +9,8 @@ use Rattle.cdef_spec.specs.declared.UnitPair.{UnitPair}
 use Rattle.cdef_spec.specs.declared.Visible.{Visible}
 use Rattle.cdef_spec.specs.declared.FilterParams.{FilterParams}
 use Rattle.cdef_spec.specs.Words.{_>>_, sum2, table}
-use Rattle.cdef_spec.specs.Standard.{Tap}
-use Rattle.cdef_spec.specs.Document01.{Plane, mark, orElse, filtered, chromaDirection, lumaDamping, chromaDamping, trialPair, lumaParams, chromaParams}
+use Rattle.cdef_spec.specs.Standard.{Tap, chromaDirection}
+use Rattle.cdef_spec.specs.Document01.{Plane, mark, orElse, filtered, lumaDamping, chromaDamping, trialPair, lumaParams, chromaParams}
 use Rattle.cdef_spec.specs.Distance.{squares, weightedDistance}
 
 -- ---- a picture's plane

@@ -12,6 +12,7 @@ use Rattle.cdef_spec.specs.declared.SignalledDamping.{SignalledDamping}
 use Rattle.cdef_spec.specs.declared.Visible.{Visible}
 use Rattle.cdef_spec.specs.Words.{table}
 use Rattle.cdef_spec.specs.WordsLaws.{length-table, getD-table}
+use Rattle.cdef_spec.specs.ChromaLaws.{chroma-low}
 use Rattle.cdef_spec.specs.Document01.{mark, orElse, filtered, trialPair, lumaDamping, chromaDamping}
 use Rattle.cdef_spec.specs.Distance.{constantsOf}
 use Rattle.cdef_spec.specs.declared.TrialWay.{TrialWay}
@@ -27,7 +28,6 @@ use Rattle.cdef_frame.specs.declared.Frame.{Frame}
 use Rattle.cdef_frame.specs.Frame.{Shaped, kindOf, pictureOf, blockOf, wayOf, dirOf, dampingOf}
 use Rattle.cdef_frame.specs.FrameLaws.{tried-with, width-is, height-is}
 use Rattle.cdef_frame.specs.BlockLaws.{plane-wide, plane-high, block-wide, block-high, cols-in, rows-in, sample-low}
-use Rattle.cdef_frame.specs.UsableLaws.{chroma-low}
 use Rattle.cdef_frame.specs.Lent.{Sampled, InForce}
 use Rattle.cdef_try.specs.Totals.{trialDistances}
 use Rattle.cdef_try.specs.Trying.{trialBlocks, visiblePart, triedDistance}

@@ -11,8 +11,9 @@ use run::Layout;
 pub fn all(as_pairs: bool) {
     run::luma(as_pairs, 8, 0);
     run::luma(as_pairs, 10, 1);
-    run::chroma(as_pairs, Layout { sx: 1, sy: 1 }, 8, 2);
-    run::chroma(as_pairs, Layout { sx: 1, sy: 0 }, 10, 3);
-    run::chroma(as_pairs, Layout { sx: 0, sy: 1 }, 8, 4);
-    run::chroma(as_pairs, Layout { sx: 0, sy: 0 }, 10, 5);
+    run::chroma(as_pairs, Layout { sx: 1, sy: 1 }, true, 8, 2);
+    run::chroma(as_pairs, Layout { sx: 1, sy: 0 }, true, 10, 3);
+    run::chroma(as_pairs, Layout { sx: 0, sy: 1 }, true, 8, 4);
+    run::chroma(as_pairs, Layout { sx: 0, sy: 0 }, true, 10, 5);
+    run::chroma(as_pairs, Layout { sx: 0, sy: 1 }, false, 10, 6);
 }

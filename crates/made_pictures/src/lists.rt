@@ -8,16 +8,33 @@ use cdef_spec::UnitPair;
 pub fn skips() -> [u8; 153]
     ensures { λ r. ⌜ 153 ≡ length r ⌝ }
 {
-    let mut skip = [0u8; 153];
-    for b in 0..153 {
-        skip[b] = skipped(b);
-    }
-    skip
+    of_blocks(false)
 }
 
-fn skipped(b: usize) -> u8
+// Each of the eight directions in turn.
+pub fn in_turn() -> [u8; 153]
+    ensures { λ r. ⌜ 153 ≡ length r ⌝ }
+{
+    of_blocks(true)
+}
+
+// The directions, or the skip flags.
+fn of_blocks(directions: bool) -> [u8; 153]
+    ensures { λ r. ⌜ 153 ≡ length r ⌝ }
+{
+    let mut list = [0u8; 153];
+    for b in 0..153 {
+        list[b] = of_block(directions, b);
+    }
+    list
+}
+
+fn of_block(directions: bool, b: usize) -> u8
     requires { ⌜ b ≤ 153 ⌝ }
 {
+    if directions {
+        return (b % 8) as u8;
+    }
     if (b * 7 + 3) % 11 < 2 {
         return 1;
     }
@@ -26,14 +43,14 @@ fn skipped(b: usize) -> u8
 
 // The trial number of a unit; each of the twelve comes up in some picture.
 pub fn trial_of(unit: usize, picture: u32) -> usize
-    requires { ⌜ (unit ≤ 5) × (picture ≤ 5) ⌝ }
+    requires { ⌜ (unit ≤ 5) × (picture ≤ 6) ⌝ }
     ensures { λ r. ⌜ r < 12 ⌝ }
 {
     (unit * 5 + picture as usize * 2 + 1) % 12
 }
 
 pub fn primaries(picture: u32) -> [u8; 6]
-    requires { ⌜ picture ≤ 5 ⌝ }
+    requires { ⌜ picture ≤ 6 ⌝ }
 {
     let mut pris = [0u8; 6];
     for u in 0..6 {
@@ -52,7 +69,7 @@ fn primary(trial: usize) -> u8 {
 }
 
 pub fn secondaries(picture: u32) -> [u8; 6]
-    requires { ⌜ picture ≤ 5 ⌝ }
+    requires { ⌜ picture ≤ 6 ⌝ }
 {
     let mut secs = [0u8; 6];
     for u in 0..6 {

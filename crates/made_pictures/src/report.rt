@@ -36,7 +36,7 @@ pub fn units(
     tried: &[i64; 72],
     measured: &[i64; 6],
 )
-    requires { ⌜ number ≤ 5 ⌝ }
+    requires { ⌜ number ≤ 6 ⌝ }
 {
     for u in 0..6 {
         unit(u, pris[u], secs[u], tried, measured[u]);

@@ -26,7 +26,7 @@ fn visible() -> Visible {
 
 // as_pairs: the pairs are passed as one slice of structs, and not as two lists.
 pub fn luma(as_pairs: bool, depth: u8, number: u32)
-    requires { ⌜ number ≤ 5 ⌝ }
+    requires { ⌜ number ≤ 6 ⌝ }
 {
     let pris = lists::primaries(number);
     let secs = lists::secondaries(number);
@@ -55,7 +55,7 @@ fn luma_agreement(
     tried: &mut [i64; 72],
     measured: &mut [i64; 6],
 ) -> Agreement
-    requires { ⌜ number ≤ 5 ⌝ }
+    requires { ⌜ number ≤ 6 ⌝ }
 {
     let snapshot = picture::made(72, depth, number);
     let original = picture::made(72, depth, number + 100);
@@ -84,8 +84,9 @@ fn luma_agreement(
     )
 }
 
-pub fn chroma(as_pairs: bool, l: Layout, depth: u8, number: u32)
-    requires { ⌜ number ≤ 5 ⌝ }
+// found: directions are found in luma, and not each of the eight in turn.
+pub fn chroma(as_pairs: bool, l: Layout, found: bool, depth: u8, number: u32)
+    requires { ⌜ number ≤ 6 ⌝ }
 {
     let pris = lists::primaries(number);
     let secs = lists::secondaries(number);
@@ -94,6 +95,7 @@ pub fn chroma(as_pairs: bool, l: Layout, depth: u8, number: u32)
     let a = chroma_agreement(
         as_pairs,
         l,
+        found,
         depth,
         number,
         &pris,
@@ -102,6 +104,9 @@ pub fn chroma(as_pairs: bool, l: Layout, depth: u8, number: u32)
         &mut measured,
     );
     report::layout(l.sx, l.sy);
+    if !found {
+        print::text(b", each direction in turn");
+    }
     report::heading(b"", depth);
     report::units(a, number, &pris, &secs, &tried, &measured);
 }
@@ -124,10 +129,24 @@ fn area(width: usize, height: usize, l: Layout) -> usize
     halved(width, l.sx) * halved(height, l.sy)
 }
 
-// Directions are of the luma picture with the same number.
+// Directions of the luma picture with the same number, or each in turn.
+fn directions(found: bool, depth: u8, number: u32) -> [u8; 153]
+    requires { ⌜ number ≤ 6 ⌝ }
+{
+    if !found {
+        return lists::in_turn();
+    }
+    let mut dirs = [0u8; 153];
+    let mut vars = [0u32; 153];
+    let luma = picture::made(72, depth, number);
+    cdef::directions::direction_pass(&mut dirs, &mut vars, &luma, 72, 136, depth);
+    dirs
+}
+
 fn chroma_agreement(
     as_pairs: bool,
     l: Layout,
+    found: bool,
     depth: u8,
     number: u32,
     pris: &[u8; 6],
@@ -135,12 +154,9 @@ fn chroma_agreement(
     tried: &mut [i64; 72],
     measured: &mut [i64; 6],
 ) -> Agreement
-    requires { ⌜ number ≤ 5 ⌝ }
+    requires { ⌜ number ≤ 6 ⌝ }
 {
-    let mut dirs = [0u8; 153];
-    let mut vars = [0u32; 153];
-    let luma = picture::made(72, depth, number);
-    cdef::directions::direction_pass(&mut dirs, &mut vars, &luma, 72, 136, depth);
+    let dirs = directions(found, depth, number);
     let width = halved(72, l.sx);
     let snapshot = picture::made(width, depth, number + 200);
     let original = picture::made(width, depth, number + 300);

@@ -58,7 +58,7 @@ pub fn direction_lines() {
 }
 
 // The sample at a position, 0 past the end.
-fn sample(row: &[u16], at: usize) -> u16 {
+pub fn sample(row: &[u16], at: usize) -> u16 {
     if at < row.len() {
         return row[at];
     }

@@ -1,6 +1,7 @@
 // Runs RULES, Worked lines (docs/RULES.md) through the public calls and prints one line each.
 // The file stdout was written from the rules, not from a run.
 mod blocks; // blocks.rt: lines on one block
+mod chroma; // chroma.rt: lines on a chroma plane
 mod distances; // distances.rt: lines on two blocks
 mod numbers; // numbers.rt: lines on single numbers
 
@@ -10,5 +11,6 @@ fn main() {
     numbers::damping_lines();
     blocks::direction_lines();
     blocks::filter_lines();
+    chroma::chroma_lines();
     distances::distance_lines();
 }

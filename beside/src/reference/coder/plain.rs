@@ -33,6 +33,8 @@ pub struct Frame {
     pub sub_y: usize,
     pub depth: u8,
     pub signalled_damping: u8,
+    /// The direction in chroma of each direction in luma, lent to the reference as `uv_dir`.
+    pub chroma_map: [u8; 8],
     pub lists: Lists,
 }
 
@@ -69,7 +71,7 @@ impl Frame {
         chroma_damping(self.signalled_damping, self.depth)
     }
 
-    /// Repeated from `frame_cdef`, as the next one.
+    /// Repeated from `frame_cdef`.
     fn chroma_visible(&self) -> (usize, usize) {
         (
             self.visible_width.div_ceil(1 << self.sub_x),
@@ -78,7 +80,7 @@ impl Frame {
     }
 
     fn chroma_directions(&self) -> [usize; 8] {
-        chroma_direction_map(self.sub_x, self.sub_y).map(usize::from)
+        self.chroma_map.map(usize::from)
     }
 }
 
@@ -114,7 +116,9 @@ pub fn direction_pass(luma: &[u16], width: usize, height: usize, depth: u8) -> (
     (directions, variances)
 }
 
-/// The chroma direction map, whose lines are repeated from `frame_cdef`.
+/// The reference's own chroma direction map, whose lines are repeated from `frame_cdef`. In
+/// 4:4:0 it is the identity and not the standard's map, so it is for the self-test, for
+/// `--own-map` and for counting what differs by the map.
 pub fn chroma_direction_map(sub_x: usize, sub_y: usize) -> [u8; 8] {
     if sub_x == 1 && sub_y == 0 {
         [7, 0, 2, 4, 5, 6, 6, 6]

@@ -2,12 +2,12 @@
 
 use super::drawn::{Drawn, What};
 use super::stated::FrameCase;
-use super::{DampingChoice, Kind, Picture, Size, breaks, questions, show};
+use super::{DampingChoice, Kind, Picture, Size, breaks, map, questions, show};
 use crate::Case;
 use crate::counts::Amount;
 use crate::random::Random;
 use crate::refusals::{Break, of_parts};
-use reference::MARK;
+use reference::{Frame, MARK};
 use std::fmt::{Display, Formatter, Result};
 
 #[derive(Clone, PartialEq)]
@@ -32,6 +32,20 @@ impl Applying {
             dst,
         }
     }
+
+    /// The same for the reference, which reads no visible size here.
+    fn frame(&self) -> Frame {
+        let Size { width, height, .. } = self.picture.size;
+        self.picture.frame((width, height))
+    }
+
+    /// The destination as the reference leaves it.
+    fn applied(&self, frame: &Frame) -> Vec<u16> {
+        let (_, _, apply) = self.picture.kind.rust();
+        let mut dst = self.dst.clone();
+        apply(frame, &mut dst, &self.snapshot, &self.pairs());
+        dst
+    }
 }
 
 impl Display for Applying {
@@ -53,12 +67,7 @@ impl Case for Applying {
     }
 
     fn result(&self) -> Vec<u16> {
-        let p = &self.picture;
-        let (_, _, apply) = p.kind.rust();
-        let mut dst = self.dst.clone();
-        let frame = p.frame((p.size.width, p.size.height));
-        apply(&frame, &mut dst, &self.snapshot, &self.pairs());
-        dst
+        self.applied(&self.frame())
     }
 
     /// The whole plane.
@@ -94,6 +103,14 @@ impl FrameCase for Applying {
     fn pairs(&self) -> Vec<(u8, u8)> {
         let both = self.primaries.iter().zip(&self.secondaries);
         both.map(|(&p, &s)| (p, s)).collect()
+    }
+
+    fn by_other_map(&self, due: &Vec<u16>) -> Amount {
+        let other = map::with_other(self.frame()).map(|frame| self.applied(&frame));
+        Amount {
+            by_map: other.map_or(0, |other| map::apart(due, &other)),
+            ..Amount::default()
+        }
     }
 
     fn breaks(kind: Kind) -> Vec<Break<Self>> {

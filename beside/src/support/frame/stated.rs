@@ -4,6 +4,7 @@
 use super::drawn::Drawn;
 use super::{DampingChoice, Kind, Size};
 use crate::Case;
+use crate::counts::Amount;
 use crate::planes::SIDE_MAX;
 use crate::random::Random;
 use crate::refusals::{Break, Stated, alone, broken};
@@ -29,6 +30,12 @@ pub trait FrameCase: Case + Clone + PartialEq + 'static {
     /// The units' pairs, or the one for all units.
     fn pairs(&self) -> Vec<(u8, u8)> {
         Vec::new()
+    }
+
+    /// How much of the reference's answer to an accepted case is another one by the other
+    /// chroma direction map: the standard's, or the reference's own.
+    fn by_other_map(&self, _due: &Self::Value) -> Amount {
+        Amount::default()
     }
 
     /// Each failing check, to be made alone and in twos.

@@ -3,11 +3,12 @@
 use super::comparing::{BUILT, Compared};
 use super::drawn::{Drawn, What};
 use super::stated::FrameCase;
-use super::{DampingChoice, Kind, Size, breaks, questions};
+use super::{DampingChoice, Kind, Size, breaks, map, questions};
 use crate::Case;
 use crate::counts::Amount;
 use crate::random::Random;
 use crate::refusals::{Break, of_parts};
+use reference::Frame;
 use std::fmt::{Display, Formatter, Result};
 
 #[derive(Clone, PartialEq)]
@@ -32,9 +33,7 @@ impl Case for Trying {
     }
 
     fn result(&self) -> Vec<i64> {
-        let c = &self.compared;
-        let (try_all, _, _) = c.picture.kind.rust();
-        try_all(&c.frame(), &c.plane, &c.original).into_flattened()
+        self.tried(&self.compared.frame())
     }
 
     fn amount(&self) -> Amount {
@@ -53,6 +52,13 @@ impl Trying {
             totals: r.list(12 * compared.picture.size.units()),
             compared,
         }
+    }
+
+    /// The reference's totals.
+    fn tried(&self, frame: &Frame) -> Vec<i64> {
+        let c = &self.compared;
+        let (try_all, _, _) = c.picture.kind.rust();
+        try_all(frame, &c.plane, &c.original).into_flattened()
     }
 }
 
@@ -74,6 +80,14 @@ impl FrameCase for Trying {
 
     fn damping(&self) -> Option<DampingChoice> {
         Some(self.compared.picture.damping)
+    }
+
+    fn by_other_map(&self, due: &Vec<i64>) -> Amount {
+        let other = map::with_other(self.compared.frame()).map(|frame| self.tried(&frame));
+        Amount {
+            totals_by_map: other.map_or(0, |other| map::apart(due, &other)),
+            ..Amount::default()
+        }
     }
 
     fn breaks(kind: Kind) -> Vec<Break<Self>> {

@@ -44,7 +44,7 @@ way-of-requires : tie.Need-way-of-requires
 way-of-requires c κs = let s = c .before .before .before .before .before .before .before .before in λ e. omega (arith, number s, listed s .vars-long e)
 
 dir-of-requires : tie.Need-dir-of-requires
-dir-of-requires c κs = let s = c .before .before .before .before .before .before .before .before .before in (omega (arith, number s, listed s .dirs-long), listed s .dirs-low _)
+dir-of-requires c κs = let s = c .before .before .before .before .before .before .before .before .before in (s .pre .0 .0, omega (arith, number s, listed s .dirs-long), listed s .dirs-low _)
 
 damping-of-requires : tie.Need-damping-of-requires
 damping-of-requires c κs = search needs

@@ -117,13 +117,13 @@ check_sample() {
     [ "$different" = 0 ]
 }
 
-# Compares what the program agreement printed with the reference's answers:
-# check_agreement STORED-FILE [--own-map]
+# Compares what the program agreement or, with --unstated, agreement_unstated printed with the
+# reference's answers: check_agreement STORED-FILE [--own-map | --unstated]
 check_agreement() {
     printed=$1
     shift
     "$out/made" "$@" >"$out/made.txt" || fail "made failed"
     lines_apart agreement "$printed" "$out/made.txt"
-    echo "agreement: $(wc -l <"$out/made.txt") lines, $count different"
+    echo "agreement${1:+ $1}: $(wc -l <"$out/made.txt") lines, $count different"
     [ "$count" = 0 ]
 }

@@ -9,7 +9,7 @@
 #include <string.h>
 
 enum { SIDE = 64, SAMPLES = SIDE * SIDE, BLOCKS = SAMPLES / 64, TRIALS = 12 };
-enum { DEPTH = 8, DAMPING = 5, BY_DAMPING = 0 };
+enum { DEPTH = 8, DAMPING = 5, UNSTATED = 0 };
 
 static const uint8_t primaries[] = {0, 1, 2, 4};
 
@@ -48,7 +48,7 @@ static int try_pairs(void)
 {
     return refused("trying", quern_try_luma(tried, TRIALS, snapshot, SAMPLES, original, SAMPLES,
                                             SIDE, SIDE, SIDE, SIDE, DEPTH, skip, BLOCKS, dirs,
-                                            BLOCKS, vars, BLOCKS, DAMPING, 0, BY_DAMPING));
+                                            BLOCKS, vars, BLOCKS, DAMPING, UNSTATED));
 }
 
 /* Taps read the snapshot; the result is written into a copy of it. */
@@ -57,8 +57,8 @@ static int apply(uint8_t primary, uint8_t secondary)
     memcpy(filtered, snapshot, sizeof filtered);
     return refused("applying", quern_apply_luma(filtered, SAMPLES, snapshot, SAMPLES, SIDE, SIDE,
                                                 DEPTH, skip, BLOCKS, dirs, BLOCKS, vars, BLOCKS,
-                                                &primary, 1, &secondary, 1, DAMPING, 0,
-                                                BY_DAMPING));
+                                                &primary, 1, &secondary, 1, DAMPING,
+                                                UNSTATED));
 }
 
 /* With the pair 0, 0: the filtered plane as it stands. */
@@ -67,7 +67,7 @@ static int measure(void)
     return refused("measuring", quern_measure_luma(&measured, 1, scratch, SIDE * 8, filtered,
                                                    SAMPLES, original, SAMPLES, SIDE, SIDE, SIDE,
                                                    SIDE, DEPTH, skip, BLOCKS, dirs, BLOCKS, vars,
-                                                   BLOCKS, 0, 0, DAMPING, 0, BY_DAMPING));
+                                                   BLOCKS, 0, 0, DAMPING, UNSTATED));
 }
 
 int main(void)

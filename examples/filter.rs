@@ -13,8 +13,8 @@ const SAMPLES: usize = SIDE * SIDE;
 const BLOCKS: usize = SAMPLES / 64;
 const DEPTH: u8 = 8;
 const PRIMARIES: [u8; 4] = [0, 1, 2, 4];
-/// The signalled damping, an unused quality index, and from_quality = 0 (use the damping).
-const DAMPING: (u8, u32, u8) = (5, 0, 0);
+/// The signalled damping, and unstated = 0: it is stated.
+const DAMPING: (u8, u8) = (5, 0);
 
 /// A plane, its original, and the flags, directions and variances of its blocks.
 struct Picture {
@@ -63,7 +63,7 @@ fn find_directions(p: &mut Picture) -> u32 {
 fn try_pairs(tried: &mut [i64; 12], p: &Picture) -> u32 {
     entry!(quern_try_luma: tried; p.snapshot, p.original;
         SIDE, SIDE, SIDE, SIDE, DEPTH; p.skip, p.dirs, p.vars;
-        DAMPING.0, DAMPING.1, DAMPING.2)
+        DAMPING.0, DAMPING.1)
 }
 
 /// Taps read the snapshot; the result is written into a copy of it.
@@ -71,7 +71,7 @@ fn apply(filtered: &mut [u16], p: &Picture, primary: u8, secondary: u8) -> u32 {
     let (pris, secs) = ([primary], [secondary]);
     entry!(quern_apply_luma: filtered; p.snapshot;
         SIDE, SIDE, DEPTH; p.skip, p.dirs, p.vars, pris, secs;
-        DAMPING.0, DAMPING.1, DAMPING.2)
+        DAMPING.0, DAMPING.1)
 }
 
 /// With the pair 0, 0: the filtered plane as it stands.
@@ -79,7 +79,7 @@ fn measure(measured: &mut [i64; 1], filtered: &[u16], p: &Picture) -> u32 {
     let mut scratch = [0; SIDE * 8];
     entry!(quern_measure_luma: measured, scratch; filtered, p.original;
         SIDE, SIDE, SIDE, SIDE, DEPTH; p.skip, p.dirs, p.vars;
-        0, 0, DAMPING.0, DAMPING.1, DAMPING.2)
+        0, 0, DAMPING.0, DAMPING.1)
 }
 
 /// An error code as a message.

@@ -30,8 +30,8 @@
  *    variance per block; for applying a strength of each kind per unit; for trying 12
  *    totals per unit, for measuring one; 768 for the trial; plane width x block height for
  *    measuring's scratch), and is the visible size from 1 by 1 to the luma size?
- * 8. Is every skip flag 0 or 1, every direction 0 to 7, every variance at most 860,160,
- *    and every strength, damping and quality index in its range?
+ * 8. Is every skip flag, and the flag unstated, 0 or 1, every direction 0 to 7, every
+ *    variance at most 860,160, and every strength, damping and quality index in its range?
  * 9. Is every examined sample below 2^depth? Block filter and trial also accept the mark
  *    16384, an unavailable sample; frame calls do not.
  *
@@ -39,7 +39,8 @@
  * - Strengths. Frame calls: primary 0 to 15, secondary 0, 1, 2 or 4. The block filter:
  *   every working strength from 0 up to 15 (primary) or 4 (secondary) shifted left by
  *   depth - 8. quern_constrain and quern_adjust_pri: 0 to 240.
- * - Signalled damping 3 to 6 (frame calls, quern_luma_damping, quern_chroma_damping).
+ * - Signalled damping 3 to 6 (frame calls where unstated is 0, quern_luma_damping,
+ *   quern_chroma_damping).
  *   Working damping 0 to 31. Quality index (the frame header's base_q_idx) 0 to 255.
  *
  * Samples examined by question 9
@@ -140,8 +141,11 @@ uint32_t quern_squares(const uint16_t *orig, size_t orig_len, const uint16_t *ot
  * (1: skipped), direction and variance per block, (width / 8) x (height / 8) entries. In
  * chroma too dirs are luma's, as quern_direction_pass wrote them; they are mapped inside.
  * There are ceil(width / 64) x ceil(height / 64) units; trying's total of unit u and trial
- * t is totals[12 * u + t]. Where from_quality is 0 the signalled damping is damping; where
- * it is not 0, it is that of the index quality. The other one is not read.
+ * t is totals[12 * u + t]. Where unstated is 0, damping is the signalled damping, 3 to 6.
+ * Where unstated is 1 no damping is stated: damping is ignored and 3 is used, the standard's
+ * value where a frame header has no CDEF fields. Any other unstated fails question 8. For
+ * the damping of a quality index pass what quern_damping wrote, with unstated 0. Applying
+ * must be given the damping that was tried.
  */
 
 /* Direction and variance of each block of a luma plane. Validates 1, 2, 4, 7, 9.
@@ -159,7 +163,7 @@ uint32_t quern_try_luma(int64_t *totals, size_t totals_len, const uint16_t *snap
                         size_t visible_height, uint8_t depth, const uint8_t *skip,
                         size_t skip_len, const uint8_t *dirs, size_t dirs_len,
                         const uint32_t *vars, size_t vars_len, uint8_t damping,
-                        uint32_t quality, uint8_t from_quality);
+                        uint8_t unstated);
 
 /* Trying in a chroma plane, by the sum of squared differences; the visible sides are luma's.
  * Validates 1, 2, 3, 4, 7, 8, 9. Writes totals, 12 per unit. */
@@ -168,8 +172,7 @@ uint32_t quern_try_chroma(int64_t *totals, size_t totals_len, const uint16_t *sn
                           size_t width, size_t height, uint8_t sx, uint8_t sy,
                           size_t visible_width, size_t visible_height, uint8_t depth,
                           const uint8_t *skip, size_t skip_len, const uint8_t *dirs,
-                          size_t dirs_len, uint8_t damping, uint32_t quality,
-                          uint8_t from_quality);
+                          size_t dirs_len, uint8_t damping, uint8_t unstated);
 
 /* Measuring in luma: for each unit the total of the distances between the original and the
  * plane filtered with one pair; with 0, 0 the plane as it stands. scratch holds width x 8
@@ -182,7 +185,7 @@ uint32_t quern_measure_luma(int64_t *totals, size_t totals_len, uint16_t *scratc
                             uint8_t depth, const uint8_t *skip, size_t skip_len,
                             const uint8_t *dirs, size_t dirs_len, const uint32_t *vars,
                             size_t vars_len, uint8_t primary, uint8_t secondary,
-                            uint8_t damping, uint32_t quality, uint8_t from_quality);
+                            uint8_t damping, uint8_t unstated);
 
 /* Measuring in a chroma plane, by the sum of squared differences. scratch holds the plane's
  * width x (8 >> sy) samples. Validates 1, 2, 3, 4, 7, 8, 9. Writes totals, one per unit, and
@@ -194,7 +197,7 @@ uint32_t quern_measure_chroma(int64_t *totals, size_t totals_len, uint16_t *scra
                               size_t visible_height, uint8_t depth, const uint8_t *skip,
                               size_t skip_len, const uint8_t *dirs, size_t dirs_len,
                               uint8_t primary, uint8_t secondary, uint8_t damping,
-                              uint32_t quality, uint8_t from_quality);
+                              uint8_t unstated);
 
 /* Applying in luma: the snapshot filtered into dst, each unit with its pair of pris and
  * secs. Validates 1, 2, 4 (of dst too), 7, 8, 9. Writes the blocks of dst that are not
@@ -204,8 +207,7 @@ uint32_t quern_apply_luma(uint16_t *dst, size_t dst_len, const uint16_t *snapsho
                           const uint8_t *skip, size_t skip_len, const uint8_t *dirs,
                           size_t dirs_len, const uint32_t *vars, size_t vars_len,
                           const uint8_t *pris, size_t pris_len, const uint8_t *secs,
-                          size_t secs_len, uint8_t damping, uint32_t quality,
-                          uint8_t from_quality);
+                          size_t secs_len, uint8_t damping, uint8_t unstated);
 
 /* Applying in a chroma plane. Validates 1, 2, 3, 4 (of dst too), 7, 8, 9. Writes as in
  * luma. */
@@ -214,7 +216,7 @@ uint32_t quern_apply_chroma(uint16_t *dst, size_t dst_len, const uint16_t *snaps
                             uint8_t sy, uint8_t depth, const uint8_t *skip, size_t skip_len,
                             const uint8_t *dirs, size_t dirs_len, const uint8_t *pris,
                             size_t pris_len, const uint8_t *secs, size_t secs_len,
-                            uint8_t damping, uint32_t quality, uint8_t from_quality);
+                            uint8_t damping, uint8_t unstated);
 
 /* ---- calls that return their result: nothing is validated or rejected */
 

@@ -139,8 +139,7 @@ fn compared(scene: &Scene, kind: Kind, size: Size) -> Compared {
             vars,
             damping: DampingChoice {
                 signalled: DAMPING,
-                quality: 0,
-                from_quality: 0,
+                unstated: 0,
             },
         },
         visible_width: width,

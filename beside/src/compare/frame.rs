@@ -45,7 +45,13 @@ pub fn compare(report: &mut Report, long: bool, seed: u64) {
     run.both(report, names, chroma, ours::applying);
     for (call, kinds) in [("demand3_luma", &LUMA[..]), ("demand3_chroma", &CHROMA)] {
         report.call(call, |tally| {
-            run.each_picture(|d| kinds.iter().for_each(|&k| demand3::picture(tally, d, k)));
+            let mut ways = demand3::ways();
+            run.each_picture(|d| {
+                for &kind in kinds {
+                    demand3::picture(tally, &mut ways, d, kind);
+                }
+            });
+            ways.check(tally);
         });
     }
 }

@@ -1,9 +1,11 @@
 //! Prints, by the reference's answers alone, what the program `agreement` of this repository
-//! prints: made [--own-map]. The pictures are those of the crate `made_pictures`. `--own-map`
-//! gives the reference its own chroma direction map.
+//! prints: made [--own-map | --unstated]. The pictures are those of the crate `made_pictures`.
+//! `--own-map` gives the reference its own chroma direction map; with `--unstated` it prints
+//! what the program `agreement_unstated` prints.
 
 mod picture;
 mod report;
+mod unstated;
 
 use picture::{HEIGHT, VISIBLE, WIDTH};
 use reference::{Apply, Frame, Lists, Measure, Try};
@@ -11,7 +13,7 @@ use report::Totals;
 use std::process::ExitCode;
 use support::frame::{Kind, map};
 
-/// The signalled damping that luma is given, and chroma's quality index.
+/// The signalled damping that luma is given, and the quality index that gives chroma's.
 const DAMPING: u8 = 5;
 const QUALITY: u8 = 120;
 
@@ -46,8 +48,13 @@ fn chroma(layout: (u8, u8), depth: u8, number: u32) {
 fn directions_in_turn(layout: (u8, u8), depth: u8, number: u32) {
     let name = report::layout(layout);
     println!("chroma {name}, each direction in turn, depth {depth}");
+    chroma_of(layout, depth, number, &in_turn());
+}
+
+/// Each of the eight directions in turn; no variances.
+fn in_turn() -> Blocks {
     let turn = (0..picture::BLOCKS).map(|b| (b % 8) as u8).collect();
-    chroma_of(layout, depth, number, &(turn, Vec::new()));
+    (turn, Vec::new())
 }
 
 fn chroma_of((sx, sy): (u8, u8), depth: u8, number: u32, blocks: &Blocks) {
@@ -85,15 +92,27 @@ fn frame((sx, sy): (u8, u8), depth: u8, damping: u8, (dirs, vars): &Blocks) -> F
     }
 }
 
-/// Tries, applies the units' pairs to a copy of the snapshot, measures the result with pair
-/// 0, 0, and prints the totals.
+/// A line per unit, and whether all agree.
 fn agree(
     f: &Frame,
     number: u32,
     snapshot: &[u16],
     original: &[u16],
-    (try_all, measure, apply): (Try, Measure, Apply),
+    functions: (Try, Measure, Apply),
 ) {
+    let agreed = lines(f, number, snapshot, original, functions);
+    println!("{}", if agreed { "all agree" } else { "different" });
+}
+
+/// Tries, applies the units' pairs to a copy of the snapshot, measures the result with pair
+/// 0, 0, and prints the totals; whether they agree.
+fn lines(
+    f: &Frame,
+    number: u32,
+    snapshot: &[u16],
+    original: &[u16],
+    (try_all, measure, apply): (Try, Measure, Apply),
+) -> bool {
     let trials = picture::trials(f.units(), number);
     let pairs: Vec<(u8, u8)> = trials.iter().map(|&t| picture::pair(t)).collect();
     let tried = try_all(f, snapshot, original);
@@ -108,19 +127,22 @@ fn agree(
         };
         agreed &= totals.print(unit, trial, pairs[unit]);
     }
-    println!("{}", if agreed { "all agree" } else { "different" });
+    agreed
 }
 
 fn main() -> ExitCode {
     let words: Vec<String> = std::env::args().skip(1).collect();
     match words.iter().map(String::as_str).collect::<Vec<_>>()[..] {
-        [] => {}
-        ["--own-map"] => map::use_own(),
+        [] => all(),
+        ["--own-map"] => {
+            map::use_own();
+            all();
+        }
+        ["--unstated"] => unstated::all(),
         _ => {
-            eprintln!("made [--own-map]");
+            eprintln!("made [--own-map | --unstated]");
             return ExitCode::from(2);
         }
     }
-    all();
     ExitCode::SUCCESS
 }

@@ -130,9 +130,9 @@ pub struct Numbers {
     pub sec: u32,
     pub dir: u8,
     pub damping: u8,
+    pub unstated: u8,
     /// The quality index.
     pub quality: u32,
-    pub from_quality: u8,
     pub visible_width: usize,
     pub visible_height: usize,
     pub primary: u8,

@@ -183,11 +183,11 @@ fn frame_numbers(n: &mut Numbers, call: Call, r: &mut Random) {
         n.primary = r.below(16) as u8;
         n.secondary = r.pick(&[0, 1, 2, 4]);
     }
-    // The damping or quality index that is not used holds anything.
-    (n.damping, n.quality, n.from_quality) = if r.below(2) == 0 {
-        (3 + r.below(4) as u8, r.next() as u32, 0)
+    // A damping that is not used holds anything.
+    (n.damping, n.unstated) = if r.below(2) == 0 {
+        (3 + r.below(4) as u8, 0)
     } else {
-        (r.next() as u8, r.below(256) as u32, 1 + r.below(255) as u8)
+        (r.next() as u8, 1)
     };
 }
 

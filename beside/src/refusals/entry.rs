@@ -61,21 +61,21 @@ fn frame(c: &Case) -> u32 {
         DirectionPass => number!(quern_direction_pass: dirs vars plane; n.width, n.height, n.depth;;),
         TryLuma => number!(quern_try_luma: totals plane other;
             n.width, n.height, n.visible_width, n.visible_height, n.depth; skip dirs vars;
-            n.damping, n.quality, n.from_quality),
+            n.damping, n.unstated),
         TryChroma => number!(quern_try_chroma: totals plane other;
             n.width, n.height, n.sx, n.sy, n.visible_width, n.visible_height, n.depth; skip dirs;
-            n.damping, n.quality, n.from_quality),
+            n.damping, n.unstated),
         MeasureLuma => number!(quern_measure_luma: totals dst plane other;
             n.width, n.height, n.visible_width, n.visible_height, n.depth; skip dirs vars;
-            n.primary, n.secondary, n.damping, n.quality, n.from_quality),
+            n.primary, n.secondary, n.damping, n.unstated),
         MeasureChroma => number!(quern_measure_chroma: totals dst plane other;
             n.width, n.height, n.sx, n.sy, n.visible_width, n.visible_height, n.depth; skip dirs;
-            n.primary, n.secondary, n.damping, n.quality, n.from_quality),
+            n.primary, n.secondary, n.damping, n.unstated),
         ApplyLuma => number!(quern_apply_luma: dst plane;
             n.width, n.height, n.depth; skip dirs vars pris secs;
-            n.damping, n.quality, n.from_quality),
+            n.damping, n.unstated),
         _ => number!(quern_apply_chroma: dst plane;
             n.width, n.height, n.sx, n.sy, n.depth; skip dirs pris secs;
-            n.damping, n.quality, n.from_quality),
+            n.damping, n.unstated),
     }
 }

@@ -197,12 +197,12 @@ fn frame_values(c: &mut Case, r: &mut Random) {
         (MeasureLuma | MeasureChroma, 4) => c.n.primary = beyond_u8(15, r),
         (MeasureLuma | MeasureChroma, 5) => c.n.secondary = secondary,
         (_, 6) => {
-            c.n.from_quality = 0;
+            c.n.unstated = 0;
             c.n.damping = r.pick(&SIGNALLED);
         }
         _ => {
-            c.n.from_quality = r.pick(&[1, 2, 128, 255]);
-            c.n.quality = beyond_u32(255, r);
+            c.n.unstated = beyond_u8(1, r);
+            c.n.damping = r.pick(&SIGNALLED);
         }
     }
 }

@@ -149,9 +149,10 @@ fn frame_values(c: &Case) -> bool {
         }
         _ => true,
     };
-    let damping = match n.from_quality {
+    let damping = match n.unstated {
         0 => (3..=6).contains(&n.damping),
-        _ => n.quality <= 255,
+        1 => true,
+        _ => false,
     };
     let flags = c.skip.held.iter().all(|flag| *flag <= 1);
     let directions = c.dirs.held.iter().all(|direction| *direction < 8);

@@ -2,7 +2,7 @@
 
 use crate::last_clamp::Mirror;
 use reference::{Frame, Lists, MARK};
-use support::frame::map;
+use support::frame::{map, unstated};
 use support::report::Tally;
 
 pub fn check(tally: &mut Tally) {
@@ -113,9 +113,14 @@ fn filter(tally: &mut Tally) {
     tally.number("size of a mark", size, 1);
 }
 
-/// Chroma of an 8 by 8 picture, 0 but for a 1 in row 0, column 2: that sample after applying
-/// the pair 1, 0 with luma direction 0.
-fn applied(sub_y: usize, chroma_map: [u8; 8]) -> i64 {
+/// Chroma of an 8 by 8 picture, 0 but for one sample: that sample after applying the pair 1, 0
+/// with luma direction 0.
+fn applied(
+    sub_y: usize,
+    chroma_map: [u8; 8],
+    signalled_damping: u8,
+    (place, sample): (usize, u16),
+) -> i64 {
     let f = Frame {
         width: 8,
         height: 8,
@@ -124,24 +129,30 @@ fn applied(sub_y: usize, chroma_map: [u8; 8]) -> i64 {
         sub_x: 0,
         sub_y,
         depth: 8,
-        signalled_damping: 3,
+        signalled_damping,
         chroma_map,
         lists: Lists::new(&[0], &[0], &[0]),
     };
     let mut snapshot = vec![0; 64 >> sub_y];
-    snapshot[2] = 1;
+    snapshot[place] = sample;
     let mut plane = snapshot.clone();
     reference::apply_cdef_chroma(&f, &mut plane, &snapshot, &[(1, 0)]);
-    plane[2].into()
+    plane[place].into()
 }
 
-/// In 4:4:0 the reference's own map would leave the sample.
+/// A 1 in row 0, column 2: in 4:4:0 the reference's own map would leave it. A 4 in row 2, column
+/// 2: with the damping in force where none is stated it stays, with damping 4 it does not.
 fn chroma(tally: &mut Tally) {
     for (sub_y, result) in [(0, 1), (1, 0)] {
-        tally.number("chroma", applied(sub_y, map::standard(0, sub_y)), result);
+        let got = applied(sub_y, map::standard(0, sub_y), 3, (2, 1));
+        tally.number("chroma", got, result);
     }
     let own = reference::chroma_direction_map(0, 1);
-    tally.number("chroma by its own map", applied(1, own), 1);
+    tally.number("chroma by its own map", applied(1, own, 3, (2, 1)), 1);
+    for (damping, result) in [(unstated::figure(), 4), (reference::cdef_damping(64), 3)] {
+        let got = applied(0, map::standard(0, 0), damping, (18, 4));
+        tally.number("chroma by a damping", got, result);
+    }
 }
 
 fn distance(tally: &mut Tally) {

@@ -11,6 +11,7 @@ pub mod measuring;
 mod questions;
 pub mod stated;
 pub mod trying;
+pub mod unstated;
 
 use crate::joined;
 use crate::random::Random;
@@ -90,37 +91,36 @@ impl Kind {
     }
 }
 
-/// How a call is given its damping: where `from_quality` is 0 by the signalled figure,
-/// else by the quality index. The other one is not read.
+/// How a call is given its damping: where `unstated` is 0 by the signalled figure. Where it
+/// is 1 the call is given none, and the figure is not read.
 #[derive(Clone, Copy, PartialEq)]
 pub struct DampingChoice {
     pub signalled: u8,
-    pub quality: u32,
-    pub from_quality: u8,
+    pub unstated: u8,
 }
 
 impl DampingChoice {
-    /// A figure of 3 to 6, given one way or the other.
+    /// A figure of 3 to 6 in force, in either way where there are two: the figure in force
+    /// where none is given is also left unstated, with any number in its place.
     pub fn random(figure: u8, r: &mut Random) -> Self {
-        let mut choice = DampingChoice {
-            signalled: figure,
-            quality: u32::from(figure - 3) * 64 + r.below(64) as u32,
-            from_quality: r.pick(&[0, 1, 2, 255]),
-        };
-        match (choice.from_quality, r.below(2)) {
-            (0, 0) => choice.quality = r.next() as u32,
-            (1.., 0) => choice.signalled = r.next() as u8,
-            _ => {}
+        if figure != unstated::figure() || r.below(2) == 0 {
+            return DampingChoice {
+                signalled: figure,
+                unstated: 0,
+            };
         }
-        choice
+        let (in_range, any) = (r.between(3, 6) as u8, r.next() as u8);
+        DampingChoice {
+            signalled: r.pick(&[in_range, any]),
+            unstated: 1,
+        }
     }
 
     /// Of a choice that is accepted.
     pub fn in_force(&self) -> u8 {
-        if self.from_quality == 0 {
-            self.signalled
-        } else {
-            reference::cdef_damping(self.quality as u8)
+        match self.unstated {
+            0 => self.signalled,
+            _ => unstated::figure(),
         }
     }
 }
@@ -174,15 +174,19 @@ impl Display for Size {
     }
 }
 
+impl Display for DampingChoice {
+    fn fmt(&self, f: &mut Formatter) -> Result {
+        write!(f, "damping {} {}", self.signalled, self.unstated)
+    }
+}
+
 impl Display for Picture {
     fn fmt(&self, f: &mut Formatter) -> Result {
         match self.kind {
             Kind::Luma => write!(f, "luma of {}", self.size)?,
             Kind::Chroma { sx, sy } => write!(f, "chroma {sx} {sy} of {}", self.size)?,
         }
-        let d = &self.damping;
-        let told = [d.signalled.into(), d.quality, d.from_quality.into()];
-        write!(f, ", damping {}", joined(told))?;
+        write!(f, ", {}", self.damping)?;
         show(f, "skip", &self.skip)?;
         show(f, "dirs", &self.dirs)?;
         show(f, "vars", &self.vars)

@@ -1,17 +1,18 @@
 //! The arguments of the comparing programs: short|long [--seed N] [--only CALL]
-//! [--plant CALL:CASE] [--floor SAMPLES] [--map-floor SAMPLES] [--own-map]
+//! [--plant CALL:CASE] [--floor SAMPLES] [--map-floor SAMPLES] [--own-map] [--unstated N]
 //! `--own-map` gives the reference its own chroma direction map; the self-test, which runs
-//! both maps, is the same with it.
+//! both maps, is the same with it. `--unstated N` takes N, and not 3, for the figure in force
+//! where a call is given no damping; the self-test runs no such call.
 
 use crate::counts::Floors;
-use crate::frame::map;
+use crate::frame::{map, unstated};
 use crate::report::{Plant, Report};
 use std::process::ExitCode;
 
 /// The call whose samples are counted where they differ by the map.
 const BY_MAP: &str = "apply_chroma";
 
-const USAGE: &str = "short|long [--seed N] [--only CALL] [--plant CALL:CASE] [--floor SAMPLES] [--map-floor SAMPLES] [--own-map]";
+const USAGE: &str = "short|long [--seed N] [--only CALL] [--plant CALL:CASE] [--floor SAMPLES] [--map-floor SAMPLES] [--own-map] [--unstated N]";
 
 struct Options {
     long: bool,
@@ -21,6 +22,7 @@ struct Options {
     floor: Option<u64>,
     map_floor: Option<u64>,
     own_map: bool,
+    unstated: Option<u8>,
 }
 
 impl Options {
@@ -52,6 +54,7 @@ fn options() -> Option<Options> {
         floor: None,
         map_floor: None,
         own_map: false,
+        unstated: None,
     };
     while let Some(word) = words.next() {
         if word == "--own-map" {
@@ -65,10 +68,16 @@ fn options() -> Option<Options> {
             "--plant" => options.plant = Some(Plant::parse(&value)?),
             "--floor" => options.floor = Some(value.parse().ok()?),
             "--map-floor" => options.map_floor = Some(value.parse().ok()?),
+            "--unstated" => options.unstated = Some(figure(&value)?),
             _ => return None,
         }
     }
     Some(options)
+}
+
+/// A signalled damping.
+fn figure(word: &str) -> Option<u8> {
+    word.parse().ok().filter(|figure| (3..=6).contains(figure))
 }
 
 /// Prints the seed, runs the comparison and gives the exit status. A long run of all
@@ -86,6 +95,9 @@ pub fn run(
     let floors = options.floors(long_floors);
     if options.own_map {
         map::use_own();
+    }
+    if let Some(figure) = options.unstated {
+        unstated::use_figure(figure);
     }
     println!("{name}, seed {}", options.seed);
     let mut report = Report::new(options.plant, options.only);

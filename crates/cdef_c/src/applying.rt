@@ -3,9 +3,8 @@ ghost use mathlib.Core.Path.{_≡_};
 ghost use Rattle.cdef_spec.specs.Answers.{numberOf};
 ghost use Rattle.cdef_spec.specs.Picture.{lumaPicture, chromaPicture};
 ghost use Rattle.cdef_spec.specs.FrameCalls.{applyingListsOutcome};
-ghost use Rattle.cdef_c.specs.Values.{choiceOf};
+ghost use Rattle.cdef_leaf.specs.Choice.{choiceOf};
 use crate::answer;
-use crate::choice;
 
 // Applying in luma: a primary and a secondary strength per unit.
 #[no_mangle]
@@ -21,13 +20,12 @@ pub extern "C" fn quern_apply_luma(
     pris: &[u8],
     secs: &[u8],
     damping: u8,
-    quality: u32,
-    from_quality: u8,
+    unstated: u8,
 ) -> u32
-    ensures { λ r. ⌜ r ≡ numberOf ((applyingListsOutcome (lumaPicture depth width height (now (skip .entry)) (now (dirs .entry)) (now (vars .entry))) (choiceOf damping quality «from_quality») (now (snapshot .entry)) (now (pris .entry)) (now (secs .entry)) (now (dst .entry))) .answer) ⌝ }
-    ensures { λ _. ⌜ now (dst .exit) ≡ (applyingListsOutcome (lumaPicture depth width height (now (skip .entry)) (now (dirs .entry)) (now (vars .entry))) (choiceOf damping quality «from_quality») (now (snapshot .entry)) (now (pris .entry)) (now (secs .entry)) (now (dst .entry))) .plane ⌝ }
+    ensures { λ r. ⌜ r ≡ numberOf ((applyingListsOutcome (lumaPicture depth width height (now (skip .entry)) (now (dirs .entry)) (now (vars .entry))) (choiceOf damping unstated) (now (snapshot .entry)) (now (pris .entry)) (now (secs .entry)) (now (dst .entry))) .answer) ⌝ }
+    ensures { λ _. ⌜ now (dst .exit) ≡ (applyingListsOutcome (lumaPicture depth width height (now (skip .entry)) (now (dirs .entry)) (now (vars .entry))) (choiceOf damping unstated) (now (snapshot .entry)) (now (pris .entry)) (now (secs .entry)) (now (dst .entry))) .plane ⌝ }
 {
-    let d = choice::choice(damping, quality, from_quality);
+    let d = cdef_leaf::damping::choice_of(damping, unstated);
     answer::number(cdef::applying_lists::apply_luma(
         dst,
         snapshot,
@@ -58,13 +56,12 @@ pub extern "C" fn quern_apply_chroma(
     pris: &[u8],
     secs: &[u8],
     damping: u8,
-    quality: u32,
-    from_quality: u8,
+    unstated: u8,
 ) -> u32
-    ensures { λ r. ⌜ r ≡ numberOf ((applyingListsOutcome (chromaPicture depth width height sx sy (now (skip .entry)) (now (dirs .entry))) (choiceOf damping quality «from_quality») (now (snapshot .entry)) (now (pris .entry)) (now (secs .entry)) (now (dst .entry))) .answer) ⌝ }
-    ensures { λ _. ⌜ now (dst .exit) ≡ (applyingListsOutcome (chromaPicture depth width height sx sy (now (skip .entry)) (now (dirs .entry))) (choiceOf damping quality «from_quality») (now (snapshot .entry)) (now (pris .entry)) (now (secs .entry)) (now (dst .entry))) .plane ⌝ }
+    ensures { λ r. ⌜ r ≡ numberOf ((applyingListsOutcome (chromaPicture depth width height sx sy (now (skip .entry)) (now (dirs .entry))) (choiceOf damping unstated) (now (snapshot .entry)) (now (pris .entry)) (now (secs .entry)) (now (dst .entry))) .answer) ⌝ }
+    ensures { λ _. ⌜ now (dst .exit) ≡ (applyingListsOutcome (chromaPicture depth width height sx sy (now (skip .entry)) (now (dirs .entry))) (choiceOf damping unstated) (now (snapshot .entry)) (now (pris .entry)) (now (secs .entry)) (now (dst .entry))) .plane ⌝ }
 {
-    let d = choice::choice(damping, quality, from_quality);
+    let d = cdef_leaf::damping::choice_of(damping, unstated);
     answer::number(cdef::applying_lists::apply_chroma(
         dst,
         snapshot,

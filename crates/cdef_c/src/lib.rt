@@ -1,7 +1,6 @@
 // The C entries. A call returns its error code (RULES, Questions), 0 where the work is done, and writes only then.
 mod answer; // answer.rt: answers as error codes
 pub mod applying; // applying.rt: a plane filtered
-mod choice; // choice.rt: a damping from bare numbers
 pub mod direction; // direction.rt: the direction of a block
 pub mod directions; // directions.rt: the direction pass
 pub mod distance; // distance.rt: the distance of two blocks

@@ -3,9 +3,8 @@ ghost use mathlib.Core.Path.{_≡_};
 ghost use Rattle.cdef_spec.specs.Answers.{numberOf};
 ghost use Rattle.cdef_spec.specs.Picture.{lumaPicture, chromaPicture};
 ghost use Rattle.cdef_spec.specs.FrameCalls.{measuringOutcome};
-ghost use Rattle.cdef_c.specs.Values.{choiceOf};
+ghost use Rattle.cdef_leaf.specs.Choice.{choiceOf};
 use crate::answer;
-use crate::choice;
 use cdef_spec::UnitPair;
 use cdef_spec::Visible;
 
@@ -27,12 +26,11 @@ pub extern "C" fn quern_measure_luma(
     primary: u8,
     secondary: u8,
     damping: u8,
-    quality: u32,
-    from_quality: u8,
+    unstated: u8,
 ) -> u32
-    ensures { λ r. ⌜ r ≡ numberOf ((measuringOutcome (lumaPicture depth width height (now (skip .entry)) (now (dirs .entry)) (now (vars .entry))) (choiceOf damping quality «from_quality») (record { width = «visible_width»; height = «visible_height» }) (now (plane .entry)) (now (original .entry)) (record { primary = primary; secondary = secondary }) (now (totals .entry)) (now (scratch .entry))) .answer) ⌝ }
-    ensures { λ _. ⌜ now (totals .exit) ≡ (measuringOutcome (lumaPicture depth width height (now (skip .entry)) (now (dirs .entry)) (now (vars .entry))) (choiceOf damping quality «from_quality») (record { width = «visible_width»; height = «visible_height» }) (now (plane .entry)) (now (original .entry)) (record { primary = primary; secondary = secondary }) (now (totals .entry)) (now (scratch .entry))) .totals ⌝ }
-    ensures { λ _. ⌜ now (scratch .exit) ≡ (measuringOutcome (lumaPicture depth width height (now (skip .entry)) (now (dirs .entry)) (now (vars .entry))) (choiceOf damping quality «from_quality») (record { width = «visible_width»; height = «visible_height» }) (now (plane .entry)) (now (original .entry)) (record { primary = primary; secondary = secondary }) (now (totals .entry)) (now (scratch .entry))) .scratch ⌝ }
+    ensures { λ r. ⌜ r ≡ numberOf ((measuringOutcome (lumaPicture depth width height (now (skip .entry)) (now (dirs .entry)) (now (vars .entry))) (choiceOf damping unstated) (record { width = «visible_width»; height = «visible_height» }) (now (plane .entry)) (now (original .entry)) (record { primary = primary; secondary = secondary }) (now (totals .entry)) (now (scratch .entry))) .answer) ⌝ }
+    ensures { λ _. ⌜ now (totals .exit) ≡ (measuringOutcome (lumaPicture depth width height (now (skip .entry)) (now (dirs .entry)) (now (vars .entry))) (choiceOf damping unstated) (record { width = «visible_width»; height = «visible_height» }) (now (plane .entry)) (now (original .entry)) (record { primary = primary; secondary = secondary }) (now (totals .entry)) (now (scratch .entry))) .totals ⌝ }
+    ensures { λ _. ⌜ now (scratch .exit) ≡ (measuringOutcome (lumaPicture depth width height (now (skip .entry)) (now (dirs .entry)) (now (vars .entry))) (choiceOf damping unstated) (record { width = «visible_width»; height = «visible_height» }) (now (plane .entry)) (now (original .entry)) (record { primary = primary; secondary = secondary }) (now (totals .entry)) (now (scratch .entry))) .scratch ⌝ }
 {
     let visible = Visible {
         width: visible_width,
@@ -42,7 +40,7 @@ pub extern "C" fn quern_measure_luma(
         primary: primary,
         secondary: secondary,
     };
-    let d = choice::choice(damping, quality, from_quality);
+    let d = cdef_leaf::damping::choice_of(damping, unstated);
     answer::number(cdef::measuring::measure_luma(
         totals,
         scratch,
@@ -79,12 +77,11 @@ pub extern "C" fn quern_measure_chroma(
     primary: u8,
     secondary: u8,
     damping: u8,
-    quality: u32,
-    from_quality: u8,
+    unstated: u8,
 ) -> u32
-    ensures { λ r. ⌜ r ≡ numberOf ((measuringOutcome (chromaPicture depth width height sx sy (now (skip .entry)) (now (dirs .entry))) (choiceOf damping quality «from_quality») (record { width = «visible_width»; height = «visible_height» }) (now (plane .entry)) (now (original .entry)) (record { primary = primary; secondary = secondary }) (now (totals .entry)) (now (scratch .entry))) .answer) ⌝ }
-    ensures { λ _. ⌜ now (totals .exit) ≡ (measuringOutcome (chromaPicture depth width height sx sy (now (skip .entry)) (now (dirs .entry))) (choiceOf damping quality «from_quality») (record { width = «visible_width»; height = «visible_height» }) (now (plane .entry)) (now (original .entry)) (record { primary = primary; secondary = secondary }) (now (totals .entry)) (now (scratch .entry))) .totals ⌝ }
-    ensures { λ _. ⌜ now (scratch .exit) ≡ (measuringOutcome (chromaPicture depth width height sx sy (now (skip .entry)) (now (dirs .entry))) (choiceOf damping quality «from_quality») (record { width = «visible_width»; height = «visible_height» }) (now (plane .entry)) (now (original .entry)) (record { primary = primary; secondary = secondary }) (now (totals .entry)) (now (scratch .entry))) .scratch ⌝ }
+    ensures { λ r. ⌜ r ≡ numberOf ((measuringOutcome (chromaPicture depth width height sx sy (now (skip .entry)) (now (dirs .entry))) (choiceOf damping unstated) (record { width = «visible_width»; height = «visible_height» }) (now (plane .entry)) (now (original .entry)) (record { primary = primary; secondary = secondary }) (now (totals .entry)) (now (scratch .entry))) .answer) ⌝ }
+    ensures { λ _. ⌜ now (totals .exit) ≡ (measuringOutcome (chromaPicture depth width height sx sy (now (skip .entry)) (now (dirs .entry))) (choiceOf damping unstated) (record { width = «visible_width»; height = «visible_height» }) (now (plane .entry)) (now (original .entry)) (record { primary = primary; secondary = secondary }) (now (totals .entry)) (now (scratch .entry))) .totals ⌝ }
+    ensures { λ _. ⌜ now (scratch .exit) ≡ (measuringOutcome (chromaPicture depth width height sx sy (now (skip .entry)) (now (dirs .entry))) (choiceOf damping unstated) (record { width = «visible_width»; height = «visible_height» }) (now (plane .entry)) (now (original .entry)) (record { primary = primary; secondary = secondary }) (now (totals .entry)) (now (scratch .entry))) .scratch ⌝ }
 {
     let visible = Visible {
         width: visible_width,
@@ -94,7 +91,7 @@ pub extern "C" fn quern_measure_chroma(
         primary: primary,
         secondary: secondary,
     };
-    let d = choice::choice(damping, quality, from_quality);
+    let d = cdef_leaf::damping::choice_of(damping, unstated);
     answer::number(cdef::measuring::measure_chroma(
         totals,
         scratch,

@@ -3,9 +3,8 @@ ghost use mathlib.Core.Path.{_≡_};
 ghost use Rattle.cdef_spec.specs.Answers.{numberOf};
 ghost use Rattle.cdef_spec.specs.Picture.{lumaPicture, chromaPicture};
 ghost use Rattle.cdef_spec.specs.FrameCalls.{tryingOutcome};
-ghost use Rattle.cdef_c.specs.Values.{choiceOf};
+ghost use Rattle.cdef_leaf.specs.Choice.{choiceOf};
 use crate::answer;
-use crate::choice;
 use cdef_spec::Visible;
 
 // Trying in luma: twelve totals per unit.
@@ -23,17 +22,16 @@ pub extern "C" fn quern_try_luma(
     dirs: &[u8],
     vars: &[u32],
     damping: u8,
-    quality: u32,
-    from_quality: u8,
+    unstated: u8,
 ) -> u32
-    ensures { λ r. ⌜ r ≡ numberOf ((tryingOutcome (lumaPicture depth width height (now (skip .entry)) (now (dirs .entry)) (now (vars .entry))) (choiceOf damping quality «from_quality») (record { width = «visible_width»; height = «visible_height» }) (now (snapshot .entry)) (now (original .entry)) (now (totals .entry))) .answer) ⌝ }
-    ensures { λ _. ⌜ now (totals .exit) ≡ (tryingOutcome (lumaPicture depth width height (now (skip .entry)) (now (dirs .entry)) (now (vars .entry))) (choiceOf damping quality «from_quality») (record { width = «visible_width»; height = «visible_height» }) (now (snapshot .entry)) (now (original .entry)) (now (totals .entry))) .totals ⌝ }
+    ensures { λ r. ⌜ r ≡ numberOf ((tryingOutcome (lumaPicture depth width height (now (skip .entry)) (now (dirs .entry)) (now (vars .entry))) (choiceOf damping unstated) (record { width = «visible_width»; height = «visible_height» }) (now (snapshot .entry)) (now (original .entry)) (now (totals .entry))) .answer) ⌝ }
+    ensures { λ _. ⌜ now (totals .exit) ≡ (tryingOutcome (lumaPicture depth width height (now (skip .entry)) (now (dirs .entry)) (now (vars .entry))) (choiceOf damping unstated) (record { width = «visible_width»; height = «visible_height» }) (now (snapshot .entry)) (now (original .entry)) (now (totals .entry))) .totals ⌝ }
 {
     let visible = Visible {
         width: visible_width,
         height: visible_height,
     };
-    let d = choice::choice(damping, quality, from_quality);
+    let d = cdef_leaf::damping::choice_of(damping, unstated);
     answer::number(cdef::trying::try_luma(
         totals,
         snapshot,
@@ -65,17 +63,16 @@ pub extern "C" fn quern_try_chroma(
     skip: &[u8],
     dirs: &[u8],
     damping: u8,
-    quality: u32,
-    from_quality: u8,
+    unstated: u8,
 ) -> u32
-    ensures { λ r. ⌜ r ≡ numberOf ((tryingOutcome (chromaPicture depth width height sx sy (now (skip .entry)) (now (dirs .entry))) (choiceOf damping quality «from_quality») (record { width = «visible_width»; height = «visible_height» }) (now (snapshot .entry)) (now (original .entry)) (now (totals .entry))) .answer) ⌝ }
-    ensures { λ _. ⌜ now (totals .exit) ≡ (tryingOutcome (chromaPicture depth width height sx sy (now (skip .entry)) (now (dirs .entry))) (choiceOf damping quality «from_quality») (record { width = «visible_width»; height = «visible_height» }) (now (snapshot .entry)) (now (original .entry)) (now (totals .entry))) .totals ⌝ }
+    ensures { λ r. ⌜ r ≡ numberOf ((tryingOutcome (chromaPicture depth width height sx sy (now (skip .entry)) (now (dirs .entry))) (choiceOf damping unstated) (record { width = «visible_width»; height = «visible_height» }) (now (snapshot .entry)) (now (original .entry)) (now (totals .entry))) .answer) ⌝ }
+    ensures { λ _. ⌜ now (totals .exit) ≡ (tryingOutcome (chromaPicture depth width height sx sy (now (skip .entry)) (now (dirs .entry))) (choiceOf damping unstated) (record { width = «visible_width»; height = «visible_height» }) (now (snapshot .entry)) (now (original .entry)) (now (totals .entry))) .totals ⌝ }
 {
     let visible = Visible {
         width: visible_width,
         height: visible_height,
     };
-    let d = choice::choice(damping, quality, from_quality);
+    let d = cdef_leaf::damping::choice_of(damping, unstated);
     answer::number(cdef::trying::try_chroma(
         totals,
         snapshot,

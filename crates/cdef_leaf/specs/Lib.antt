@@ -1,3 +1,5 @@
--- The divisors of the direction cost: a statement that a reader must trust, and its proof.
+-- Definitions and statements that a reader must trust (Choice, Divisor), and the proofs of the statements (ChoiceLaws, DivisorLaws).
+pub mod Choice
+pub mod ChoiceLaws
 pub mod Divisor
 pub mod DivisorLaws

@@ -1,8 +1,9 @@
-// The signalled damping, and the working damping by the luma and the chroma rule.
+// The signalled damping of a quality index and of a frame call, and the working damping by the luma and the chroma rule.
 ghost use mathlib.Core.Path.{_≡_};
 ghost use Prim.Native.Nat.{_≤_};
 ghost use Rattle.cdef_spec.specs.Document01.{qualityDamping, inForce, lumaDamping, chromaDamping};
 ghost use Rattle.cdef_spec.specs.Questions.{signalledTaken};
+ghost use Rattle.cdef_leaf.specs.Choice.{choiceOf};
 use cdef_spec::DampingChoice;
 use cdef_spec::SignalledDamping;
 use cdef_spec::WorkingDamping;
@@ -18,19 +19,28 @@ pub fn cdef_damping(index: u32) -> SignalledDamping
     SignalledDamping(3 + step as u8)
 }
 
-// The figure in force; 0 where an index has none.
+// The figure in force: the signalled damping given, or 3 where none is stated.
 pub fn in_force(choice: DampingChoice) -> SignalledDamping
     ensures { λ r. ⌜ r ≡ inForce choice ⌝ }
 {
     match choice {
         DampingChoice::Given(d) => d,
-        DampingChoice::FromQuality(index) => {
-            if 255 < index {
-                return SignalledDamping(0);
-            }
-            cdef_damping(index)
-        }
+        DampingChoice::Unstated => SignalledDamping(3),
     }
+}
+
+// A frame call's damping as C passes it: a signalled damping, and a flag that is 1 where none is stated.
+// Another flag becomes the signalled damping 0, which question 8 rejects.
+pub fn choice_of(damping: u8, unstated: u8) -> DampingChoice
+    ensures { λ r. ⌜ r ≡ choiceOf damping unstated ⌝ }
+{
+    if unstated == 0 {
+        return DampingChoice::Given(SignalledDamping(damping));
+    }
+    if unstated == 1 {
+        return DampingChoice::Unstated;
+    }
+    DampingChoice::Given(SignalledDamping(0))
 }
 
 // Whether a signalled damping is in range: 3 to 6.

@@ -6,10 +6,10 @@ pub struct SignalledDamping(pub u8);
 // The damping as constrain takes it, 0 to 31: derived from the signalled one by the luma or the chroma rule.
 pub struct WorkingDamping(pub u8);
 
-// How a frame call is given its damping: the signalled figure, or a quality index to compute it from.
+// A frame call's damping: the signalled figure, or none stated, as in a frame header without CDEF fields.
 pub enum DampingChoice {
     Given(SignalledDamping),
-    FromQuality(u32),
+    Unstated,
 }
 
 // The pair (RULES, Glossary) of a unit, a 64 by 64 luma square: its primary and its secondary strength, as signalled.

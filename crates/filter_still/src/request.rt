@@ -23,11 +23,13 @@ fn damping_argument() -> DampingText {
     let mut space = io::buffer();
     let n = os::arg(3, &mut space);
     let answer = damping::damping_of(&space[..n]);
-    if let DampingText::NoDamping = answer {
-        say::argument(
+    match answer {
+        DampingText::Signalled(d) => {}
+        DampingText::Rejected(no) => say::refusal(b"the damping of the quality index", no),
+        DampingText::NotDamping => say::argument(
             b"DAMPING is q and a quality index, or d and a signalled damping, not ",
             &space[..n],
-        );
+        ),
     }
     answer
 }
@@ -45,7 +47,7 @@ fn strength_argument(i: usize, no: &[u8]) -> Number {
 
 // The request of arguments 3 to 5; Wrong, once the error is reported.
 pub fn request_of_arguments() -> Asked {
-    let DampingText::Choice(damping) = damping_argument() else {
+    let DampingText::Signalled(damping) = damping_argument() else {
         return Asked::Wrong;
     };
     let Number::Value(primary) = strength_argument(4, b"PRIMARY is a number, not ") else {
@@ -55,7 +57,7 @@ pub fn request_of_arguments() -> Asked {
         return Asked::Wrong;
     };
     Asked::Request(Request {
-        damping,
+        damping: DampingChoice::Given(damping),
         pair: UnitPair {
             primary: damping::small(primary),
             secondary: damping::small(secondary),

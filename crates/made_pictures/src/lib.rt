@@ -1,8 +1,8 @@
 // Synthetic pictures for the programs that try, apply and measure them, and what is printed of one.
 mod agreed; // agreed.rt: the pairs as one slice or as two lists
-mod lists; // lists.rt: skip flags and pairs
-mod picture; // picture.rt: the samples of a synthetic picture
-mod report; // report.rt: what is printed
+pub mod lists; // lists.rt: skip flags and pairs
+pub mod picture; // picture.rt: the samples of a synthetic picture
+pub mod report; // report.rt: what is printed
 pub mod run; // run.rt: one picture
 
 use run::Layout;

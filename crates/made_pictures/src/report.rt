@@ -38,12 +38,19 @@ pub fn units(
 )
     requires { ⌜ number ≤ 6 ⌝ }
 {
+    lines(number, pris, secs, tried, measured);
+    outcome(a);
+}
+
+// A line per unit.
+pub fn lines(number: u32, pris: &[u8; 6], secs: &[u8; 6], tried: &[i64; 72], measured: &[i64; 6])
+    requires { ⌜ number ≤ 6 ⌝ }
+{
     for u in 0..6 {
         unit(u, pris[u], secs[u], tried, measured[u]);
         let trial = lists::trial_of(u, number);
         same(tried[u * 12 + trial], measured[u]);
     }
-    outcome(a);
 }
 
 // Ends a unit's line.

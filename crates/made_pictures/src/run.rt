@@ -7,6 +7,7 @@ use crate::lists;
 use crate::picture;
 use crate::report;
 use cdef_agree::Agreement;
+use cdef_spec::DampingAnswer;
 use cdef_spec::DampingChoice;
 use cdef_spec::SignalledDamping;
 use cdef_spec::Visible;
@@ -17,7 +18,7 @@ pub struct Layout {
     pub sy: u8,
 }
 
-fn visible() -> Visible {
+pub fn visible() -> Visible {
     Visible {
         width: 70,
         height: 131,
@@ -176,7 +177,15 @@ fn chroma_agreement(
     )
 }
 
-// Passes chroma planes of their size; chroma is given its damping by a quality index.
+// Chroma's damping: that of quality index 120, by its call. An index that the call rejected would become the error code, 8, as a damping, which the calls reject.
+fn of_index() -> DampingChoice {
+    match cdef::numbers::damping(120) {
+        DampingAnswer::Damping(d) => DampingChoice::Given(d),
+        DampingAnswer::NoDamping(n) => DampingChoice::Given(SignalledDamping(n)),
+    }
+}
+
+// Passes chroma planes of their size.
 fn lent(
     as_pairs: bool,
     l: Layout,
@@ -213,6 +222,6 @@ fn lent(
         dirs,
         pris,
         secs,
-        DampingChoice::FromQuality(120),
+        of_index(),
     )
 }

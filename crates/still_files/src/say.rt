@@ -46,7 +46,7 @@ pub fn different() {
 }
 
 // A rejected call: its error code (RULES, Questions) and what that means.
-fn refusal(call: &[u8], n: u8) {
+pub fn refusal(call: &[u8], n: u8) {
     text(call);
     text(b" returned error code ");
     io::print_decimal(libc::STDERR_FILENO, n as u64);

@@ -3,21 +3,28 @@ use Prim.Native.Nat.{ℕ, min}
 use mathlib.Core.Bool.{cond}
 use mathlib.Core.List.{List, [], _∷_}
 use lib.Dec.{eqb}
-use Rattle.cdef_spec.specs.declared.DampingChoice.the-variants.{Given, FromQuality}
+use Rattle.cdef_spec.specs.declared.SignalledDamping.{SignalledDamping}
+use Rattle.cdef_spec.specs.Answers.{Result, taken, refused}
+use Rattle.cdef_spec.specs.BlockCalls.{dampingOutcome}
 use Rattle.pgm.specs.declared.numbers.Number.{Number}
 use Rattle.pgm.specs.declared.numbers.Number.the-variants.{Value, NoNumber}
 use Rattle.pgm.specs.Number.{numberOf}
 use Rattle.still_steps.specs.declared.damping.DampingText.{DampingText}
-use Rattle.still_steps.specs.declared.damping.DampingText.the-variants.{Choice, NoDamping}
+use Rattle.still_steps.specs.declared.damping.DampingText.the-variants.{Signalled, Rejected, NotDamping}
 
--- what a letter says of a number: q (113) a quality index, d (100) a signalled damping. One above 255 counts as 255, which no call accepts
+-- the result of the call for a quality index
+unfoldable pub ofResult : Result SignalledDamping → DampingText
+ofResult (taken d) = Signalled d
+ofResult (refused n) = Rejected n
+
+-- what a letter says of a number: q (113) a quality index, whose call decides; d (100) a signalled damping, where more than 255 counts as 255, which question 8 rejects
 abbrev pub lettered : ℕ → Number → DampingText
-lettered letter NoNumber = NoDamping
+lettered letter NoNumber = NotDamping
 lettered letter (Value n) =
-    cond (eqb letter 113) (Choice (FromQuality n))
-    (cond (eqb letter 100) (Choice (Given (record { 0 = min n 255 }))) NoDamping)
+    cond (eqb letter 113) (ofResult (dampingOutcome n))
+    (cond (eqb letter 100) (Signalled (record { 0 = min n 255 })) NotDamping)
 
 -- q and a quality index, or d and a signalled damping
 unfoldable pub dampingOf : List ℕ → DampingText
-dampingOf [] = NoDamping
+dampingOf [] = NotDamping
 dampingOf (letter ∷ s) = lettered letter (numberOf s)

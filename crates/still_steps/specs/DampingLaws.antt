@@ -8,15 +8,19 @@ use borrow.Author.Tests.{ne-eqb}
 use lib.Dec.{eqb}
 use lib.ListN.{getD, length, take, drop}
 use lib.Seq.{take-all}
-use Rattle.cdef_spec.specs.declared.DampingChoice.the-variants.{Given, FromQuality}
+use Rattle.cdef_spec.specs.declared.SignalledDamping.{SignalledDamping}
+use Rattle.cdef_spec.specs.declared.DampingAnswer.{DampingAnswer}
+use Rattle.cdef_spec.specs.declared.DampingAnswer.the-variants.{Damping, NoDamping}
+use Rattle.cdef_spec.specs.Answers.{readDamping}
+use Rattle.cdef_spec.specs.BlockCalls.{dampingOutcome}
 use Rattle.pgm.specs.declared.numbers.Number.{Number}
 use Rattle.pgm.specs.declared.numbers.Number.the-variants.{Value, NoNumber}
 use Rattle.pgm.specs.Text.{digitCount, decimal, most}
 use Rattle.pgm.specs.Number.{numberOf}
-use Rattle.still_steps.specs.declared.damping.DampingText.the-variants.{Choice, NoDamping}
-use Rattle.still_steps.specs.Damping.{lettered, dampingOf}
+use Rattle.still_steps.specs.declared.damping.DampingText.the-variants.{Signalled, Rejected, NotDamping}
+use Rattle.still_steps.specs.Damping.{ofResult, lettered, dampingOf}
 
-pub no-letter : (s : List ℕ) → length s ≡ 0 → NoDamping ≡ dampingOf s
+pub no-letter : (s : List ℕ) → length s ≡ 0 → NotDamping ≡ dampingOf s
 unfolding dampingOf
 no-letter [] h = refl
 no-letter (b ∷ s) h = absurd (omega arith)
@@ -32,17 +36,28 @@ module _ (s : List ℕ) (number : Number) (some : length s ≡ 0 → ⊥) (e : n
           let n : length (b ∷ s) - 1 ≡ length s = omega arith in
           ap (lettered b) (e ∙ ap numberOf (ap (λ (k : ℕ). take k s) n ∙ take-all (length s) s (omega arith)))
 
-  pub damping-none : number ≡ NoNumber → NoDamping ≡ dampingOf s
+  pub damping-none : number ≡ NoNumber → NotDamping ≡ dampingOf s
   damping-none n = ap (lettered (getD s 0 0)) (sym n) ∙ by-letter
 
-  pub damping-quality : (n : ℕ) → number ≡ Value n → getD s 0 0 ≡ 113 → Choice (FromQuality n) ≡ dampingOf s
+  pub damping-quality : (n : ℕ) → number ≡ Value n → getD s 0 0 ≡ 113 → ofResult (dampingOutcome n) ≡ dampingOf s
   damping-quality n v l = rw (← by-letter, v, l)
 
-  pub damping-given : (n d : ℕ) → number ≡ Value n → (getD s 0 0 ≡ 113 → ⊥) → getD s 0 0 ≡ 100 → d ≡ min n 255 → Choice (Given (record { 0 = d })) ≡ dampingOf s
+  pub damping-given : (n d : ℕ) → number ≡ Value n → (getD s 0 0 ≡ 113 → ⊥) → getD s 0 0 ≡ 100 → d ≡ min n 255 → Signalled (record { 0 = d }) ≡ dampingOf s
   damping-given n d v k l m = rw (← by-letter, v, l, m)
 
-  pub damping-other : (n : ℕ) → number ≡ Value n → (getD s 0 0 ≡ 113 → ⊥) → (getD s 0 0 ≡ 100 → ⊥) → NoDamping ≡ dampingOf s
+  pub damping-other : (n : ℕ) → number ≡ Value n → (getD s 0 0 ≡ 113 → ⊥) → (getD s 0 0 ≡ 100 → ⊥) → NotDamping ≡ dampingOf s
   damping-other n v k l = rw (← by-letter, v, ne-eqb (getD s 0 0) 113 k, ne-eqb (getD s 0 0) 100 l)
+
+-- ---- a quality index, by what its call returned
+
+module _ (index : ℕ) (a : DampingAnswer) (e : readDamping a ≡ dampingOutcome index) where
+  pub index-given : (d : SignalledDamping) → a ≡ Damping d → Signalled d ≡ ofResult (dampingOutcome index)
+  unfolding readDamping ofResult
+  index-given d v = rw (← e, v)
+
+  pub index-rejected : (n : ℕ) → a ≡ NoDamping n → Rejected n ≡ ofResult (dampingOutcome index)
+  unfolding readDamping ofResult
+  index-rejected n v = rw (← e, v)
 
 -- ---- a number out of text fits a u32
 

@@ -1,15 +1,18 @@
 // A damping out of text.
 ghost use Prim.Native.Nat.{min};
 ghost use mathlib.Core.Path.{_≡_};
-ghost use Rattle.still_steps.specs.Damping.{dampingOf};
-use cdef_spec::DampingChoice;
+ghost use Rattle.cdef_spec.specs.BlockCalls.{dampingOutcome};
+ghost use Rattle.still_steps.specs.Damping.{ofResult, dampingOf};
+use cdef_spec::DampingAnswer;
 use cdef_spec::SignalledDamping;
 use pgm::numbers;
 use pgm::numbers::Number;
 
+// A signalled damping; or the error code of a quality index that its call rejected; or the text is neither.
 pub enum DampingText {
-    Choice(DampingChoice),
-    NoDamping,
+    Signalled(SignalledDamping),
+    Rejected(u8),
+    NotDamping,
 }
 
 // A number as a u8; every larger one is 255, which no call accepts.
@@ -22,22 +25,32 @@ pub fn small(n: usize) -> u8
     n as u8
 }
 
+// The signalled damping of a quality index, by its call.
+fn of_index(index: u32) -> DampingText
+    ensures { λ r. ⌜ r ≡ ofResult (dampingOutcome index) ⌝ }
+{
+    match cdef::numbers::damping(index) {
+        DampingAnswer::Damping(d) => DampingText::Signalled(d),
+        DampingAnswer::NoDamping(n) => DampingText::Rejected(n),
+    }
+}
+
 // q and a quality index, or d and a signalled damping.
 pub fn damping_of(text: &[u8]) -> DampingText
     ensures { λ r. ⌜ r ≡ dampingOf (now (text .entry)) ⌝ }
 {
     if text.len() == 0 {
-        return DampingText::NoDamping;
+        return DampingText::NotDamping;
     }
     let letter = text[0];
     let Number::Value(n) = numbers::number_of(&text[1..]) else {
-        return DampingText::NoDamping;
+        return DampingText::NotDamping;
     };
     if letter == b'q' {
-        return DampingText::Choice(DampingChoice::FromQuality(n as u32));
+        return of_index(n as u32);
     }
     if letter == b'd' {
-        return DampingText::Choice(DampingChoice::Given(SignalledDamping(small(n))));
+        return DampingText::Signalled(SignalledDamping(small(n)));
     }
-    DampingText::NoDamping
+    DampingText::NotDamping
 }

@@ -12,5 +12,6 @@ fn main() {
     blocks::direction_lines();
     blocks::filter_lines();
     chroma::chroma_lines();
+    chroma::damping_lines();
     distances::distance_lines();
 }

@@ -1,6 +1,7 @@
 //! The agreement theorem (RULES, Agreement): trying, then applying any of the twelve pairs
 //! unit by unit to a copy of the snapshot, then measuring the result with pair 0, 0.
 
+use crate::seen::Seen;
 use ours::frame as ours;
 use support::Answer;
 use support::counts::Amount;
@@ -10,11 +11,23 @@ use support::frame::drawn::{Drawn, What, trial_pair};
 use support::frame::measuring::Measuring;
 use support::frame::stated::FrameCase;
 use support::frame::trying::Trying;
-use support::frame::{DampingChoice, Kind, Picture};
+use support::frame::{DampingChoice, Kind, Picture, unstated};
 use support::random::Random;
 use support::report::Tally;
 
-pub fn picture(tally: &mut Tally, d: &Drawn, kind: Kind) {
+/// Trying and applying, each given no damping or the figure that is in force then.
+pub fn ways() -> Seen {
+    Seen::new("damping given or not, in trying and in applying", 4)
+}
+
+fn see(ways: &mut Seen, trying: DampingChoice, applying: DampingChoice) {
+    let figures = [trying, applying].map(|d| d.in_force());
+    if figures == [unstated::figure(); 2] {
+        ways.see(usize::from(2 * trying.unstated + applying.unstated));
+    }
+}
+
+pub fn picture(tally: &mut Tally, ways: &mut Seen, d: &Drawn, kind: Kind) {
     let r = &mut d.random(kind, What::Pairs);
     let trying = Trying::drawn(d, kind);
     let tried = ours::trying(&trying);
@@ -32,6 +45,10 @@ pub fn picture(tally: &mut Tally, d: &Drawn, kind: Kind) {
     let measuring = Measuring::new(compared, (0, 0), r);
     let left = ours::measuring(&measuring);
     let taken = [tried.number, applied.number, left.number];
+    let given = applying.picture.damping;
+    if taken == [0; 3] {
+        see(ways, picture.damping, given);
+    }
     let of_unit = |(u, n): (usize, &usize)| tried.value[12 * u + n];
     let agreed = Answer {
         number: 0,
@@ -42,11 +59,12 @@ pub fn picture(tally: &mut Tally, d: &Drawn, kind: Kind) {
         value: left.value.0.clone(),
     };
     tally.count(Amount::totals(numbers.len()));
-    tally.same(&trying, totals, agreed);
+    let inputs = &format_args!("{trying}, applied with {given}");
+    tally.same(inputs, totals, agreed);
     tally.case(&measuring, left);
 }
 
-/// The same figure in force, given in either way.
+/// That figure in force, in a way drawn anew.
 fn told_anew(picture: &Picture, figure: u8, r: &mut Random) -> Picture {
     Picture {
         damping: DampingChoice::random(figure, r),

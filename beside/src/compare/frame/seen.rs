@@ -24,7 +24,7 @@ impl PictureSeen {
         PictureSeen {
             depths: Seen::new("depths of each layout", 5 * kinds),
             pairs: Seen::new("pairs at each depth of each layout", 5 * kinds * PAIRS),
-            dampings: Seen::new("dampings, given in two ways", 8),
+            dampings: Seen::new("dampings given, and none", 5),
             sides: Seen::new("sides of 4,096", 2),
             taken: [false; 2],
             pictures: 0,
@@ -52,8 +52,10 @@ impl PictureSeen {
         }
         if let Some(d) = c.damping() {
             self.taken[1] = true;
-            let way = usize::from(d.from_quality != 0);
-            self.dampings.see(4 * way + usize::from(d.in_force()) - 3);
+            self.dampings.see(match d.unstated {
+                0 => usize::from(d.signalled) - 3,
+                _ => 4,
+            });
         }
         if width == SIDE_MAX {
             self.sides.see(0);

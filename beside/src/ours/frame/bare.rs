@@ -37,11 +37,11 @@ pub fn trying(totals: &mut [i64], c: &Compared) -> u32 {
         Kind::Luma => number!(quern_try_luma: totals; c.plane, c.original;
             size.width, size.height, c.visible_width, c.visible_height, size.depth;
             p.skip, p.dirs, p.vars;
-            d.signalled, d.quality, d.from_quality),
+            d.signalled, d.unstated),
         Kind::Chroma { sx, sy } => number!(quern_try_chroma: totals; c.plane, c.original;
             size.width, size.height, sx, sy, c.visible_width, c.visible_height, size.depth;
             p.skip, p.dirs;
-            d.signalled, d.quality, d.from_quality),
+            d.signalled, d.unstated),
     }
 }
 
@@ -58,12 +58,12 @@ pub fn measuring(
         Kind::Luma => number!(quern_measure_luma: totals, scratch; c.plane, c.original;
             size.width, size.height, c.visible_width, c.visible_height, size.depth;
             p.skip, p.dirs, p.vars;
-            primary, secondary, d.signalled, d.quality, d.from_quality),
+            primary, secondary, d.signalled, d.unstated),
         Kind::Chroma { sx, sy } => {
             number!(quern_measure_chroma: totals, scratch; c.plane, c.original;
             size.width, size.height, sx, sy, c.visible_width, c.visible_height, size.depth;
             p.skip, p.dirs;
-            primary, secondary, d.signalled, d.quality, d.from_quality)
+            primary, secondary, d.signalled, d.unstated)
         }
     }
 }
@@ -76,10 +76,10 @@ pub fn applying(dst: &mut [u16], c: &Applying) -> u32 {
         Kind::Luma => number!(quern_apply_luma: dst; c.snapshot;
             size.width, size.height, size.depth;
             p.skip, p.dirs, p.vars, c.primaries, c.secondaries;
-            d.signalled, d.quality, d.from_quality),
+            d.signalled, d.unstated),
         Kind::Chroma { sx, sy } => number!(quern_apply_chroma: dst; c.snapshot;
             size.width, size.height, sx, sy, size.depth;
             p.skip, p.dirs, c.primaries, c.secondaries;
-            d.signalled, d.quality, d.from_quality),
+            d.signalled, d.unstated),
     }
 }

@@ -32,8 +32,7 @@ unsafe extern "C" {
         vars: *const u32,
         vars_len: usize,
         damping: u8,
-        quality: u32,
-        from_quality: u8,
+        unstated: u8,
     ) -> u32;
     pub fn quern_try_chroma(
         totals: *mut i64,
@@ -54,8 +53,7 @@ unsafe extern "C" {
         dirs: *const u8,
         dirs_len: usize,
         damping: u8,
-        quality: u32,
-        from_quality: u8,
+        unstated: u8,
     ) -> u32;
     pub fn quern_measure_luma(
         totals: *mut i64,
@@ -80,8 +78,7 @@ unsafe extern "C" {
         primary: u8,
         secondary: u8,
         damping: u8,
-        quality: u32,
-        from_quality: u8,
+        unstated: u8,
     ) -> u32;
     pub fn quern_measure_chroma(
         totals: *mut i64,
@@ -106,8 +103,7 @@ unsafe extern "C" {
         primary: u8,
         secondary: u8,
         damping: u8,
-        quality: u32,
-        from_quality: u8,
+        unstated: u8,
     ) -> u32;
     pub fn quern_apply_luma(
         dst: *mut u16,
@@ -128,8 +124,7 @@ unsafe extern "C" {
         secs: *const u8,
         secs_len: usize,
         damping: u8,
-        quality: u32,
-        from_quality: u8,
+        unstated: u8,
     ) -> u32;
     pub fn quern_apply_chroma(
         dst: *mut u16,
@@ -150,7 +145,6 @@ unsafe extern "C" {
         secs: *const u8,
         secs_len: usize,
         damping: u8,
-        quality: u32,
-        from_quality: u8,
+        unstated: u8,
     ) -> u32;
 }

@@ -2,7 +2,6 @@
 //! of the result; the calls on pictures gather theirs from here.
 
 use super::{DampingChoice, Kind, Picture, Size};
-use crate::WIDE;
 use crate::adjust_pri::VARIANCE_MAX;
 use crate::planes::SIDE_MAX;
 use crate::random::Random;
@@ -171,19 +170,20 @@ fn flags() -> Vec<Break<Picture>> {
     list
 }
 
-/// 8, of a figure given and of a quality index.
+/// The damping is given in another way.
+fn told(number: u32, signalled: u8, unstated: u8) -> Break<DampingChoice> {
+    let choice = DampingChoice {
+        signalled,
+        unstated,
+    };
+    Break::new(number, move |d| *d = choice)
+}
+
+/// 8, of a figure given, and of the flag with a figure in range and with one out of range.
 fn dampings() -> Vec<Break<DampingChoice>> {
-    let mut list = Vec::new();
-    for signalled in [0, 2, 7, 128, 255] {
-        list.push(Break::new(8, move |d: &mut DampingChoice| {
-            (d.signalled, d.from_quality) = (signalled, 0);
-        }));
-    }
-    for (k, quality) in [257, 511].into_iter().chain(WIDE).enumerate() {
-        let from_quality = [1, 2, 255][k % 3];
-        list.push(Break::new(8, move |d: &mut DampingChoice| {
-            (d.quality, d.from_quality) = (quality, from_quality);
-        }));
+    let mut list = Vec::from([0, 2, 7, 128, 255].map(|signalled| told(8, signalled, 0)));
+    for unstated in [2, 3, 128, 255] {
+        list.extend([3, 7].map(|signalled| told(8, signalled, unstated)));
     }
     list
 }
@@ -198,21 +198,8 @@ pub(crate) fn picture_scans(p: &Picture) -> Vec<Break<Picture>> {
     let mut list = scan(|p: &mut P| &mut p.skip, p.skip.len(), &flags);
     list.extend(scan(|p: &mut P| &mut p.dirs, p.dirs.len(), &dirs));
     list.extend(scan(|p: &mut P| &mut p.vars, p.vars.len(), &vars));
-    for (signalled, quality, from_quality) in [
-        (3, 256, 0),
-        (6, u32::MAX, 0),
-        (0, 0, 1),
-        (7, 63, 2),
-        (2, 64, 128),
-        (255, 255, 255),
-    ] {
-        list.push(Break::new(0, move |p: &mut P| {
-            p.damping = DampingChoice {
-                signalled,
-                quality,
-                from_quality,
-            };
-        }));
-    }
+    let mut dampings = Vec::from([3, 6].map(|signalled| told(0, signalled, 0)));
+    dampings.extend((0..=255).map(|signalled| told(0, signalled, 1)));
+    list.extend(of_parts(dampings, |p: &mut P| &mut p.damping));
     list
 }

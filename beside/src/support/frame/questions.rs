@@ -125,12 +125,11 @@ fn listed(p: &Picture) -> bool {
 fn in_range(p: &Picture) -> bool {
     let DampingChoice {
         signalled,
-        quality,
-        from_quality,
+        unstated,
     } = p.damping;
-    let damping = match from_quality {
+    let damping = match unstated {
         0 => (3..=6).contains(&signalled),
-        _ => quality <= 255,
+        flag => flag == 1,
     };
     let flags = p.skip.iter().all(|&s| s <= 1);
     let directions = p.dirs.iter().all(|&d| d < 8);

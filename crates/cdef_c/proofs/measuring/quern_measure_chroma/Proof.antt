@@ -10,10 +10,10 @@ use Rattle.cdef_c.proofs.measuring.quern_measure_chroma.Reads as reads
 use Rattle.cdef_c.proofs.measuring.quern_measure_chroma.Lts as lts
 use Rattle.cdef.proofs.measuring.measure_chroma.Reads as measure-chroma-reads
 use Rattle.cdef_c.proofs.answer.number.Reads as number-reads
-use Rattle.cdef_c.proofs.choice.choice.Reads as choice-reads
+use Rattle.cdef_leaf.proofs.damping.choice_of.Reads as choice-of-reads
 
-choice-requires : tie.Need-choice-requires
-choice-requires c κs = search needs
+choice-of-requires : tie.Need-choice-of-requires
+choice-of-requires c κs = search needs
 
 measure-chroma-requires : tie.Need-measure-chroma-requires
 measure-chroma-requires c κs = search needs
@@ -28,13 +28,13 @@ same-length-2 : tie.Need-same-length-2
 same-length-2 c = search needs
 
 returns : tie.Need-returns
-returns c = rw (← (c .before .before .before .before .before .before .before .choice .ensures)) (c .number .ensures ∙ ap numberOf (c .before .before .before .before .measure-chroma .ensures .0), c .before .before .before .before .measure-chroma .ensures .1)
+returns c = rw (← (c .before .before .before .before .before .before .before .choice-of .ensures)) (c .number .ensures ∙ ap numberOf (c .before .before .before .before .measure-chroma .ensures .0), c .before .before .before .before .measure-chroma .ensures .1)
 
 pub quern-measure-chroma-spec : {M : Type 1} → statement M
 quern-measure-chroma-spec =
     tie.close
     (tie.spec
-    choice-requires
+    choice-of-requires
     measure-chroma-requires
     number-requires
     same-length

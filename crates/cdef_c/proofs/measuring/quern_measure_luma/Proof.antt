@@ -10,10 +10,10 @@ use Rattle.cdef_c.proofs.measuring.quern_measure_luma.Reads as reads
 use Rattle.cdef_c.proofs.measuring.quern_measure_luma.Lts as lts
 use Rattle.cdef.proofs.measuring.measure_luma.Reads as measure-luma-reads
 use Rattle.cdef_c.proofs.answer.number.Reads as number-reads
-use Rattle.cdef_c.proofs.choice.choice.Reads as choice-reads
+use Rattle.cdef_leaf.proofs.damping.choice_of.Reads as choice-of-reads
 
-choice-requires : tie.Need-choice-requires
-choice-requires c κs = search needs
+choice-of-requires : tie.Need-choice-of-requires
+choice-of-requires c κs = search needs
 
 measure-luma-requires : tie.Need-measure-luma-requires
 measure-luma-requires c κs = search needs
@@ -28,13 +28,13 @@ same-length-2 : tie.Need-same-length-2
 same-length-2 c = search needs
 
 returns : tie.Need-returns
-returns c = rw (← (c .before .before .before .before .before .before .before .choice .ensures)) (c .number .ensures ∙ ap numberOf (c .before .before .before .before .measure-luma .ensures .0), c .before .before .before .before .measure-luma .ensures .1)
+returns c = rw (← (c .before .before .before .before .before .before .before .choice-of .ensures)) (c .number .ensures ∙ ap numberOf (c .before .before .before .before .measure-luma .ensures .0), c .before .before .before .before .measure-luma .ensures .1)
 
 pub quern-measure-luma-spec : {M : Type 1} → statement M
 quern-measure-luma-spec =
     tie.close
     (tie.spec
-    choice-requires
+    choice-of-requires
     measure-luma-requires
     number-requires
     same-length

@@ -10,10 +10,10 @@ use Rattle.cdef_c.proofs.trying.quern_try_luma.Reads as reads
 use Rattle.cdef_c.proofs.trying.quern_try_luma.Lts as lts
 use Rattle.cdef.proofs.trying.try_luma.Reads as try-luma-reads
 use Rattle.cdef_c.proofs.answer.number.Reads as number-reads
-use Rattle.cdef_c.proofs.choice.choice.Reads as choice-reads
+use Rattle.cdef_leaf.proofs.damping.choice_of.Reads as choice-of-reads
 
-choice-requires : tie.Need-choice-requires
-choice-requires c κs = search needs
+choice-of-requires : tie.Need-choice-of-requires
+choice-of-requires c κs = search needs
 
 try-luma-requires : tie.Need-try-luma-requires
 try-luma-requires c κs = search needs
@@ -25,8 +25,8 @@ same-length : tie.Need-same-length
 same-length c = search needs
 
 returns : tie.Need-returns
-returns c = rw (← (c .before .before .before .before .choice .ensures)) (c .number .ensures ∙ ap numberOf (c .before .before .try-luma .ensures .0), c .before .before .try-luma .ensures .1)
+returns c = rw (← (c .before .before .before .before .choice-of .ensures)) (c .number .ensures ∙ ap numberOf (c .before .before .try-luma .ensures .0), c .before .before .try-luma .ensures .1)
 
 pub quern-try-luma-spec : {M : Type 1} → statement M
 quern-try-luma-spec =
-    tie.close (tie.spec choice-requires try-luma-requires number-requires same-length returns)
+    tie.close (tie.spec choice-of-requires try-luma-requires number-requires same-length returns)

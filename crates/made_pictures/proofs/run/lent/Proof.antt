@@ -55,6 +55,9 @@ skips-requires c κs = search needs
 slice-aggregate-agree-chroma-5 : tie.Need-slice-aggregate-agree-chroma-5
 slice-aggregate-agree-chroma-5 c = search needs
 
+of-index-requires : tie.Need-of-index-requires
+of-index-requires c κs = search needs
+
 agree-chroma-requires : tie.Need-agree-chroma-requires
 agree-chroma-requires c κs = search needs
 
@@ -82,6 +85,7 @@ lent-spec =
     visible-requires
     skips-requires
     slice-aggregate-agree-chroma-5
+    of-index-requires
     agree-chroma-requires
     same-length
     same-length-2

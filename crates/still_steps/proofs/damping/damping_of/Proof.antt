@@ -8,6 +8,7 @@ use Rattle.still_steps.proofs.damping.damping_of.Tie as tie
 use Rattle.still_steps.proofs.damping.damping_of.Reads as reads
 use Rattle.still_steps.proofs.damping.damping_of.Lts as lts
 use Rattle.pgm.proofs.numbers.number_of.Reads as number-of-reads
+use Rattle.still_steps.proofs.damping.of_index.Reads as of-index-reads
 use Rattle.still_steps.proofs.damping.small.Reads as small-reads
 
 returns : tie.Need-returns
@@ -37,11 +38,16 @@ enum-told c = search needs
 returns-2 : tie.Need-returns-2
 returns-2 c = damping-none _ _ (c .before .before .before .before .before .if1 .left) (c .before .before .number-of .ensures) (c .enum-told .given .1)
 
-cast-t12 : tie.Need-cast-t12
-cast-t12 c = omega (arith, value-low _ _ (sym (c .before .before .before .before .number-of .ensures) ∙ c .before .before .n .given .1))
+cast-of-index : tie.Need-cast-of-index
+cast-of-index c = omega (arith, value-low _ _ (sym (c .before .before .before .before .number-of .ensures) ∙ c .before .before .n .given .1))
+
+of-index-requires : tie.Need-of-index-requires
+of-index-requires c κs = search needs
 
 returns-3 : tie.Need-returns-3
-returns-3 c = damping-quality _ _ (c .before .before .before .before .before .before .before .if1 .left) (c .before .before .before .before .number-of .ensures) _ (c .before .before .n .given .1) (c .if2 .taken)
+returns-3 c =
+    c .of-index .ensures
+    ∙ damping-quality _ _ (c .before .before .before .before .before .before .before .before .if1 .left) (c .before .before .before .before .before .number-of .ensures) _ (c .before .before .before .n .given .1) (c .before .if2 .taken)
 
 small-requires : tie.Need-small-requires
 small-requires c κs = search needs
@@ -65,7 +71,8 @@ damping-of-spec =
     enum-known-n
     enum-told
     returns-2
-    cast-t12
+    cast-of-index
+    of-index-requires
     returns-3
     small-requires
     returns-4

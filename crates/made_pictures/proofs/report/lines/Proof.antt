@@ -1,21 +1,20 @@
--- `made_pictures::units` meets its contract.
+-- `made_pictures::lines` meets its contract.
 use Prim.Native.Nat.{_-_, _≤_}
 use native.Mathlib.Omega.{arith}
 use borrow.Author.Needs.{needs}
-use Rattle.made_pictures.proofs.report.units.Statement.{statement}
-use Rattle.made_pictures.proofs.report.units.Tie as tie
-use Rattle.made_pictures.proofs.report.units.Reads as reads
-use Rattle.made_pictures.proofs.report.units.Lts as lts
+use Rattle.made_pictures.proofs.report.lines.Statement.{statement}
+use Rattle.made_pictures.proofs.report.lines.Tie as tie
+use Rattle.made_pictures.proofs.report.lines.Reads as reads
+use Rattle.made_pictures.proofs.report.lines.Lts as lts
 use Rattle.made_pictures.proofs.lists.trial_of.Reads as trial-of-reads
-use Rattle.made_pictures.proofs.report.outcome.Reads as outcome-reads
 use Rattle.made_pictures.proofs.report.same.Reads as same-reads
 use Rattle.made_pictures.proofs.report.unit.Reads as unit-reads
 
 abbrev Inv-loop : tie.InvT-loop
-Inv-loop a number pris secs tried measured u₀ u = u ≤ 6
+Inv-loop number pris secs tried measured u₀ u = u ≤ 6
 
 abbrev μ-loop : tie.MeasureT-loop
-μ-loop a number pris secs tried measured u₀ u = 6 - u
+μ-loop number pris secs tried measured u₀ u = 6 - u
 
 loop-holds : tie.Need-loop-holds Inv-loop μ-loop
 loop-holds c = omega arith
@@ -68,14 +67,11 @@ loop-less c = omega arith
 loop-again : tie.Need-loop-again Inv-loop μ-loop
 loop-again c = omega arith
 
-outcome-requires : tie.Need-outcome-requires Inv-loop μ-loop
-outcome-requires c κs = search needs
-
 returns : tie.Need-returns Inv-loop μ-loop
 returns c = omega arith
 
-pub units-spec : {M : Type 1} → statement M
-units-spec =
+pub lines-spec : {M : Type 1} → statement M
+lines-spec =
     tie.close
     (tie.spec
     Inv-loop
@@ -97,5 +93,4 @@ units-spec =
     add-u
     loop-less
     loop-again
-    outcome-requires
     returns)

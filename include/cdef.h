@@ -40,8 +40,8 @@
  *   every working strength from 0 up to 15 (primary) or 4 (secondary) shifted left by
  *   depth - 8. quern_constrain and quern_adjust_pri: 0 to 240.
  * - Signalled damping 3 to 6 (frame calls where unstated is 0, quern_luma_damping,
- *   quern_chroma_damping).
- *   Working damping 0 to 31. Quality index (the frame header's base_q_idx) 0 to 255.
+ *   quern_chroma_damping). Working damping 0 to 31. Quality index (the frame header's
+ *   base_q_idx) 0 to 255.
  *
  * Samples examined by question 9
  * - Direction and distances: the 8 by 8 block, cropped to the plane. Block filter and

@@ -2,7 +2,7 @@
 
 use crate::last_clamp::Mirror;
 use reference::{Frame, Lists, MARK};
-use support::frame::{map, unstated};
+use support::frame::map;
 use support::report::Tally;
 
 pub fn check(tally: &mut Tally) {
@@ -141,7 +141,8 @@ fn applied(
 }
 
 /// A 1 in row 0, column 2: in 4:4:0 the reference's own map would leave it. A 4 in row 2, column
-/// 2: with the damping in force where none is stated it stays, with damping 4 it does not.
+/// 2: with damping 3, that of a call for which none is stated, it stays; with that of quality
+/// index 64 it does not.
 fn chroma(tally: &mut Tally) {
     for (sub_y, result) in [(0, 1), (1, 0)] {
         let got = applied(sub_y, map::standard(0, sub_y), 3, (2, 1));
@@ -149,7 +150,7 @@ fn chroma(tally: &mut Tally) {
     }
     let own = reference::chroma_direction_map(0, 1);
     tally.number("chroma by its own map", applied(1, own, 3, (2, 1)), 1);
-    for (damping, result) in [(unstated::figure(), 4), (reference::cdef_damping(64), 3)] {
+    for (damping, result) in [(3, 4), (reference::cdef_damping(64), 3)] {
         let got = applied(0, map::standard(0, 0), damping, (18, 4));
         tally.number("chroma by a damping", got, result);
     }

@@ -8,17 +8,25 @@ pub fn run() {
     print::text(b"chroma 4:4:4\n");
     let snapshot = picture::made(72, 10, 201);
     let original = picture::made(72, 10, 301);
-    let unstated = tried(&snapshot, &original, DampingChoice::Unstated);
-    let three = tried(&snapshot, &original, report::given(3));
-    let four = tried(&snapshot, &original, report::given(4));
-    let measured = measured(&snapshot, &original);
-    report::all(1, &unstated, &three, &four, &measured);
+    let skip = lists::skips();
+    let dirs = lists::in_turn();
+    calls(&snapshot, &original, &skip, &dirs);
 }
 
-fn tried(snapshot: &[u16], original: &[u16], damping: DampingChoice) -> [i64; 72] {
-    let mut totals = [0i64; 72];
+fn calls(snapshot: &[u16], original: &[u16], skip: &[u8], dirs: &[u8]) {
+    let mut tried = [0i64; 72];
+    try_out(&mut tried, snapshot, original, skip, dirs);
+    let mut dst = picture::made(72, 10, 201);
+    apply(&mut dst, snapshot, skip, dirs);
+    let mut measured = [0i64; 6];
+    measure(&mut measured, &dst, original, skip, dirs);
+    report::units(1, &tried, &measured);
+}
+
+// With no damping stated.
+fn try_out(totals: &mut [i64], snapshot: &[u16], original: &[u16], skip: &[u8], dirs: &[u8]) {
     report::answer(cdef::trying::try_chroma(
-        &mut totals,
+        totals,
         snapshot,
         original,
         72,
@@ -27,35 +35,35 @@ fn tried(snapshot: &[u16], original: &[u16], damping: DampingChoice) -> [i64; 72
         0,
         made_pictures::run::visible(),
         10,
-        &lists::skips(),
-        &lists::in_turn(),
-        damping,
+        skip,
+        dirs,
+        DampingChoice::Unstated,
     ));
-    totals
 }
 
-// Applies with damping 3 to a copy of the snapshot, and measures that.
-fn measured(snapshot: &[u16], original: &[u16]) -> [i64; 6] {
-    let mut dst = picture::made(72, 10, 201);
-    let mut totals = [0i64; 6];
+// With damping 3, into a copy of the snapshot.
+fn apply(dst: &mut [u16], snapshot: &[u16], skip: &[u8], dirs: &[u8]) {
     report::answer(cdef::applying_lists::apply_chroma(
-        &mut dst,
+        dst,
         snapshot,
         72,
         136,
         0,
         0,
         10,
-        &lists::skips(),
-        &lists::in_turn(),
+        skip,
+        dirs,
         &lists::primaries(1),
         &lists::secondaries(1),
-        report::given(3),
+        report::three(),
     ));
+}
+
+fn measure(totals: &mut [i64], plane: &[u16], original: &[u16], skip: &[u8], dirs: &[u8]) {
     report::answer(cdef::measuring::measure_chroma(
-        &mut totals,
+        totals,
         &mut [0u16; 576],
-        &dst,
+        plane,
         original,
         72,
         136,
@@ -63,10 +71,9 @@ fn measured(snapshot: &[u16], original: &[u16]) -> [i64; 6] {
         0,
         made_pictures::run::visible(),
         10,
-        &lists::skips(),
-        &lists::in_turn(),
+        skip,
+        dirs,
         report::off(),
         DampingChoice::Unstated,
     ));
-    totals
 }

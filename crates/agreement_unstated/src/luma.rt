@@ -1,4 +1,4 @@
-// Luma of 72 by 136, depth 8.
+// Luma of 72 by 136, depth 10; any directions and variances do.
 use crate::report;
 use cdef_spec::DampingChoice;
 use made_pictures::lists;
@@ -6,77 +6,85 @@ use made_pictures::picture;
 
 pub fn run() {
     print::text(b"luma\n");
-    let snapshot = picture::made(72, 8, 0);
-    let original = picture::made(72, 8, 100);
-    let mut dirs = [0u8; 153];
-    let mut vars = [0u32; 153];
-    report::answer(cdef::directions::direction_pass(&mut dirs, &mut vars, &snapshot, 72, 136, 8));
-    calls(&snapshot, &original, &dirs, &vars);
+    let snapshot = picture::made(72, 10, 1);
+    let original = picture::made(72, 10, 101);
+    let skip = lists::skips();
+    let dirs = lists::in_turn();
+    calls(&snapshot, &original, &skip, &dirs, &[400000u32; 153]);
 }
 
-fn calls(snapshot: &[u16], original: &[u16], dirs: &[u8], vars: &[u32]) {
-    let unstated = tried(snapshot, original, dirs, vars, DampingChoice::Unstated);
-    let three = tried(snapshot, original, dirs, vars, report::given(3));
-    let four = tried(snapshot, original, dirs, vars, report::given(4));
-    let measured = measured(snapshot, original, dirs, vars);
-    report::all(0, &unstated, &three, &four, &measured);
+fn calls(snapshot: &[u16], original: &[u16], skip: &[u8], dirs: &[u8], vars: &[u32]) {
+    let mut tried = [0i64; 72];
+    try_out(&mut tried, snapshot, original, skip, dirs, vars);
+    let mut dst = picture::made(72, 10, 1);
+    apply(&mut dst, snapshot, skip, dirs, vars);
+    let mut measured = [0i64; 6];
+    measure(&mut measured, &dst, original, skip, dirs, vars);
+    report::units(1, &tried, &measured);
 }
 
-fn tried(
+// With no damping stated.
+fn try_out(
+    totals: &mut [i64],
     snapshot: &[u16],
     original: &[u16],
+    skip: &[u8],
     dirs: &[u8],
     vars: &[u32],
-    damping: DampingChoice,
-) -> [i64; 72] {
-    let mut totals = [0i64; 72];
+) {
     report::answer(cdef::trying::try_luma(
-        &mut totals,
+        totals,
         snapshot,
         original,
         72,
         136,
         made_pictures::run::visible(),
-        8,
-        &lists::skips(),
+        10,
+        skip,
         dirs,
         vars,
-        damping,
+        DampingChoice::Unstated,
     ));
-    totals
 }
 
-// Applies with damping 3 to a copy of the snapshot, and measures that.
-fn measured(snapshot: &[u16], original: &[u16], dirs: &[u8], vars: &[u32]) -> [i64; 6] {
-    let mut dst = picture::made(72, 8, 0);
-    let mut totals = [0i64; 6];
+// With damping 3, into a copy of the snapshot.
+fn apply(dst: &mut [u16], snapshot: &[u16], skip: &[u8], dirs: &[u8], vars: &[u32]) {
     report::answer(cdef::applying_lists::apply_luma(
-        &mut dst,
+        dst,
         snapshot,
         72,
         136,
-        8,
-        &lists::skips(),
+        10,
+        skip,
         dirs,
         vars,
-        &lists::primaries(0),
-        &lists::secondaries(0),
-        report::given(3),
+        &lists::primaries(1),
+        &lists::secondaries(1),
+        report::three(),
     ));
+}
+
+fn measure(
+    totals: &mut [i64],
+    plane: &[u16],
+    original: &[u16],
+    skip: &[u8],
+    dirs: &[u8],
+    vars: &[u32],
+) {
     report::answer(cdef::measuring::measure_luma(
-        &mut totals,
+        totals,
         &mut [0u16; 576],
-        &dst,
+        plane,
         original,
         72,
         136,
         made_pictures::run::visible(),
-        8,
-        &lists::skips(),
+        10,
+        skip,
         dirs,
         vars,
         report::off(),
         DampingChoice::Unstated,
     ));
-    totals
 }

@@ -6,8 +6,8 @@ use cdef_spec::SignalledDamping;
 use cdef_spec::UnitPair;
 use made_pictures::lists;
 
-pub fn given(damping: u8) -> DampingChoice {
-    DampingChoice::Given(SignalledDamping(damping))
+pub fn three() -> DampingChoice {
+    DampingChoice::Given(SignalledDamping(3))
 }
 
 // The pair 0, 0: measuring compares the plane as it is.
@@ -25,38 +25,11 @@ pub fn answer(a: Answer) {
     }
 }
 
-// A line per unit, and the tried totals with none stated beside those of damping 3 and 4.
-pub fn all(
-    number: u32,
-    unstated: &[i64; 72],
-    three: &[i64; 72],
-    four: &[i64; 72],
-    measured: &[i64; 6],
-)
+// A line per unit.
+pub fn units(number: u32, tried: &[i64; 72], measured: &[i64; 6])
     requires { ⌜ number ≤ 6 ⌝ }
 {
     let pris = lists::primaries(number);
     let secs = lists::secondaries(number);
-    made_pictures::report::lines(number, &pris, &secs, unstated, measured);
-    compared(3, unstated, three);
-    compared(4, unstated, four);
-}
-
-fn compared(damping: u8, unstated: &[i64; 72], stated: &[i64; 72]) {
-    print::text(b"tried with damping ");
-    print::number(damping as u64);
-    if is_same(unstated, stated) {
-        print::text(b": the same totals\n");
-        return;
-    }
-    print::text(b": other totals\n");
-}
-
-fn is_same(a: &[i64; 72], b: &[i64; 72]) -> bool {
-    for k in 0..72 {
-        if a[k] != b[k] {
-            return false;
-        }
-    }
-    true
+    made_pictures::report::lines(number, &pris, &secs, tried, measured);
 }

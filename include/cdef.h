@@ -144,8 +144,8 @@ uint32_t quern_squares(const uint16_t *orig, size_t orig_len, const uint16_t *ot
  * t is totals[12 * u + t]. Where unstated is 0, damping is the signalled damping, 3 to 6.
  * Where unstated is 1 no damping is stated: damping is ignored and 3 is used, the standard's
  * value where a frame header has no CDEF fields. Any other unstated fails question 8. For
- * the damping of a quality index pass what quern_damping wrote, with unstated 0. Applying
- * must be given the damping that was tried.
+ * the damping of a quality index pass what quern_damping wrote, with unstated 0. For
+ * measured totals to equal the tried ones, pass to applying the damping that was tried.
  */
 
 /* Direction and variance of each block of a luma plane. Validates 1, 2, 4, 7, 9.

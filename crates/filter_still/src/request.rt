@@ -25,7 +25,7 @@ fn damping_argument() -> DampingText {
     let answer = damping::damping_of(&space[..n]);
     match answer {
         DampingText::Signalled(d) => {}
-        DampingText::Rejected(no) => say::refusal(b"the damping of the quality index", no),
+        DampingText::Rejected(no) => say::index(no),
         DampingText::NotDamping => say::argument(
             b"DAMPING is q and a quality index, or d and a signalled damping, not ",
             &space[..n],

@@ -45,17 +45,27 @@ pub fn different() {
     text(b"the still and the original differ in size or maximum\n");
 }
 
-// A rejected call: its error code (RULES, Questions) and what that means.
-pub fn refusal(call: &[u8], n: u8) {
+fn code(call: &[u8], n: u8) {
     text(call);
     text(b" returned error code ");
     io::print_decimal(libc::STDERR_FILENO, n as u64);
+}
+
+// A rejected quality index.
+pub fn index(n: u8) {
+    code(b"the damping of the quality index", n);
+    text(b": the index is not 0 to 255\n");
+}
+
+// A rejected frame call: its error code (RULES, Questions) and what that means.
+fn refusal(call: &[u8], n: u8) {
+    code(call, n);
     match n {
         1 => text(b": the depth is not 8 to 12\n"),
         2 => text(b": a side is not 1 to 4096, or not a multiple of 8\n"),
         4 => text(b": a plane is not as long as its sides say\n"),
         7 => text(b": a list has the wrong length, or the visible size is out of range\n"),
-        8 => text(b": a strength, the damping or the quality index is out of range\n"),
+        8 => text(b": a strength or the damping is out of range\n"),
         9 => text(b": a sample is above the maximum\n"),
         _ => text(b"\n"),
     }

@@ -68,7 +68,7 @@ fn pair_sum(p: Pair, c: u16, s: u16, sh: u32) -> i16
 }
 
 // The near and the far taps' sums by their weights.
-fn weigh(a: i16, b: i16, f: Strength) -> i16
+pub fn weigh(a: i16, b: i16, f: Strength) -> i16
     requires { ⌜ (natAbs a ≤ 960) × (natAbs b ≤ 960) × InRange f ⌝ }
     ensures { λ r. ⌜ r ≡ weighed a b f ⌝ }
 {

@@ -1,5 +1,5 @@
 // Rows of eight samples of the window: sums and filtered rows, returned by value.
-mod both; // both.rt: one sample, filtered with both strengths
+pub mod both; // both.rt: one sample, filtered with both strengths
 
 ghost use mathlib.Core.Path.{_≡_};
 ghost use Prim.Native.Nat.{_+_, _≤_};

@@ -3,6 +3,7 @@ ghost use mathlib.Core.Path.{_≡_};
 ghost use Prim.Native.Nat.{ℕ, _+_, _-_, _*_, _≤_, _<_, min, max};
 ghost use lib.IntN.{natAbs, pos, _+ℤ_, _*ℤ_};
 ghost use lib.ListN.{length, getD};
+ghost use lib.Signed.{mag};
 ghost use Rattle.cdef_sample.specs.Sample.{orCentre, sizeOf, conOf, movedOf, overOf, underOf, finishOf, freeOf};
 
 // The lesser of two sides or positions.
@@ -40,7 +41,7 @@ fn apart(p: u16, c: u16) -> u16
 }
 
 // s - t, or 0 where t is the greater.
-fn less(s: u16, t: u16) -> u16
+pub fn less(s: u16, t: u16) -> u16
     ensures { λ r. ⌜ r ≡ s - t ⌝ }
 {
     if s < t { 0 } else { s - t }
@@ -121,12 +122,28 @@ pub fn at_most(v: i16, hi: u16) -> i16
     if (hi as i16) < v { hi as i16 } else { v }
 }
 
+// The centre plus the rounded sum, clipped.
+pub fn clipped(c: u16, sum: i16, lo: u16, hi: u16) -> u16
+    requires { ⌜ (c ≤ 16384) × (natAbs sum ≤ 16000) × (lo ≤ 16384) × (hi ≤ 16384) ⌝ }
+    ensures { λ r. ⌜ r ≡ mag (underOf (overOf (movedOf c sum) lo) hi) ⌝ }
+{
+    at_most(at_least(moved(c, sum), lo), hi) as u16
+}
+
+// The centre plus the rounded sum, at least 0.
+pub fn raised(c: u16, sum: i16) -> u16
+    requires { ⌜ (c ≤ 16384) × (natAbs sum ≤ 16000) ⌝ }
+    ensures { λ r. ⌜ r ≡ mag (overOf (movedOf c sum) 0) ⌝ }
+{
+    at_least(moved(c, sum), 0) as u16
+}
+
 // The filtered sample; a marked centre is kept.
 pub fn finish(c: u16, sum: i16, lo: u16, hi: u16) -> u16
     requires { ⌜ (c ≤ 16384) × (natAbs sum ≤ 16000) × (lo ≤ 16384) × (hi ≤ 16384) ⌝ }
     ensures { λ r. ⌜ r ≡ finishOf c sum lo hi ⌝ }
 {
-    let v = at_most(at_least(moved(c, sum), lo), hi) as u16;
+    let v = clipped(c, sum, lo, hi);
     if c == 16384 { c } else { v }
 }
 
@@ -135,6 +152,6 @@ pub fn free(c: u16, sum: i16) -> u16
     requires { ⌜ (c ≤ 16384) × (natAbs sum ≤ 16000) ⌝ }
     ensures { λ r. ⌜ r ≡ freeOf c sum ⌝ }
 {
-    let v = at_least(moved(c, sum), 0) as u16;
+    let v = raised(c, sum);
     if c == 16384 { c } else { v }
 }

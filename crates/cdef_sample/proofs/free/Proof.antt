@@ -1,62 +1,25 @@
 -- `cdef_sample::free` meets its contract.
-use mathlib.Core.Path.{_≡_, sym, ap, _∙_}
-use Prim.Native.Nat.{ℕ, _≤_}
+use mathlib.Core.Path.{sym, _∙_}
 use native.Mathlib.Omega.{arith}
-use lib.IntN.{ℤ, pos, natAbs}
-use lib.Signed.{mag}
-use mir.Syntax.{w16}
-use mir.Val.{toZ, ofZ}
-use Rattle.cdef_sample.specs.Sample.{movedOf, overOf}
-use Rattle.cdef_sample.specs.SampleLaws.{over-is-nat, free-mark, free-on}
-use Rattle.cdef_sample.proofs.Sums16.{back, size-moved, size-over}
+use Rattle.cdef_sample.specs.SampleLaws.{free-mark, free-on}
+use Rattle.cdef_sample.proofs.Sums16.{back}
 use borrow.Author.Needs.{needs}
 use Rattle.cdef_sample.proofs.free.Statement.{statement}
 use Rattle.cdef_sample.proofs.free.Tie as tie
 use Rattle.cdef_sample.proofs.free.Reads as reads
 use Rattle.cdef_sample.proofs.free.Lts as lts
-use Rattle.cdef_sample.proofs.at_least.Reads as at-least-reads
-use Rattle.cdef_sample.proofs.moved.Reads as moved-reads
+use Rattle.cdef_sample.proofs.raised.Reads as raised-reads
 
-moved-small : (c : tie.After-moved) → natAbs (movedOf (c .before .args .c) (c .before .args .sum)) ≤ 32767
-moved-small c = omega (arith, size-moved (c .before .args .c) (c .before .args .sum), c .before .pre .0, c .before .pre .1)
-
-moved-is : (c : tie.After-moved) → c .moved .result ≡ movedOf (c .before .args .c) (c .before .args .sum)
-moved-is c = c .moved .ensures ∙ rw (back (c .before .args .sum) (omega (arith, c .before .pre .1)))
-
-moved-back : (c : tie.After-moved) → toZ w16 (ofZ w16 (c .moved .result)) ≡ movedOf (c .before .args .c) (c .before .args .sum)
-moved-back c = rw (moved-is c) (back (movedOf (c .before .args .c) (c .before .args .sum)) (moved-small c))
-
--- the value, not below 0, as a natural number
-unfoldable held : (c : tie.After-at-least) → ℕ
-held c = let a = c .before .before .args in mag (overOf (movedOf (a .c) (a .sum)) 0)
-
-held-small : (c : tie.After-at-least) → held c ≤ 32767
-unfolding held
-held-small c = let a = c .before .before .args in
-    omega (arith, ap natAbs (over-is-nat (movedOf (a .c) (a .sum)) 0), size-over (movedOf (a .c) (a .sum)) 0 32767 (moved-small (c .before)) (omega arith))
-
-over-back : (c : tie.After-at-least) → toZ w16 (ofZ w16 (c .at-least .result)) ≡ pos (held c)
-unfolding held
-over-back c =
-    let a = c .before .before .args in
-    let e : c .at-least .result ≡ pos (held c) = c .at-least .ensures ∙ rw (moved-back (c .before)) (over-is-nat (movedOf (a .c) (a .sum)) 0) in
-    rw e (back (pos (held c)) (held-small c))
-
-moved-requires : tie.Need-moved-requires
-moved-requires c κs = search needs
-
-at-least-requires : tie.Need-at-least-requires
-at-least-requires c κs = (rw (moved-back c) (moved-small c), omega arith)
-
-cast-v : tie.Need-cast-v
-cast-v c = rw (over-back c) (tt, record { fits = omega (arith, held-small c) })
+raised-requires : tie.Need-raised-requires
+raised-requires c κs = search needs
 
 returns : tie.Need-returns
-returns c = let s = c .before .before .before in sym (free-mark (s .args .c) (s .args .sum) (c .if1 .taken))
+returns c = let a = c .before .before .args in sym (free-mark (a .c) (a .sum) (c .if1 .taken))
 
 returns-2 : tie.Need-returns-2
-unfolding held
-returns-2 c = let s = c .before .before .before in rw (over-back (c .before)) (sym (free-on (s .args .c) (s .args .sum) (c .if1 .left)))
+returns-2 c = let s = c .before .before in
+    let a = s .args in
+    c .before .raised .ensures ∙ rw (back (a .sum) (omega (arith, s .pre .1))) (sym (free-on (a .c) (a .sum) (c .if1 .left)))
 
 pub free-spec : {M : Type 1} → statement M
-free-spec = tie.close (tie.spec moved-requires at-least-requires cast-v returns returns-2)
+free-spec = tie.close (tie.spec raised-requires returns returns-2)

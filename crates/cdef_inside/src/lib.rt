@@ -1,0 +1,147 @@
+// Blocks of a plane without marks: those two samples or more inside it are filtered straight from the plane, the others through their window.
+mod eights; // eights.rt: rows of eight samples
+mod fours; // fours.rt: four rows of four samples
+mod lanes; // lanes.rt: sixteen samples from their taps
+
+ghost use mathlib.Core.Path.{_≡_};
+ghost use Prim.Native.Nat.{_+_, _-_, _*_, _≤_, min};
+ghost use lib.ListN.{length};
+ghost use Rattle.cdef_spec.specs.Document01.{filtered};
+ghost use Rattle.cdef_spec.specs.LoopForm.{putBlock};
+ghost use Rattle.cdef_sample.specs.Bounds.{Held};
+ghost use Rattle.cdef_sample.specs.Upto.{upto};
+ghost use Rattle.cdef_window.specs.Window.{planeOf, windowAt};
+ghost use Rattle.cdef_window.specs.Spans.{InPlane};
+ghost use Rattle.cdef_filter.specs.Store.{Usable};
+ghost use Rattle.cdef_plane_taps.specs.Plain.{AllLow};
+ghost use Rattle.cdef_inside.specs.Inside.{Sided, Inner, innerBlock, blockFrom, paramsFrom};
+use cdef_spec::Block;
+use cdef_spec::FilterParams;
+use cdef_spec::WorkingDamping;
+
+// Whether a block lies two samples or more inside a plane w by h.
+fn inside(w: usize, h: usize, x: usize, y: usize, bw: usize, bh: usize) -> bool
+    requires { ⌜ (x ≤ 4096) × (y ≤ 4096) × (bw ≤ 8) × (bh ≤ 8) ⌝ }
+    ensures { λ r. ⌜ r ≡ innerBlock w h x y bw bh ⌝ }
+{
+    if x < 2 {
+        return false;
+    }
+    if y < 2 {
+        return false;
+    }
+    if w < x + bw + 2 {
+        return false;
+    }
+    y + bh + 2 <= h
+}
+
+// Filters a block inside the plane into a destination whose first row is the plane's row y0.
+fn filter_inside(
+    dst: &mut [u16],
+    y0: usize,
+    src: &[u16],
+    w: usize,
+    h: usize,
+    x: usize,
+    y: usize,
+    bw: usize,
+    bh: usize,
+    pri: u32,
+    sec: u32,
+    dir: u8,
+    damping: u8,
+    depth: u8,
+)
+    requires { ⌜ InPlane (now src) w h (blockFrom x y bw bh) × Held (upto (windowAt (planeOf (now src) w h) (blockFrom x y bw bh)) 144) × AllLow (now src) × Usable (paramsFrom pri sec dir damping depth) ⌝ }
+    requires { ⌜ (y0 ≤ y) × ((y - y0 + bh) * w ≤ length (now dst)) × Sided bw × Sided bh × Inner w h x y bw bh ⌝ }
+    ensures { λ _. ⌜ now (dst .exit) ≡ putBlock (now (dst .entry)) w (λ r c. filtered (planeOf (now (src .entry)) w h) (paramsFrom pri sec dir damping depth) (y0 + r) c) (y - y0) x bw bh ⌝ }
+{
+    let d = cdef_kernel::from_one(WorkingDamping(damping));
+    let f = cdef_kernel::primary(pri as u16, d, depth);
+    let g = cdef_kernel::secondary(sec as u16, d);
+    let at = y * w + x;
+    let to = (y - y0) * w + x;
+    let dir = dir as usize;
+    if bw == 8 {
+        if bh == 8 {
+            eights::rows(dst, to, src, w, at, 8, dir, f.s, f.sh, f.w0, g.s, g.sh);
+            return;
+        }
+        eights::rows(dst, to, src, w, at, 4, dir, f.s, f.sh, f.w0, g.s, g.sh);
+        return;
+    }
+    fours::rows(dst, to, src, w, at, dir, f.s, f.sh, f.w0, g.s, g.sh);
+    if bh == 4 {
+        return;
+    }
+    fours::rows(
+        dst,
+        to + 4 * w,
+        src,
+        w,
+        at + 4 * w,
+        dir,
+        f.s,
+        f.sh,
+        f.w0,
+        g.s,
+        g.sh,
+    );
+}
+
+// Filters a block of the plane src, w by h, into a destination whose first row is the plane's row y0. Numbers are passed one by one, since a struct of them would go through memory.
+pub fn filter_block(
+    dst: &mut [u16],
+    y0: usize,
+    src: &[u16],
+    w: usize,
+    h: usize,
+    x: usize,
+    y: usize,
+    bw: usize,
+    bh: usize,
+    pri: u32,
+    sec: u32,
+    dir: u8,
+    damping: u8,
+    depth: u8,
+)
+    requires { ⌜ InPlane (now src) w h (blockFrom x y bw bh) × Held (upto (windowAt (planeOf (now src) w h) (blockFrom x y bw bh)) 144) × AllLow (now src) × Usable (paramsFrom pri sec dir damping depth) ⌝ }
+    requires { ⌜ (y0 ≤ y) × ((y - y0 + min bh (h - y)) * w ≤ length (now dst)) × Sided bw × Sided bh ⌝ }
+    ensures { λ _. ⌜ now (dst .exit) ≡ putBlock (now (dst .entry)) w (λ r c. filtered (planeOf (now (src .entry)) w h) (paramsFrom pri sec dir damping depth) (y0 + r) c) (y - y0) x (min bw (w - x)) (min bh (h - y)) ⌝ }
+{
+    if inside(w, h, x, y, bw, bh) {
+        filter_inside(
+            dst,
+            y0,
+            src,
+            w,
+            h,
+            x,
+            y,
+            bw,
+            bh,
+            pri,
+            sec,
+            dir,
+            damping,
+            depth,
+        );
+        return;
+    }
+    let b = Block {
+        x: x,
+        y: y,
+        width: bw,
+        height: bh,
+    };
+    let q = FilterParams {
+        pri: pri,
+        sec: sec,
+        dir: dir,
+        damping: WorkingDamping(damping),
+        depth: depth,
+    };
+    cdef_filter::cdef_filter_block(dst, y0, src, w, h, b, q);
+}

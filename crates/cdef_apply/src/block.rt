@@ -45,7 +45,22 @@ fn filter_with(
 {
     let block = cdef_frame::geometry::block_of(f, by, bx);
     let q = cdef_frame::params::params_for(f, dirs, vars, by * (f.width / 8) + bx, p, d);
-    cdef_filter::cdef_filter_block(dst, 0, snapshot, w, h, block, q);
+    cdef_inside::filter_block(
+        dst,
+        0,
+        snapshot,
+        w,
+        h,
+        block.x,
+        block.y,
+        block.width,
+        block.height,
+        q.pri,
+        q.sec,
+        q.dir,
+        q.damping.0,
+        q.depth,
+    );
 }
 
 // A skipped block is not written, nor is any block of a unit whose pair is 0, 0.

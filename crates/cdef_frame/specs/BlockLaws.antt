@@ -2,7 +2,8 @@
 use mathlib.Core.Path.{_≡_, refl, _∙_}
 use mathlib.Core.Bool.{Bool, true, false, cond, _&&_}
 use mathlib.Core.List.{List}
-use Prim.Native.Nat.{ℕ, _+_, _-_, _*_, _/_, _%_, _≤_, _<_}
+use mathlib.Core.Logic.{_⊎_, inl, inr}
+use Prim.Native.Nat.{ℕ, zero, suc, _+_, _-_, _*_, _/_, _%_, _≤_, _<_}
 use native.Mathlib.Nat.{mul-le-mul-right, div-le-self}
 use native.Mathlib.Omega.{arith}
 use lib.Arith.{digits-lt}
@@ -26,6 +27,11 @@ use Rattle.cdef_frame.specs.Lent.{blocksOf, Sampled}
 halves : (n s : ℕ) → n / (1 + s) ≤ n
 halves n s = div-le-self n (1 + s)
 
+four-or-eight : (s : ℕ) → s < 2 → (8 / (1 + s) ≡ 4) ⊎ (8 / (1 + s) ≡ 8)
+four-or-eight zero h = inr refl
+four-or-eight (suc zero) h = inl refl
+four-or-eight (suc (suc s)) h = absurd (omega arith)
+
 module _ (f : Frame) (h : Shaped f) (s d vs : List ℕ) where
   -- the plane's sides are at most 4,096, the block's at most 8 and not 0
   pub plane-wide : planeWidth (pictureOf f s d vs) ≤ 4096
@@ -41,6 +47,11 @@ module _ (f : Frame) (h : Shaped f) (s d vs : List ℕ) where
   pub block-high : (0 < blockHeight (pictureOf f s d vs)) × (blockHeight (pictureOf f s d vs) ≤ 8)
   unfolding pictureOf
   block-high = (sides-on (pictureOf f s d vs) (flags-taken f h s d vs) .1, rw (block-height-is f h s d vs) (halves 8 (f .sy)))
+
+  -- they are 4 or 8
+  pub block-sides : (by bx : ℕ) (b : Block) → b ≡ blockOf (pictureOf f s d vs) by bx → ((b .width ≡ 4) ⊎ (b .width ≡ 8)) × ((b .height ≡ 4) ⊎ (b .height ≡ 8))
+  unfolding blockOf
+  block-sides by bx b e = rw (e, block-width-is f h s d vs, block-height-is f h s d vs) (four-or-eight (f .sx) (h .sx), four-or-eight (f .sy) (h .sy))
 
   module _ (by bx : ℕ) (hy : by < f .height / 8) (hx : bx < f .width / 8) where
     -- the block lies in the plane whole

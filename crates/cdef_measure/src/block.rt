@@ -42,7 +42,22 @@ fn filter_block(
     let b = cdef_frame::geometry::block_of(f, by, bx);
     let h = cdef_frame::geometry::plane_height(f);
     let q = cdef_frame::params::params_for(f, dirs, vars, by * (f.width / 8) + bx, p, d);
-    cdef_filter::cdef_filter_block(scratch, b.y, plane, w, h, b, q);
+    cdef_inside::filter_block(
+        scratch,
+        b.y,
+        plane,
+        w,
+        h,
+        b.x,
+        b.y,
+        b.width,
+        b.height,
+        q.pri,
+        q.sec,
+        q.dir,
+        q.damping.0,
+        q.depth,
+    );
 }
 
 // The distance of the visible part of a block between the original and the selected rows.

@@ -5,7 +5,7 @@ use borrow.Author.Needs.{needs}
 use mathlib.Core.List.{[]}
 use Prim.Native.Nat.{_/_, _^_}
 use Rattle.cdef_frame.specs.Lent.{blocksOf}
-use Rattle.cdef_frame.specs.BlockLaws.{number-low, counts-low, window-low}
+use Rattle.cdef_frame.specs.BlockLaws.{number-low, counts-low, block-sides, sample-low, window-low}
 use Rattle.cdef_frame.specs.UsableLaws.{usable}
 use Rattle.cdef_apply.specs.FilterLaws.{number-small, in-plane, room, filtered-is}
 use borrow.Author.Needs.{needs}
@@ -13,7 +13,7 @@ use Rattle.cdef_apply.proofs.block.filter_with.Statement.{statement}
 use Rattle.cdef_apply.proofs.block.filter_with.Tie as tie
 use Rattle.cdef_apply.proofs.block.filter_with.Reads as reads
 use Rattle.cdef_apply.proofs.block.filter_with.Lts as lts
-use Rattle.cdef_filter.proofs.cdef_filter_block.Reads as cdef-filter-block-reads
+use Rattle.cdef_inside.proofs.filter_block.Reads as filter-block-reads
 use Rattle.cdef_frame.proofs.geometry.block_of.Reads as block-of-reads
 use Rattle.cdef_frame.proofs.params.params_for.Reads as params-for-reads
 
@@ -36,17 +36,18 @@ params-for-requires : tie.Need-params-for-requires
 params-for-requires c κs = let s = c .before .before .before .before .before .before in let n = number s .0 in
     ((s .pre .0 .0, omega (arith, n, s .pre .0 .1), s .pre .0 .3 _, λ e. omega (arith, n, s .pre .0 .2 e)), (s .pre .1 .0 .2, s .pre .1 .0 .3, s .pre .1 .0 .1 .least, s .pre .1 .0 .1 .most))
 
-cdef-filter-block-requires : tie.Need-cdef-filter-block-requires
-cdef-filter-block-requires c κs = let s = c .before .before .before .before .before .before .before .before in let a = s .args in
+filter-block-requires : tie.Need-filter-block-requires
+filter-block-requires c κs = let s = c .before .before .before .before .before .before .before .before in let a = s .args in
     let e = c .before .before .before .block-of .ensures [] [] [] in
-    ((in-plane (a .f) (s .pre .0 .0) [] [] [] (a .by) (a .bx) (s .pre .1 .1 .2) (s .pre .1 .1 .3) (a .snapshot .now) (s .pre .1 .0 .0) _ _ _ e (s .pre .1 .1 .0) (s .pre .1 .1 .1), window-low (a .f) (s .pre .0 .0) (a .snapshot .now) (s .pre .1 .0 .0) _ _ _, rw (c .before .params-for .ensures) (usable _ _ _ _ _ _ (s .pre .0 .0 .deep) (s .pre .0 .0 .flat) (s .pre .1 .0 .2) (s .pre .1 .0 .3) (s .pre .1 .0 .1) (s .pre .0 .3 _))), (omega arith, room (a .f) (s .pre .0 .0) [] [] [] (a .by) (a .bx) (s .pre .1 .1 .2) (s .pre .1 .1 .3) _ _ _ _ e (s .pre .1 .1 .0) (s .pre .1 .1 .1) (s .pre .1 .1 .4)))
+    let k = block-sides (a .f) (s .pre .0 .0) [] [] [] (a .by) (a .bx) _ e in
+    ((in-plane (a .f) (s .pre .0 .0) [] [] [] (a .by) (a .bx) (s .pre .1 .1 .2) (s .pre .1 .1 .3) (a .snapshot .now) (s .pre .1 .0 .0) _ _ _ e (s .pre .1 .1 .0) (s .pre .1 .1 .1), window-low (a .f) (s .pre .0 .0) (a .snapshot .now) (s .pre .1 .0 .0) _ _ _, record { all = sample-low (a .f) (s .pre .0 .0) (a .snapshot .now) (s .pre .1 .0 .0) }, rw (c .before .params-for .ensures) (usable _ _ _ _ _ _ (s .pre .0 .0 .deep) (s .pre .0 .0 .flat) (s .pre .1 .0 .2) (s .pre .1 .0 .3) (s .pre .1 .0 .1) (s .pre .0 .3 _))), (omega arith, room (a .f) (s .pre .0 .0) [] [] [] (a .by) (a .bx) (s .pre .1 .1 .2) (s .pre .1 .1 .3) _ _ _ _ e (s .pre .1 .1 .0) (s .pre .1 .1 .1) (s .pre .1 .1 .4), record { side = k .0 }, record { side = k .1 }))
 
 same-length : tie.Need-same-length
 same-length c = search needs
 
 returns : tie.Need-returns
 returns c = let s = c .before .before .before .before .before .before .before .before .before .before .before in let a = s .args in
-    λ l. filtered-is (a .f) (s .pre .0 .0) l (a .dirs .now) (a .vars .now) (a .by) (a .bx) (s .pre .1 .1 .2) (s .pre .1 .1 .3) (a .d) (a .snapshot .now) (a .p) _ _ (a .w) (a .h) _ _ (c .before .before .before .before .before .before .block-of .ensures l (a .dirs .now) (a .vars .now)) (s .pre .1 .1 .0) (s .pre .1 .1 .1) (c .before .before .before .before .params-for .ensures) (c .before .before .cdef-filter-block .ensures)
+    λ l. filtered-is (a .f) (s .pre .0 .0) l (a .dirs .now) (a .vars .now) (a .by) (a .bx) (s .pre .1 .1 .2) (s .pre .1 .1 .3) (a .d) (a .snapshot .now) (a .p) _ _ (a .w) (a .h) _ _ (c .before .before .before .before .before .before .block-of .ensures l (a .dirs .now) (a .vars .now)) (s .pre .1 .1 .0) (s .pre .1 .1 .1) (c .before .before .before .before .params-for .ensures) (c .before .before .filter-block .ensures)
 
 pub filter-with-spec : {M : Type 1} → statement M
 filter-with-spec =
@@ -56,6 +57,6 @@ filter-with-spec =
     mul-params-for
     add-params-for
     params-for-requires
-    cdef-filter-block-requires
+    filter-block-requires
     same-length
     returns)

@@ -1,24 +1,21 @@
 -- A block of a plane: where it lies, and what it and its window hold.
 use mathlib.Core.Path.{_≡_, refl, _∙_}
-use mathlib.Core.Bool.{Bool, true, false, cond, _&&_}
 use mathlib.Core.List.{List}
 use mathlib.Core.Logic.{_⊎_, inl, inr}
-use Prim.Native.Nat.{ℕ, zero, suc, _+_, _-_, _*_, _/_, _%_, _≤_, _<_}
+use Prim.Native.Nat.{ℕ, zero, suc, _+_, _-_, _*_, _/_, _≤_, _<_}
 use native.Mathlib.Nat.{mul-le-mul-right, div-le-self}
 use native.Mathlib.Omega.{arith}
 use lib.Arith.{digits-lt}
-use lib.Dec.{leb, ltb}
 use lib.ListN.{getD}
 use lib.Pow.{pow-mono}
 use Rattle.cdef_spec.specs.declared.Block.{Block}
 use Rattle.cdef_spec.specs.Picture.{planeWidth, planeHeight, blockWidth, blockHeight}
-use Rattle.cdef_spec.specs.Document01.{Plane}
-use Rattle.cdef_spec.specs.CodeForm.{sampleAt}
 use Rattle.cdef_spec.specs.GeometryLaws.{sides-on}
 use Rattle.cdef_sample.specs.Bounds.{Held}
-use Rattle.cdef_sample.specs.Upto.{upto, upto-all-of}
+use Rattle.cdef_sample.specs.Upto.{upto}
 use Rattle.cdef_window.specs.Window.{planeOf, windowAt}
 use Rattle.cdef_window.specs.Spans.{InPlane}
+use Rattle.cdef_window.specs.WindowLaws.{window-held}
 use Rattle.cdef_frame.specs.declared.Frame.{Frame}
 use Rattle.cdef_frame.specs.Frame.{Shaped, pictureOf, blockOf}
 use Rattle.cdef_frame.specs.FrameLaws.{side-facts, width-is, height-is, block-width-is, block-height-is, flags-taken, tiles}
@@ -86,21 +83,5 @@ module _ (f : Frame) (h : Shaped f) (l : List ℕ) (g : Sampled f l) where
   pub sample-low : (k : ℕ) → getD l k 0 < 4096
   sample-low k = omega (arith, g .low k, pow-mono {i = f .depth} {j = 12} (h .flat))
 
-  placed : (p : Plane) → p .samples ≡ l → (r c : ℕ) → sampleAt p r c ≤ 16384
-  unfolding sampleAt
-  placed p e r c = rw e (go (leb 2 r && (ltb r (p .height + 2) && (leb 2 c && ltb c (p .width + 2)))) ((r - 2) * p .width + (c - 2)))
-    where
-      go : (b : Bool) (k : ℕ) → cond b (getD l k 0) 16384 ≤ 16384
-      go true k = omega (arith, sample-low k)
-      go false k = omega arith
-
-  entry-low : (w m : ℕ) (b : Block) (k : ℕ) → windowAt (planeOf l w m) b k ≤ 16384
-  unfolding windowAt
-  entry-low w m b k = go (ltb (k / 12) (b .height + 4) && ltb (k % 12) (b .width + 4)) (sampleAt (planeOf l w m) (b .y + k / 12) (b .x + k % 12)) (placed (planeOf l w m) refl (b .y + k / 12) (b .x + k % 12))
-    where
-      go : (t : Bool) (n : ℕ) → n ≤ 16384 → cond t n 16384 ≤ 16384
-      go true n h = h
-      go false n h = omega arith
-
   pub window-low : (w m : ℕ) (b : Block) → Held (upto (windowAt (planeOf l w m) b) 144)
-  window-low w m b = record { all = upto-all-of (λ (v : ℕ). v ≤ 16384) (windowAt (planeOf l w m) b) 144 0 (entry-low w m b) (omega arith) }
+  window-low w m b = window-held (planeOf l w m) (λ k. omega (arith, sample-low k)) b

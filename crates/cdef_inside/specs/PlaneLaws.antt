@@ -30,7 +30,8 @@ use Rattle.cdef_kernel.specs.PlaceLaws.{centre-is, on-tap, back-tap}
 use Rattle.cdef_kernel.specs.KernelLaws.{kernel-tap}
 use Rattle.cdef_plane_taps.specs.Steps.{stepIn, tapsIn, Reach}
 use Rattle.cdef_plane_taps.specs.StepLaws.{on-lands, back-lands, taps-reach}
-use Rattle.cdef_inside.specs.Inside.{innerBlock, Inner, Along, Around, Strong, priIn, secIn, insideTap}
+use Rattle.cdef_plane_rows.specs.Rows.{Along, Around, Strong, priIn, secIn, insideTap, Stored}
+use Rattle.cdef_inside.specs.Inside.{innerBlock, Inner}
 
 -- row i and column j of the block b of a plane w by h
 module _ (l : List ℕ) (w h : ℕ) (b : Block) (i j : ℕ) (hw : w ≤ 4096) (hh : h ≤ 4096) (bw : b .width ≤ 8) (bh : b .height ≤ 8) (hi : i < b .height) (hj : j < b .width) (x2 : 2 ≤ b .x) (y2 : 2 ≤ b .y) (xw : b .x + b .width + 2 ≤ w) (yh : b .y + b .height + 2 ≤ h) where

@@ -1,20 +1,13 @@
 // Blocks of a plane without marks: those two samples or more inside it are filtered straight from the plane, the others through their window.
-mod eights; // eights.rt: rows of eight samples
-mod fours; // fours.rt: four rows of four samples
-mod lanes; // lanes.rt: sixteen samples from their taps
-
 ghost use mathlib.Core.Path.{_≡_};
 ghost use Prim.Native.Nat.{_+_, _-_, _*_, _≤_, min};
 ghost use lib.ListN.{length};
-ghost use Rattle.cdef_spec.specs.Document01.{filtered};
-ghost use Rattle.cdef_spec.specs.LoopForm.{putBlock};
-ghost use Rattle.cdef_sample.specs.Bounds.{Held};
-ghost use Rattle.cdef_sample.specs.Upto.{upto};
-ghost use Rattle.cdef_window.specs.Window.{planeOf, windowAt};
 ghost use Rattle.cdef_window.specs.Spans.{InPlane};
 ghost use Rattle.cdef_filter.specs.Store.{Usable};
 ghost use Rattle.cdef_plane_taps.specs.Plain.{AllLow};
-ghost use Rattle.cdef_inside.specs.Inside.{Sided, Inner, innerBlock, blockFrom, paramsFrom};
+ghost use Rattle.cdef_inside.specs.Inside.{Sided, Inner, innerBlock, blockFrom, paramsFrom, storedBlock};
+use cdef_plane_rows::eights;
+use cdef_plane_rows::fours;
 use cdef_spec::Block;
 use cdef_spec::FilterParams;
 use cdef_spec::WorkingDamping;
@@ -53,9 +46,9 @@ fn filter_inside(
     damping: u8,
     depth: u8,
 )
-    requires { ⌜ InPlane (now src) w h (blockFrom x y bw bh) × Held (upto (windowAt (planeOf (now src) w h) (blockFrom x y bw bh)) 144) × AllLow (now src) × Usable (paramsFrom pri sec dir damping depth) ⌝ }
+    requires { ⌜ InPlane (now src) w h (blockFrom x y bw bh) × AllLow (now src) × Usable (paramsFrom pri sec dir damping depth) ⌝ }
     requires { ⌜ (y0 ≤ y) × ((y - y0 + bh) * w ≤ length (now dst)) × Sided bw × Sided bh × Inner w h x y bw bh ⌝ }
-    ensures { λ _. ⌜ now (dst .exit) ≡ putBlock (now (dst .entry)) w (λ r c. filtered (planeOf (now (src .entry)) w h) (paramsFrom pri sec dir damping depth) (y0 + r) c) (y - y0) x bw bh ⌝ }
+    ensures { λ _. ⌜ now (dst .exit) ≡ storedBlock (now (dst .entry)) (now (src .entry)) w h (paramsFrom pri sec dir damping depth) y0 y x bw bh ⌝ }
 {
     let d = cdef_kernel::from_one(WorkingDamping(damping));
     let f = cdef_kernel::primary(pri as u16, d, depth);
@@ -107,9 +100,9 @@ pub fn filter_block(
     damping: u8,
     depth: u8,
 )
-    requires { ⌜ InPlane (now src) w h (blockFrom x y bw bh) × Held (upto (windowAt (planeOf (now src) w h) (blockFrom x y bw bh)) 144) × AllLow (now src) × Usable (paramsFrom pri sec dir damping depth) ⌝ }
+    requires { ⌜ InPlane (now src) w h (blockFrom x y bw bh) × AllLow (now src) × Usable (paramsFrom pri sec dir damping depth) ⌝ }
     requires { ⌜ (y0 ≤ y) × ((y - y0 + min bh (h - y)) * w ≤ length (now dst)) × Sided bw × Sided bh ⌝ }
-    ensures { λ _. ⌜ now (dst .exit) ≡ putBlock (now (dst .entry)) w (λ r c. filtered (planeOf (now (src .entry)) w h) (paramsFrom pri sec dir damping depth) (y0 + r) c) (y - y0) x (min bw (w - x)) (min bh (h - y)) ⌝ }
+    ensures { λ _. ⌜ now (dst .exit) ≡ storedBlock (now (dst .entry)) (now (src .entry)) w h (paramsFrom pri sec dir damping depth) y0 y x (min bw (w - x)) (min bh (h - y)) ⌝ }
 {
     if inside(w, h, x, y, bw, bh) {
         filter_inside(

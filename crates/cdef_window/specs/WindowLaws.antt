@@ -13,6 +13,8 @@ use lib.ListN.{getD, length}
 use Rattle.cdef_spec.specs.declared.Block.{Block}
 use Rattle.cdef_spec.specs.Document01.{Plane}
 use Rattle.cdef_spec.specs.CodeForm.{sampleAt}
+use Rattle.cdef_sample.specs.Bounds.{Held}
+use Rattle.cdef_sample.specs.Upto.{upto, upto-all-of}
 use Rattle.cdef_window.specs.declared.Span.{Span}
 use Rattle.cdef_window.specs.Window.{planeOf, windowAt}
 use Rattle.cdef_window.specs.Spans.{SpanOf}
@@ -104,3 +106,26 @@ module _ (s : List ℕ) (w h : ℕ) (b : Block) (i j : ℕ) (hj : j < 12) where
       looked-in e l g =
           let d = digits-lt {q = b .y + i - 2} {m = h} {r = b .x + j - 2} {c = w} (omega (arith, hr .from, hr .to)) (omega (arith, hc .from, hc .to)) in
           omega (arith, e, mul-comm w h, d)
+
+-- ---- a plane whose samples are at most the mark
+
+module _ (p : Plane) (low : (k : ℕ) → getD (p .samples) k 0 ≤ 16384) where
+  sample-low : (r c : ℕ) → sampleAt p r c ≤ 16384
+  unfolding sampleAt
+  sample-low r c = go (leb 2 r && (ltb r (p .height + 2) && (leb 2 c && ltb c (p .width + 2)))) ((r - 2) * p .width + (c - 2))
+    where
+      go : (b : Bool) (k : ℕ) → cond b (getD (p .samples) k 0) 16384 ≤ 16384
+      go true k = low k
+      go false k = omega arith
+
+  entry-low : (b : Block) (k : ℕ) → windowAt p b k ≤ 16384
+  unfolding windowAt
+  entry-low b k = go (ltb (k / 12) (b .height + 4) && ltb (k % 12) (b .width + 4)) (sampleAt p (b .y + k / 12) (b .x + k % 12)) (sample-low (b .y + k / 12) (b .x + k % 12))
+    where
+      go : (t : Bool) (n : ℕ) → n ≤ 16384 → cond t n 16384 ≤ 16384
+      go true n h = h
+      go false n h = omega arith
+
+  -- so are its windows' entries
+  pub window-held : (b : Block) → Held (upto (windowAt p b) 144)
+  window-held b = record { all = upto-all-of (λ (v : ℕ). v ≤ 16384) (windowAt p b) 144 0 (entry-low b) (omega arith) }

@@ -1,4 +1,5 @@
 -- `cdef_inside::filter_block` meets its contract.
+use Rattle.cdef_window.specs.WindowLaws.{window-held}
 use mathlib.Core.Path.{_≡_, sym, _∙_}
 use Prim.Native.Nat.{ℕ, _-_, _≤_, min}
 use native.Mathlib.Omega.{arith}
@@ -35,7 +36,8 @@ returns c = let w = whole (c .before .before .before .before) in
     c .before .before .filter-inside .ensures ∙ rw (w .0, w .1)
 
 cdef-filter-block-requires : tie.Need-cdef-filter-block-requires
-cdef-filter-block-requires c κs = search needs
+cdef-filter-block-requires c κs = let s = c .before .before .before .before .before in
+    ((s .pre .0 .0, window-held _ (λ k. omega (arith, s .pre .0 .1 .all k)) _, s .pre .0 .2), (s .pre .1 .0, s .pre .1 .1))
 
 same-length-2 : tie.Need-same-length-2
 same-length-2 c = search needs

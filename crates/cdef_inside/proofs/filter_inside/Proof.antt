@@ -8,17 +8,22 @@ use native.Mathlib.Omega.{arith}
 use lib.ListN.{length}
 use Rattle.cdef_spec.specs.Standard.{Tap}
 use Rattle.cdef_spec.specs.LoopForm.{putBlock}
+use Rattle.cdef_sample.specs.Bounds.{Held}
+use Rattle.cdef_sample.specs.Upto.{upto}
+use Rattle.cdef_window.specs.Window.{planeOf, windowAt}
+use Rattle.cdef_window.specs.WindowLaws.{window-held}
 use Rattle.cdef_kernel.specs.Kernel.{priOf, secOf}
 use Rattle.cdef_plane_taps.specs.Steps.{tapsIn}
-use Rattle.cdef_inside.specs.Inside.{blockFrom, paramsFrom, Around, Strong, priIn, secIn}
+use Rattle.cdef_plane_rows.specs.Rows.{Around, Strong, priIn, secIn}
+use Rattle.cdef_inside.specs.Inside.{blockFrom, paramsFrom}
 use Rattle.cdef_inside.specs.PlaneLaws.{block-two, stored, pri-passed, sec-passed, strong-passed, around-row, around-four, room}
 use borrow.Author.Needs.{needs}
 use Rattle.cdef_inside.proofs.filter_inside.Statement.{statement}
 use Rattle.cdef_inside.proofs.filter_inside.Tie as tie
 use Rattle.cdef_inside.proofs.filter_inside.Reads as reads
 use Rattle.cdef_inside.proofs.filter_inside.Lts as lts
-use Rattle.cdef_inside.proofs.eights.rows.Reads as eights-rows-reads
-use Rattle.cdef_inside.proofs.fours.rows.Reads as fours-rows-reads
+use Rattle.cdef_plane_rows.proofs.eights.rows.Reads as eights-rows-reads
+use Rattle.cdef_plane_rows.proofs.fours.rows.Reads as fours-rows-reads
 use Rattle.cdef_kernel.proofs.from_one.Reads as from-one-reads
 use Rattle.cdef_kernel.proofs.primary.Reads as primary-reads
 use Rattle.cdef_kernel.proofs.secondary.Reads as secondary-reads
@@ -33,7 +38,7 @@ two-halves d mid last w F y z x a b e = b ∙ rw (e, a) (block-two d w F y x 4 4
 -- the strengths
 strong : (c : tie.After-secondary) → Strong (c .before .primary .result .s) (c .before .primary .result .sh) (c .before .primary .result .w0) (c .secondary .result .s) (c .secondary .result .sh)
 strong c = let s = c .before .before .before .before .before in
-    rw (c .before .primary .ensures, c .secondary .ensures) (strong-passed (s .args .pri) (s .args .sec) _ (s .args .depth) (s .pre .0 .3 .pri) (s .pre .0 .3 .sec))
+    rw (c .before .primary .ensures, c .secondary .ensures) (strong-passed (s .args .pri) (s .args .sec) _ (s .args .depth) (s .pre .0 .2 .pri) (s .pre .0 .2 .sec))
 
 pri-is : (c : tie.After-secondary) → let a = c .before .before .before .before .before .args in priIn (c .before .primary .result .s) (c .before .primary .result .sh) (c .before .primary .result .w0) ≡ priOf (a .pri) (max 1 (a .damping)) (a .depth)
 pri-is c = let a = c .before .before .before .before .before .args in
@@ -42,6 +47,9 @@ pri-is c = let a = c .before .before .before .before .before .args in
 sec-is : (c : tie.After-secondary) → let a = c .before .before .before .before .before .args in secIn (c .secondary .result .s) (c .secondary .result .sh) ≡ secOf (a .sec) (max 1 (a .damping))
 sec-is c = let a = c .before .before .before .before .before .args in
     rw (c .secondary .ensures, c .before .before .from-one .ensures) (sec-passed (a .pri) (a .sec) _ (a .depth))
+
+held : (s : tie.Start) → Held (upto (windowAt (planeOf (s .args .src .now) (s .args .w) (s .args .h)) (blockFrom (s .args .x) (s .args .y) (s .args .bw) (s .args .bh))) 144)
+held s = window-held _ (λ k. omega (arith, s .pre .0 .1 .all k)) _
 
 -- a block's first sample
 first : (s : tie.Start) → s .args .y * s .args .w + s .args .x < 2 ^ 25
@@ -99,7 +107,7 @@ add-to c = search needs
 rows-requires : tie.Need-rows-requires
 rows-requires c κs = let s = c .before .before .before .before .before .before .before .before in
     let a = s .args in
-    ((s .pre .0 .2, s .pre .0 .0 .wide, omega arith, s .pre .0 .3 .dir, strong (c .before .before .before)), λ i h. (around-row (a .w) (a .h) (a .x) (a .y) (a .bw) (a .bh) _ (s .pre .0 .0 .full) (s .pre .0 .0 .wide) (s .pre .0 .0 .high) (s .pre .1 .4) (a .dir) i (s .pre .0 .3 .dir) (omega arith) (omega arith), room (a .w) (a .x) (a .y - a .y0) (a .bh) _ i 8 (s .pre .1 .1) (omega arith) (omega (arith, s .pre .1 .4 .right))))
+    ((s .pre .0 .1, s .pre .0 .0 .wide, omega arith, s .pre .0 .2 .dir, strong (c .before .before .before)), λ i h. (around-row (a .w) (a .h) (a .x) (a .y) (a .bw) (a .bh) _ (s .pre .0 .0 .full) (s .pre .0 .0 .wide) (s .pre .0 .0 .high) (s .pre .1 .4) (a .dir) i (s .pre .0 .2 .dir) (omega arith) (omega arith), room (a .w) (a .x) (a .y - a .y0) (a .bh) _ i 8 (s .pre .1 .1) (omega arith) (omega (arith, s .pre .1 .4 .right))))
 
 same-length : tie.Need-same-length
 same-length c = search needs
@@ -111,12 +119,12 @@ returns c = let s = c .before .before .before .before .before .before .before .b
     let n = s .pre .1 .4 in
     let k : a .bh ≡ 8 = omega arith in
     let v : a .bw ≡ 8 = omega arith in
-    rw (k, v) (stored (a .src .now) (a .w) (a .h) (blockFrom (a .x) (a .y) (a .bw) (a .bh)) (paramsFrom (a .pri) (a .sec) (a .dir) (a .damping) (a .depth)) (a .y0) (a .y) (i .wide) (i .high) (i .bw) (i .bh) (n .left) (n .top) (n .right) (n .bottom) (s .pre .1 .0) (omega arith) (s .pre .0 .3 .dir) (s .pre .0 .1) _ _ _ _ 8 8 _ _ (omega arith) (omega arith) refl refl (pri-is (c .before .before .before .before .before .before)) (sec-is (c .before .before .before .before .before .before)) (c .before .before .rows .ensures))
+    rw (k, v) (stored (a .src .now) (a .w) (a .h) (blockFrom (a .x) (a .y) (a .bw) (a .bh)) (paramsFrom (a .pri) (a .sec) (a .dir) (a .damping) (a .depth)) (a .y0) (a .y) (i .wide) (i .high) (i .bw) (i .bh) (n .left) (n .top) (n .right) (n .bottom) (s .pre .1 .0) (omega arith) (s .pre .0 .2 .dir) (held s) _ _ _ _ 8 8 _ _ (omega arith) (omega arith) refl refl (pri-is (c .before .before .before .before .before .before)) (sec-is (c .before .before .before .before .before .before)) (c .before .before .rows .ensures .block))
 
 rows-requires-2 : tie.Need-rows-requires-2
 rows-requires-2 c κs = let s = c .before .before .before .before .before .before .before .before in
     let a = s .args in
-    ((s .pre .0 .2, s .pre .0 .0 .wide, omega arith, s .pre .0 .3 .dir, strong (c .before .before .before)), λ i h. (around-row (a .w) (a .h) (a .x) (a .y) (a .bw) (a .bh) _ (s .pre .0 .0 .full) (s .pre .0 .0 .wide) (s .pre .0 .0 .high) (s .pre .1 .4) (a .dir) i (s .pre .0 .3 .dir) (omega (arith, four-high s)) (omega arith), room (a .w) (a .x) (a .y - a .y0) (a .bh) _ i 8 (s .pre .1 .1) (omega (arith, four-high s)) (omega (arith, s .pre .1 .4 .right))))
+    ((s .pre .0 .1, s .pre .0 .0 .wide, omega arith, s .pre .0 .2 .dir, strong (c .before .before .before)), λ i h. (around-row (a .w) (a .h) (a .x) (a .y) (a .bw) (a .bh) _ (s .pre .0 .0 .full) (s .pre .0 .0 .wide) (s .pre .0 .0 .high) (s .pre .1 .4) (a .dir) i (s .pre .0 .2 .dir) (omega (arith, four-high s)) (omega arith), room (a .w) (a .x) (a .y - a .y0) (a .bh) _ i 8 (s .pre .1 .1) (omega (arith, four-high s)) (omega (arith, s .pre .1 .4 .right))))
 
 same-length-2 : tie.Need-same-length-2
 same-length-2 c = search needs
@@ -128,13 +136,13 @@ returns-2 c = let s = c .before .before .before .before .before .before .before 
     let n = s .pre .1 .4 in
     let k : a .bh ≡ 4 = short s (λ e. omega arith) in
     let v : a .bw ≡ 8 = omega arith in
-    rw (k, v) (stored (a .src .now) (a .w) (a .h) (blockFrom (a .x) (a .y) (a .bw) (a .bh)) (paramsFrom (a .pri) (a .sec) (a .dir) (a .damping) (a .depth)) (a .y0) (a .y) (i .wide) (i .high) (i .bw) (i .bh) (n .left) (n .top) (n .right) (n .bottom) (s .pre .1 .0) (omega arith) (s .pre .0 .3 .dir) (s .pre .0 .1) _ _ _ _ 8 4 _ _ (omega arith) (omega arith) refl refl (pri-is (c .before .before .before .before .before .before)) (sec-is (c .before .before .before .before .before .before)) (c .before .before .rows2 .ensures))
+    rw (k, v) (stored (a .src .now) (a .w) (a .h) (blockFrom (a .x) (a .y) (a .bw) (a .bh)) (paramsFrom (a .pri) (a .sec) (a .dir) (a .damping) (a .depth)) (a .y0) (a .y) (i .wide) (i .high) (i .bw) (i .bh) (n .left) (n .top) (n .right) (n .bottom) (s .pre .1 .0) (omega arith) (s .pre .0 .2 .dir) (held s) _ _ _ _ 8 4 _ _ (omega arith) (omega arith) refl refl (pri-is (c .before .before .before .before .before .before)) (sec-is (c .before .before .before .before .before .before)) (c .before .before .rows2 .ensures .block))
 
 rows-requires-3 : tie.Need-rows-requires-3
 rows-requires-3 c κs = let s = c .before .before .before .before .before .before .before in
     let a = s .args in
     let e : a .y * a .w + a .x + 0 * a .w ≡ a .y * a .w + a .x = omega arith in
-    ((s .pre .0 .2, s .pre .0 .0 .wide, s .pre .0 .3 .dir, strong (c .before .before)), (rw e at (around-four (a .w) (a .h) (a .x) (a .y) (a .bw) (a .bh) _ (s .pre .0 .0 .full) (s .pre .0 .0 .wide) (s .pre .0 .0 .high) (s .pre .1 .4) (a .dir) 0 (s .pre .0 .3 .dir) (four-high s) (four-wide s)), omega (arith, room (a .w) (a .x) (a .y - a .y0) (a .bh) _ 3 4 (s .pre .1 .1) (omega (arith, four-high s)) (omega (arith, s .pre .1 .4 .right, four-wide s)))))
+    ((s .pre .0 .1, s .pre .0 .0 .wide, s .pre .0 .2 .dir, strong (c .before .before)), (rw e at (around-four (a .w) (a .h) (a .x) (a .y) (a .bw) (a .bh) _ (s .pre .0 .0 .full) (s .pre .0 .0 .wide) (s .pre .0 .0 .high) (s .pre .1 .4) (a .dir) 0 (s .pre .0 .2 .dir) (four-high s) (four-wide s)), omega (arith, room (a .w) (a .x) (a .y - a .y0) (a .bh) _ 3 4 (s .pre .1 .1) (omega (arith, four-high s)) (omega (arith, s .pre .1 .4 .right, four-wide s)))))
 
 same-length-3 : tie.Need-same-length-3
 same-length-3 c = search needs
@@ -146,7 +154,7 @@ returns-3 c = let s = c .before .before .before .before .before .before .before 
     let n = s .pre .1 .4 in
     let k : a .bh ≡ 4 = omega arith in
     let v : a .bw ≡ 4 = narrow s (λ e. omega arith) in
-    rw (k, v) (stored (a .src .now) (a .w) (a .h) (blockFrom (a .x) (a .y) (a .bw) (a .bh)) (paramsFrom (a .pri) (a .sec) (a .dir) (a .damping) (a .depth)) (a .y0) (a .y) (i .wide) (i .high) (i .bw) (i .bh) (n .left) (n .top) (n .right) (n .bottom) (s .pre .1 .0) (omega arith) (s .pre .0 .3 .dir) (s .pre .0 .1) _ _ _ _ 4 4 _ _ (omega arith) (omega arith) refl refl (pri-is (c .before .before .before .before .before .before)) (sec-is (c .before .before .before .before .before .before)) (c .before .before .before .rows3 .ensures))
+    rw (k, v) (stored (a .src .now) (a .w) (a .h) (blockFrom (a .x) (a .y) (a .bw) (a .bh)) (paramsFrom (a .pri) (a .sec) (a .dir) (a .damping) (a .depth)) (a .y0) (a .y) (i .wide) (i .high) (i .bw) (i .bh) (n .left) (n .top) (n .right) (n .bottom) (s .pre .1 .0) (omega arith) (s .pre .0 .2 .dir) (held s) _ _ _ _ 4 4 _ _ (omega arith) (omega arith) refl refl (pri-is (c .before .before .before .before .before .before)) (sec-is (c .before .before .before .before .before .before)) (c .before .before .before .rows3 .ensures .block))
 
 mul-rows : tie.Need-mul-rows
 mul-rows c = search needs
@@ -164,7 +172,7 @@ rows-requires-4 : tie.Need-rows-requires-4
 rows-requires-4 c κs = let s = c .before .before .before .before .before .before .before .before .before .before .before .before in
     let a = s .args in
     let k : a .bh ≡ 8 = tall s (λ e. omega arith) in
-    ((s .pre .0 .2, s .pre .0 .0 .wide, s .pre .0 .3 .dir, strong (c .before .before .before .before .before .before .before)), (around-four (a .w) (a .h) (a .x) (a .y) (a .bw) (a .bh) _ (s .pre .0 .0 .full) (s .pre .0 .0 .wide) (s .pre .0 .0 .high) (s .pre .1 .4) (a .dir) 4 (s .pre .0 .3 .dir) (omega arith) (four-wide s), omega (arith, room (a .w) (a .x) (a .y - a .y0) (a .bh) _ 7 4 (s .pre .1 .1) (omega arith) (omega (arith, s .pre .1 .4 .right, four-wide s)), c .before .before .before .before .rows3 .kept .0)))
+    ((s .pre .0 .1, s .pre .0 .0 .wide, s .pre .0 .2 .dir, strong (c .before .before .before .before .before .before .before)), (around-four (a .w) (a .h) (a .x) (a .y) (a .bw) (a .bh) _ (s .pre .0 .0 .full) (s .pre .0 .0 .wide) (s .pre .0 .0 .high) (s .pre .1 .4) (a .dir) 4 (s .pre .0 .2 .dir) (omega arith) (four-wide s), omega (arith, room (a .w) (a .x) (a .y - a .y0) (a .bh) _ 7 4 (s .pre .1 .1) (omega arith) (omega (arith, s .pre .1 .4 .right, four-wide s)), c .before .before .before .before .rows3 .kept .0)))
 
 same-length-4 : tie.Need-same-length-4
 same-length-4 c = search needs
@@ -178,8 +186,8 @@ returns-4 c = let s = c .before .before .before .before .before .before .before 
     let v : a .bw ≡ 4 = narrow s (λ e. omega arith) in
     let l : a .y0 ≤ a .y = s .pre .1 .0 in
     let z : (a .y + 4 - a .y0) * a .w ≡ (a .y - a .y0) * a .w + 4 * a .w = two-parts (a .y) (a .y0) (a .w) l in
-    let p = stored (a .src .now) (a .w) (a .h) (blockFrom (a .x) (a .y) (a .bw) (a .bh)) (paramsFrom (a .pri) (a .sec) (a .dir) (a .damping) (a .depth)) (a .y0) (a .y) (i .wide) (i .high) (i .bw) (i .bh) (n .left) (n .top) (n .right) (n .bottom) l (omega arith) (s .pre .0 .3 .dir) (s .pre .0 .1) _ _ _ _ 4 4 _ _ (omega arith) (omega arith) refl refl (pri-is (c .before .before .before .before .before .before .before .before .before .before)) (sec-is (c .before .before .before .before .before .before .before .before .before .before)) (c .before .before .before .before .before .before .before .rows3 .ensures) in
-    let q = stored (a .src .now) (a .w) (a .h) (blockFrom (a .x) (a .y) (a .bw) (a .bh)) (paramsFrom (a .pri) (a .sec) (a .dir) (a .damping) (a .depth)) (a .y0) (a .y + 4) (i .wide) (i .high) (i .bw) (i .bh) (n .left) (n .top) (n .right) (n .bottom) (omega arith) (omega arith) (s .pre .0 .3 .dir) (s .pre .0 .1) _ _ _ _ 4 4 _ _ (omega arith) (omega arith) (omega arith) (omega arith) (pri-is (c .before .before .before .before .before .before .before .before .before .before)) (sec-is (c .before .before .before .before .before .before .before .before .before .before)) (c .before .before .rows4 .ensures) in
+    let p = stored (a .src .now) (a .w) (a .h) (blockFrom (a .x) (a .y) (a .bw) (a .bh)) (paramsFrom (a .pri) (a .sec) (a .dir) (a .damping) (a .depth)) (a .y0) (a .y) (i .wide) (i .high) (i .bw) (i .bh) (n .left) (n .top) (n .right) (n .bottom) l (omega arith) (s .pre .0 .2 .dir) (held s) _ _ _ _ 4 4 _ _ (omega arith) (omega arith) refl refl (pri-is (c .before .before .before .before .before .before .before .before .before .before)) (sec-is (c .before .before .before .before .before .before .before .before .before .before)) (c .before .before .before .before .before .before .before .rows3 .ensures .block) in
+    let q = stored (a .src .now) (a .w) (a .h) (blockFrom (a .x) (a .y) (a .bw) (a .bh)) (paramsFrom (a .pri) (a .sec) (a .dir) (a .damping) (a .depth)) (a .y0) (a .y + 4) (i .wide) (i .high) (i .bw) (i .bh) (n .left) (n .top) (n .right) (n .bottom) (omega arith) (omega arith) (s .pre .0 .2 .dir) (held s) _ _ _ _ 4 4 _ _ (omega arith) (omega arith) (omega arith) (omega arith) (pri-is (c .before .before .before .before .before .before .before .before .before .before)) (sec-is (c .before .before .before .before .before .before .before .before .before .before)) (c .before .before .rows4 .ensures .block) in
     rw (k, v) (two-halves _ _ _ _ _ _ _ _ p q (omega arith))
 
 pub filter-inside-spec : {M : Type 1} → statement M

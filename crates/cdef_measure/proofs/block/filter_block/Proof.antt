@@ -4,7 +4,7 @@ use native.Mathlib.Omega.{arith}
 use borrow.Author.Needs.{needs}
 use mathlib.Core.List.{[]}
 use Rattle.cdef_frame.specs.FrameLaws.{width-is}
-use Rattle.cdef_frame.specs.BlockLaws.{counts-low, number-low, block-sides, sample-low, window-low}
+use Rattle.cdef_frame.specs.BlockLaws.{counts-low, number-low, block-sides, sample-low}
 use Rattle.cdef_frame.specs.UsableLaws.{usable}
 use Rattle.cdef_measure.specs.FilledLaws.{number-small, fits-plane, has-room, stored-is, filled}
 use borrow.Author.Needs.{needs}
@@ -46,7 +46,6 @@ filter-block-requires c κs = let s = c .before .before .before .before .before 
     let z = block-sides (a .f) (k .0) [] (a .dirs .now) (a .vars .now) (a .by) (a .bx) _ eb in (
       (
         fits-plane (a .f) (k .0) [] (a .dirs .now) (a .vars .now) (a .plane .now) (k .1) (a .d) (a .p) (a .by) (a .bx) (s .pre .1 .1) (s .pre .1 .2) _ _ _ ew em eb,
-        window-low (a .f) (k .0) (a .plane .now) (k .1) _ _ _,
         record { all = sample-low (a .f) (k .0) (a .plane .now) (k .1) },
         rw (c .before .params-for .ensures) (usable _ _ _ _ _ _ (k .0 .deep) (k .0 .flat) (k .3) (k .4) (k .2) (l .dirs-low _)),
       ),

@@ -1,0 +1,7 @@
+-- Rows of a block straight from the plane, and their laws.
+pub mod Rows
+pub mod ReachLaws
+pub mod LaneLaws
+pub mod RunLaws
+pub mod FourLaws
+pub mod StoreLaws

@@ -1,0 +1,85 @@
+-- Where the taps of a row, or of four rows of four, lie.
+use mathlib.Core.Path.{_≡_, refl, sym, ap, _∙_}
+use Prim.Native.Nat.{ℕ, _+_, _-_, _*_, _/_, _%_, _^_, _≤_, _<_}
+use native.Mathlib.Nat.{mul-le-mul-right}
+use native.Mathlib.Omega.{arith}
+use Rattle.cdef_rows.specs.Place.{onFrom, backFrom}
+use Rattle.cdef_rows.specs.declared.Taps.{Taps}
+use Rattle.cdef_plane_taps.specs.StepLaws.{on-near, back-near, on-more, back-more}
+use Rattle.cdef_plane_rows.specs.Rows.{Reached, Reached6, Along, Around, fourAt}
+
+-- the index from which an offset leads to k
+pub back-any : (k o r : ℕ) → o < 2 ^ 64 → r < 2 ^ 64 → (r + o) % 2 ^ 64 ≡ k → r ≡ backFrom k o
+unfolding backFrom
+back-any k o r ho hr e = omega arith
+
+-- ---- one offset
+
+module _ {len k n o : ℕ} (a : Along len k n o) (j : ℕ) (h : j < n) where
+  along-fits : k + j + a .m < 2 ^ 63
+  along-fits = omega (arith, a .high, a .small)
+
+  reached : Reached len (k + j) o
+  reached =
+      let p = on-near (a .m) (k + j) o (omega (arith, a .low)) along-fits (a .reach) in
+      let q = back-near (a .m) (k + j) o (omega (arith, a .low)) along-fits (a .reach) in
+      record { on = omega (arith, p .0, a .high); back = omega (arith, q .0, a .high) }
+
+  -- from an index further on
+  pub on-along : onFrom (k + j) o ≡ onFrom k o + j
+  on-along = on-more (a .m) k o (a .low) (omega (arith, along-fits)) (a .reach) j along-fits
+
+  pub back-along : backFrom (k + j) o ≡ backFrom k o + j
+  back-along = back-more (a .m) k o (a .low) (omega (arith, along-fits)) (a .reach) j along-fits
+
+-- all n samples of the run lie in the list
+module _ {len k n o : ℕ} (a : Along len k n o) where
+  fits : k + a .m < 2 ^ 63
+  fits = omega (arith, a .high, a .small)
+
+  pub on-run : onFrom k o + n ≤ len
+  on-run = let p = on-near (a .m) k o (a .low) fits (a .reach) in omega (arith, p .0, a .high)
+
+  pub back-run : backFrom k o + n ≤ len
+  back-run = let p = back-near (a .m) k o (a .low) fits (a .reach) in omega (arith, p .0, a .high)
+
+-- ---- all six
+
+pub reached-all : {len k n : ℕ} {t : Taps} → Around len k n t → (j : ℕ) → j < n → Reached6 len (k + j) t
+reached-all a j h = record {
+  p0 = reached (a .p0) j h;
+  p1 = reached (a .p1) j h;
+  q0 = reached (a .q0) j h;
+  q1 = reached (a .q1) j h;
+  r0 = reached (a .r0) j h;
+  r1 = reached (a .r1) j h;
+}
+
+-- ---- sample j of four rows of four lies before the run's end
+
+pub four-in : (w j : ℕ) → j < 16 → j / 4 * w + j % 4 < 3 * w + 4
+four-in w j h =
+    let a : j / 4 ≤ 3 = omega arith in
+    let b : j / 4 * w ≤ 3 * w = mul-le-mul-right w a in
+    omega arith
+
+module _ (w : ℕ) {len k o : ℕ} (a : Along len k (3 * w + 4) o) (j : ℕ) (h : j < 16) where
+  pub on-four : onFrom (fourAt w k j) o ≡ fourAt w (onFrom k o) j
+  unfolding fourAt
+  on-four = on-along a (j / 4 * w + j % 4) (four-in w j h)
+
+  pub back-four : backFrom (fourAt w k j) o ≡ fourAt w (backFrom k o) j
+  unfolding fourAt
+  back-four = back-along a (j / 4 * w + j % 4) (four-in w j h)
+
+-- sample j of row i
+pub four-place : (w k i j : ℕ) → j < 4 → fourAt w k (i * 4 + j) ≡ k + i * w + j
+unfolding fourAt
+four-place w k i j h =
+    let a : (i * 4 + j) / 4 ≡ i = omega arith in
+    let b : (i * 4 + j) % 4 ≡ j = omega arith in
+    rw (a, b) (omega arith)
+
+-- a row of four before the run's end
+pub row-low : (w i : ℕ) → i < 4 → i * w ≤ 3 * w
+row-low w i h = let a : i ≤ 3 = omega arith in mul-le-mul-right w a

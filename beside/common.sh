@@ -50,6 +50,11 @@ build_program() {
     crate "$program" "$program/main.rs" --extern reference --extern support "$@"
 }
 
+# Compiles what the programs that time calls share.
+build_timed() {
+    crate timed timed/lib.rs --crate-type rlib --extern reference --extern support
+}
+
 # Prints the machine that a measurement runs on, and its load.
 machine() {
     echo "machine: $(sed -n 's/^model name[^:]*: //p' /proc/cpuinfo | head -n 1), $(nproc) cores, load $(cut -d ' ' -f 1 /proc/loadavg) at the start"

@@ -1,8 +1,10 @@
 //! What the lines add up to: a picture's cost for an encoder, and the goals.
 
-use crate::scene::DEPTHS;
-use crate::table::{Line, Table};
+use crate::{OURS, RUST, ratio};
 use support::frame::Size;
+use timed::encoder;
+use timed::scene::DEPTHS;
+use timed::table::{Line, Lines};
 
 /// The largest allowed ratio of our time to the reference's: goals, then the earlier limits.
 const GOALS: [(&str, &str, f64); 15] = [
@@ -32,53 +34,41 @@ const GROWN: [&str; 4] = [
     "measure (0, 0) luma",
 ];
 
-/// What an encoder runs of a picture in 4:2:0, and on how many planes. What was applied
-/// is measured with pair 0, 0.
-const ENCODER: [(&str, f64); 7] = [
-    ("direction pass", 1.0),
-    ("try luma", 1.0),
-    ("try chroma", 2.0),
-    ("apply (4, 2) luma", 1.0),
-    ("apply (4, 2) chroma", 2.0),
-    ("measure (0, 0) luma", 1.0),
-    ("measure (0, 0) chroma", 2.0),
-];
-
 /// Prints what a picture of that size costs, at each depth.
-pub fn encoder(table: &Table, size: Size) {
-    let Size { width, height, .. } = size;
+pub fn encoder(lines: &Lines, size: Size) {
     println!();
-    println!(
-        "An encoder's picture of {width} by {height} in 4:2:0: direction pass, trying, applying (4, 2) \
-         and measuring (0, 0), each in luma and both chroma planes; sums of the lines above."
-    );
+    println!("{}", encoder::heading(size));
     println!();
     println!("| bits | the reference, ms | ours, ms | ratio |");
     println!("|---|---|---|---|");
     for depth in DEPTHS {
         let size = Size { depth, ..size };
-        let sum = |time: fn(&Line) -> f64| -> f64 {
-            let of = |&(call, planes): &(&str, f64)| planes * time(table.line(call, size));
-            ENCODER.iter().map(of).sum::<f64>() * size.blocks() as f64 / 1e6
-        };
-        let (rust, ours) = (sum(|line| line.rust), sum(|line| line.ours));
+        let cost = |side| encoder::cost(lines, size, side).expect("every call was timed");
+        let (rust, ours) = (cost(RUST), cost(OURS));
         println!("| {depth} | {rust:.2} | {ours:.2} | {:.3} |", ours / rust);
     }
 }
 
+/// A line that was printed.
+fn line<'a>(lines: &'a Lines, call: &str, size: Size) -> &'a Line {
+    let found = lines.line(call, size);
+    found.unwrap_or_else(|| panic!("no line {call}, {size}"))
+}
+
 /// Prints the goals and limits at each depth, and the growth at the first.
-pub fn goals(table: &Table, size: Size, large: Size) {
+pub fn goals(lines: &Lines, size: Size, large: Size) {
     let of_depths = DEPTHS.map(|depth| format!("ratio, {depth} bits | "));
     println!();
     println!("| | call | at most | {} |", of_depths.join(" | "));
     println!("|---|---|---|---|---|---|---|");
     for (kind, call, most) in GOALS {
-        let ratio = |depth| table.line(call, Size { depth, ..size }).ratio();
-        let cells = DEPTHS.map(|depth| cell(ratio(depth), most));
+        let of = |depth| ratio(line(lines, call, Size { depth, ..size }));
+        let cells = DEPTHS.map(|depth| cell(of(depth), most));
         println!("| {kind} | {call} | {most:.2} | {} |", cells.join(" | "));
     }
     for call in GROWN {
-        let grown = table.line(call, large).ours / table.line(call, size).ours;
+        let time = |size| line(lines, call, size).time(OURS);
+        let grown = time(large) / time(size);
         let (from, to) = (size.width, large.width);
         println!(
             "| growth | {call}, {from} to {to} wide | {GROWTH:.2} | {} | | |",

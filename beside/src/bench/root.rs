@@ -1,10 +1,11 @@
 //! The square root of the weighted distance against the processor's own, one value per block.
 
-use crate::table::Table;
 use ours::bare;
 use std::hint::black_box;
 use support::frame::Size;
 use support::random::Random;
+use timed::table::Table;
+use timed::timing::Pass;
 
 const VALUES: usize = 4800;
 const SEED: u64 = 64;
@@ -22,22 +23,19 @@ fn values() -> Vec<f64> {
 }
 
 pub fn line(table: &mut Table, size: Size) {
+    let call = "square root, the processor's for the reference";
     let values = values();
-    table.time(
-        "square root, the processor's for the reference",
-        size,
-        values.len(),
-        || {
-            for &v in &values {
-                black_box(bare::root(black_box(v)));
-            }
-        },
-        || {
-            for &v in &values {
-                black_box(black_box(v).sqrt());
-            }
-        },
-    );
+    let rust: Pass = Box::new(|| {
+        for &v in &values {
+            black_box(black_box(v).sqrt());
+        }
+    });
+    let ours: Pass = Box::new(|| {
+        for &v in &values {
+            black_box(bare::root(black_box(v)));
+        }
+    });
+    table.time(call, size, values.len(), vec![rust, ours]);
     let same = |&v: &f64| bare::root(v).to_bits() == v.sqrt().to_bits();
-    table.answers(values.iter().all(same));
+    table.answers(call, size, 0, values.iter().all(same));
 }

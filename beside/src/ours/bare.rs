@@ -128,20 +128,29 @@ pub fn distance(
     weighted: bool,
 ) -> (u32, i64) {
     let mut out = 0;
+    macro_rules! number {
+        ($entry:ident) => {
+            entries::$entry(
+                original.as_ptr(),
+                original.len(),
+                other.as_ptr(),
+                other.len(),
+                width,
+                height,
+                x,
+                y,
+                depth,
+                &mut out,
+            )
+        };
+    }
     // SAFETY: the planes have the lengths given; one number is borrowed for the call.
     let number = unsafe {
-        entries::measure(weighted)(
-            original.as_ptr(),
-            original.len(),
-            other.as_ptr(),
-            other.len(),
-            width,
-            height,
-            x,
-            y,
-            depth,
-            &mut out,
-        )
+        if weighted {
+            number!(quern_distance)
+        } else {
+            number!(quern_squares)
+        }
     };
     (number, out)
 }

@@ -4,6 +4,7 @@ pub mod bare;
 mod entries;
 pub mod frame;
 mod list;
+pub mod passes;
 
 use entries::*;
 use list::List;

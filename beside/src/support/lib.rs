@@ -11,6 +11,7 @@ pub mod direction;
 pub mod distance;
 pub mod filter;
 pub mod frame;
+pub mod library;
 pub mod log2_floor;
 pub mod options;
 pub mod planes;

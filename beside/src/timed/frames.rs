@@ -2,11 +2,11 @@
 
 use crate::scene::{DAMPING, Scene, tiled};
 use crate::table::Table;
-use ours::frame::bare;
 use std::hint::black_box;
 use support::frame::applying::Applying;
 use support::frame::comparing::Compared;
 use support::frame::{DampingChoice, Kind, Picture, Size};
+use support::library::Library;
 
 /// Luma, and a chroma plane in 4:2:0.
 const PLANES: [(&str, Kind); 2] = [
@@ -15,8 +15,8 @@ const PLANES: [(&str, Kind); 2] = [
 ];
 
 /// Luma and a chroma plane of one size, with their names.
-struct Pictures<'a> {
-    table: &'a mut Table,
+struct Pictures<'a, 'b> {
+    table: &'a mut Table<'b>,
     planes: [(&'static str, Compared); 2],
 }
 
@@ -38,14 +38,14 @@ pub fn lines(table: &mut Table, scene: &Scene, size: Size) {
     }
 }
 
-impl Pictures<'_> {
+impl Pictures<'_, '_> {
     fn direction_pass(&mut self) {
         let Compared { picture, plane, .. } = self.planes[0].1.clone();
         let size = picture.size;
         self.line(
             "direction pass",
             (vec![0; size.blocks()], vec![0; size.blocks()]),
-            |(dirs, vars)| bare::direction_pass(dirs, vars, black_box(&plane), &size),
+            |library, (dirs, vars)| library.direction_pass(dirs, vars, black_box(&plane), &size),
             |lists| {
                 let plane = black_box(&plane);
                 *lists = reference::direction_pass(plane, size.width, size.height, size.depth);
@@ -59,7 +59,7 @@ impl Pictures<'_> {
         self.line(
             &format!("try {name}"),
             vec![0; 12 * c.picture.size.units()],
-            |totals| bare::trying(totals, black_box(&c)),
+            |library, totals| library.trying(totals, black_box(&c)),
             |totals| {
                 let c = black_box(&c);
                 *totals = try_all(&frame, &c.plane, &c.original).into_flattened();
@@ -75,7 +75,7 @@ impl Pictures<'_> {
         self.line(
             &format!("apply {pair:?} {name}"),
             case.snapshot.clone(),
-            |dst| bare::applying(dst, black_box(&case)),
+            |library, dst| library.applying(dst, black_box(&case)),
             |dst| apply(&frame, dst, black_box(&case.snapshot), &pairs),
         );
     }
@@ -90,7 +90,9 @@ impl Pictures<'_> {
         self.line(
             &format!("measure {pair:?} {name}"),
             lists,
-            |(totals, scratch)| bare::measuring(totals, scratch, black_box(&c), black_box(pair)),
+            |library, (totals, scratch)| {
+                library.measuring(totals, scratch, black_box(&c), black_box(pair))
+            },
             |(totals, _)| {
                 let (c, (pri, sec)) = (black_box(&c), black_box(pair));
                 *totals = measure(&frame, &c.plane, &c.original, pri, sec);
@@ -103,20 +105,20 @@ impl Pictures<'_> {
         &mut self,
         call: &str,
         before: T,
-        ours: impl Fn(&mut T) -> u32,
+        ours: impl Fn(&dyn Library, &mut T) -> u32,
         rust: impl Fn(&mut T),
     ) {
         let size = self.planes[0].1.picture.size;
-        let (mut our_out, mut rust_out) = (before.clone(), before);
-        let mut refused = 0;
-        self.table.time(
-            call,
-            size,
-            size.blocks(),
-            || refused |= ours(black_box(&mut our_out)),
-            || rust(black_box(&mut rust_out)),
-        );
-        self.table.answers(refused == 0 && our_out == rust_out);
+        if !(self.table.plan.wanted)(call, size) {
+            return;
+        }
+        let mut rust_out = before.clone();
+        let of = (call, size, size.blocks());
+        let outs = self.table.written(of, (before, &mut rust_out), ours, rust);
+        for (k, (refused, out)) in outs.into_iter().enumerate() {
+            let same = refused == 0 && out == rust_out;
+            self.table.answers(call, size, k, same);
+        }
     }
 }
 

@@ -2,6 +2,7 @@
 
 use std::fmt::{Display, Formatter, Result};
 use support::frame::Size;
+use support::library::{Block, Samples};
 use support::random::Random;
 
 pub const WIDTH: usize = 640;
@@ -21,13 +22,6 @@ pub struct Scene {
     /// The direction and the variance of each 8 by 8 block, in rows.
     directions: Vec<u8>,
     variances: Vec<u32>,
-}
-
-/// Where an 8 by 8 block begins, and its direction and variance.
-pub struct Block {
-    pub at: (usize, usize),
-    pub dir: u8,
-    pub variance: u32,
 }
 
 /// A surface of the picture: a disc with a level, a slope and a texture of its own.
@@ -103,6 +97,15 @@ impl Scene {
             other,
             directions,
             variances,
+        }
+    }
+
+    /// The plane, for calls on its blocks.
+    pub fn samples(&self) -> Samples<'_> {
+        Samples {
+            plane: &self.plane,
+            sides: (WIDTH, HEIGHT),
+            depth: self.size.depth,
         }
     }
 

@@ -62,7 +62,7 @@ module _ (x : ℕ → ℕ → ℤ) where
   unfolding entry
   line-at d n h = getD-upto (partial x d) 16 n (pos 0) h
 
-  costs-are : (d : ℕ) → d < 8 → getD (costList (partialsOf x)) d 0 ≡ cost x d
+  pub costs-are : (d : ℕ) → d < 8 → getD (costList (partialsOf x)) d 0 ≡ cost x d
   unfolding costList partialsOf cost
   costs-are zero h = diagonal-same (entry (upto (partial x 0) 16)) (partial x 0) (line-at 0)
   costs-are (suc zero) h = between-same (entry (upto (partial x 1) 16)) (partial x 1) (line-at 1)
@@ -118,7 +118,7 @@ module _ (c c′ : ℕ → ℕ) (same : (d : ℕ) → d < 8 → c d ≡ c′ d) 
   unfolding better
   better-same d h {b} {b′} e = rw (e, same d h)
 
-  best-same : best c ≡ best c′
+  pub best-same : best c ≡ best c′
   unfolding best for
   best-same = better-same 7 (omega arith) (better-same 6 (omega arith) (better-same 5 (omega arith) (better-same 4 (omega arith) (better-same 3 (omega arith) (better-same 2 (omega arith) (better-same 1 (omega arith) (better-same 0 (omega arith) refl)))))))
 

@@ -112,7 +112,7 @@ module _ (f : ℕ → ℤ) (L : ℕ → ℕ) (n o : ℕ) where
       same (yes h) = let k : 8 + suc m ≤ n + o = omega arith in le-ltb (n + o) (8 + m) h ∙ sym (le-ltb (n + o) (8 + suc m) k)
       same (no h) = let k : n + o < 8 + m = omega arith in let k2 : n + o < 8 + suc m = omega arith in lt-ltb (n + o) (8 + m) k ∙ sym (lt-ltb (n + o) (8 + suc m) k2)
 
-  row-is : (m : ℕ) → ((j : ℕ) → j < m → L j + o ≡ j + 8) → sumℤ m (λ j. cond (eqb (L j) n) (f j) (pos 0)) ≡ cond (leb 8 (n + o) && ltb (n + o) (8 + m)) (f (n + o - 8)) (pos 0)
+  pub row-is : (m : ℕ) → ((j : ℕ) → j < m → L j + o ≡ j + 8) → sumℤ m (λ j. cond (eqb (L j) n) (f j) (pos 0)) ≡ cond (leb 8 (n + o) && ltb (n + o) (8 + m)) (f (n + o - 8)) (pos 0)
   unfolding sumℤ
   row-is zero h = sym row-none
   row-is (suc m) h = rw (row-is m (λ j l. h j (omega arith))) (go (ℕ-discrete (n + o) (8 + m)))
@@ -204,7 +204,7 @@ module _ (x : ℕ → ℕ → ℤ) where
   lines-7 = upto-ext _ _ 16 (line-is x (λ i j. i / 2 + j) (λ i. 8 - i / 2) 8 24 47 (λ i j hi hj. omega arith) (λ i hi. omega arith) (λ i hi. omega arith))
 
   -- the block transposed: its row i is column i
-  turned-is : (d n : ℕ) → sumℤ 8 (λ i. sumℤ 8 (λ j. cond (eqb (lineOf d j i) n) (x j i) (pos 0))) ≡ partial x d n
+  pub turned-is : (d n : ℕ) → sumℤ 8 (λ i. sumℤ 8 (λ j. cond (eqb (lineOf d j i) n) (x j i) (pos 0))) ≡ partial x d n
   unfolding partial
   turned-is d n = sum-swap 8 8 (λ i j. cond (eqb (lineOf d j i) n) (x j i) (pos 0))
 

@@ -8,7 +8,7 @@ use crate::Partials;
 use cdef_leaf::tables;
 
 // The square of a line sum.
-fn square_of(v: i16) -> u32
+pub fn square_of(v: i16) -> u32
     ensures { λ r. ⌜ r ≡ square v ⌝ }
 {
     let w = v as i32;

@@ -9,7 +9,7 @@ ghost use Rattle.cdef_spec.specs.Questions.{cutTaken};
 ghost use Rattle.cdef_direction.specs.Lines.{blockOf};
 
 // A sample, shifted, less 128.
-fn level(v: u16, shift: u32) -> i16
+pub fn level(v: u16, shift: u32) -> i16
     requires { ⌜ (shift ≤ 4) × (v / 2 ^ shift < 256) ⌝ }
     ensures { λ r. ⌜ r ≡ pos (v / 2 ^ shift) -ℤ pos 128 ⌝ }
 {

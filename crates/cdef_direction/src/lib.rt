@@ -8,8 +8,8 @@ ghost use Rattle.cdef_spec.specs.Questions.{cutTaken};
 ghost use Rattle.cdef_direction.specs.Costs.{CostsFit, foundOf};
 ghost use Rattle.cdef_direction.specs.Lines.{partialsOf};
 
-mod costs; // costs.rt: the cost of each direction, and the best
-mod levels; // levels.rt: the samples of a block, shifted and less 128
+pub mod costs; // costs.rt: the cost of each direction, and the best
+pub mod levels; // levels.rt: the samples of a block, shifted and less 128
 mod lines; // lines.rt: the line sums of a block
 pub mod looked; // looked.rt: whether the samples of a block are below 2^depth
 

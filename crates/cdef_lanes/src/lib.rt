@@ -1,0 +1,68 @@
+// The samples of eight blocks side by side, interleaved: in each group of eight, entry l is of block l. Such a group is called a group of lanes.
+ghost use mathlib.Core.Path.{_≡_};
+ghost use Prim.Native.Nat.{_+_, _*_, _≤_};
+ghost use lib.ListN.{length};
+ghost use Rattle.cdef_sample.specs.Bounds.{Within};
+ghost use Rattle.cdef_lanes.specs.Lanes.{EightIn, rowsOf, interleavedOf, lanesOf};
+use cdef_direction::levels;
+
+// The rows of the eight blocks at (x, y): 64 samples each, shifted, less 128.
+fn rows(
+    a: &mut [i16; 512],
+    plane: &[u16],
+    width: usize,
+    height: usize,
+    x: usize,
+    y: usize,
+    depth: u8,
+)
+    requires { ⌜ (length (now a) ≡ 512) × EightIn (now plane) width height depth y x ⌝ }
+    ensures { λ _. ⌜ now (a .exit) ≡ rowsOf (record { samples = now (plane .entry); width = width; height = height }) depth y x ⌝ }
+{
+    let shift = (depth - 8) as u32;
+    for i in 0..8usize {
+        let at = (y + i) * width + x;
+        let to = i * 64;
+        for k in 0..64usize {
+            a[to + k] = levels::level(plane[at + k], shift);
+        }
+    }
+}
+
+// Each run of eight entries interleaved with the run `half` further on. Runs are `on` apart, groups of eight runs `row`.
+fn interleaved(out: &mut [i16; 512], a: &[i16; 512], row: usize, on: usize, half: usize)
+    requires { ⌜ (length (now out) ≡ 512) × (3 * row + 7 * on + half + 8 ≤ 512) × Within (now a) 128 ⌝ }
+    ensures { λ _. ⌜ now (out .exit) ≡ interleavedOf (now (a .entry)) row on half ⌝ }
+{
+    for m in 0..4usize {
+        for i in 0..8usize {
+            let to = m * 128 + i * 16;
+            let from = m * row + i * on;
+            for j in 0..8usize {
+                out[to + 2 * j] = a[from + j];
+                out[to + 2 * j + 1] = a[from + half + j];
+            }
+        }
+    }
+}
+
+// The lanes of the eight blocks at (x, y): sample (i, j) of block l at 64 i + 8 j + l. `a` is overwritten.
+pub fn lanes(
+    s: &mut [i16; 512],
+    a: &mut [i16; 512],
+    plane: &[u16],
+    width: usize,
+    height: usize,
+    x: usize,
+    y: usize,
+    depth: u8,
+)
+    requires { ⌜ (length (now s) ≡ 512) × (length (now a) ≡ 512) × EightIn (now plane) width height depth y x ⌝ }
+    ensures { λ _. ⌜ length (now (a .exit)) ≡ 512 ⌝ }
+    ensures { λ _. ⌜ now (s .exit) ≡ lanesOf (record { samples = now (plane .entry); width = width; height = height }) depth y x ⌝ }
+{
+    rows(a, plane, width, height, x, y, depth);
+    interleaved(s, a, 8, 64, 32);
+    interleaved(a, s, 64, 8, 256);
+    interleaved(s, a, 64, 8, 256);
+}

@@ -112,6 +112,10 @@ sum-size f w h (suc n) = omega (arith, sum-size f w h n, size-add (sumℤ n f) (
 pub sums-within : (z : List ℤ) (rows first way n : ℕ) → Within z 256 → n ≤ 8 → Within (upto (λ m. sumℤ n (λ i. addAt z (placeOf i rows first way * 8) (i * 64) 64 m)) 128) 2048
 sums-within z rows first way n h hn = record { all = upto-all-of (λ (z : ℤ). natAbs z ≤ 2048) _ 128 (pos 0) (λ k. omega (arith, sum-size (λ i. addAt z (placeOf i rows first way * 8) (i * 64) 64 k) 256 (λ i. add-size z _ _ 64 k 256 h) n)) (omega arith) }
 
+pub lines-within : (z : List ℤ) (rows first way : ℕ) → Within z 256 → rows ≤ 8 → Within (linesOf z rows first way) 2048
+unfolding linesOf
+lines-within z rows first way h hr = sums-within z rows first way rows h hr
+
 pub pair-size : (s : List ℤ) (at next l : ℕ) → Within s 128 → natAbs (pairAt s at next l) ≤ 256
 unfolding pairAt
 pair-size s at next l h = omega (arith, size-add (getD s (at + l) (pos 0)) (getD s (at + next + l) (pos 0)), h .all (at + l), h .all (at + next + l))
@@ -119,6 +123,10 @@ pair-size s at next l h = omega (arith, size-add (getD s (at + l) (pos 0)) (getD
 pub pairs-within : (s : List ℤ) (down on next : ℕ) → Within s 128 → Within (pairsOf s down on next) 256
 unfolding pairsOf
 pairs-within s down on next h = record { all = upto-all-of (λ (z : ℤ). natAbs z ≤ 256) _ 256 (pos 0) (λ k. pair-size s _ next _ h) (omega arith) }
+
+pub length-pairs : (s : List ℤ) (down on next : ℕ) → length (pairsOf s down on next) ≡ 256
+unfolding pairsOf
+length-pairs s down on next = length-upto _ 256
 
 -- ---- where a row starts
 

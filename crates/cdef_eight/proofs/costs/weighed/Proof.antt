@@ -1,0 +1,149 @@
+-- `cdef_eight::costs::weighed` meets its contract.
+use mathlib.Core.Path.{_≡_, sym, ap, _∙_}
+use mathlib.Core.List.{List}
+use Prim.Native.Nat.{ℕ, _+_, _*_, _/_, _≤_}
+use native.Mathlib.Omega.{arith}
+use lib.ListN.{getD}
+use Rattle.cdef_eight.specs.Costs.{straightOf, betweenOf, diagonalOf, weigh, weighedOf}
+use Rattle.cdef_eight.specs.CostsLaws.{weigh-straight, weigh-between, weigh-diagonal}
+use borrow.Author.Needs.{needs}
+use Rattle.cdef_eight.proofs.costs.weighed.Statement.{statement}
+use Rattle.cdef_eight.proofs.costs.weighed.Tie as tie
+
+-- the squares as they are read
+module _ (kind : ℕ) (q : List ℕ) (l : ℕ) where
+  zero-at : getD q (0 * 8 + l) 0 ≡ getD q l 0
+  zero-at = ap (λ (k : ℕ). getD q k 0) (omega arith)
+
+  when-straight : kind ≡ 0 → weighedOf kind q l ≡ straightOf (getD q l 0) (getD q (8 + l) 0) (getD q (16 + l) 0) (getD q (24 + l) 0) (getD q (32 + l) 0) (getD q (40 + l) 0) (getD q (48 + l) 0) (getD q (56 + l) 0 / 2)
+  unfolding weighedOf
+  when-straight h = weigh-straight kind _ h ∙ rw zero-at
+
+  when-between : kind ≡ 1 → weighedOf kind q l ≡ betweenOf (getD q (16 + l) 0) (getD q (24 + l) 0) (getD q (32 + l) 0) (getD q (40 + l) 0) (getD q (48 + l) 0) (getD q (56 + l) 0 / 2)
+  unfolding weighedOf
+  when-between h = weigh-between kind _ h
+
+  when-diagonal : (kind ≡ 0 → ⊥) → (kind ≡ 1 → ⊥) → weighedOf kind q l ≡ diagonalOf (getD q l 0) (getD q (8 + l) 0) (getD q (16 + l) 0) (getD q (24 + l) 0) (getD q (32 + l) 0) (getD q (40 + l) 0) (getD q (48 + l) 0) (getD q (56 + l) 0 / 2)
+  unfolding weighedOf
+  when-diagonal h g = weigh-diagonal kind _ h g ∙ rw zero-at
+
+mul-a : tie.Need-mul-a
+mul-a c = search needs
+
+element-copy-out-a : tie.Need-element-copy-out-a
+element-copy-out-a c = search needs
+
+add-b : tie.Need-add-b
+add-b c = search needs
+
+mul-b : tie.Need-mul-b
+mul-b c = search needs
+
+element-copy-out-b : tie.Need-element-copy-out-b
+element-copy-out-b c = search needs
+
+add-c : tie.Need-add-c
+add-c c = search needs
+
+mul-c : tie.Need-mul-c
+mul-c c = search needs
+
+element-copy-out-c : tie.Need-element-copy-out-c
+element-copy-out-c c = search needs
+
+add-d : tie.Need-add-d
+add-d c = search needs
+
+mul-d : tie.Need-mul-d
+mul-d c = search needs
+
+element-copy-out-d : tie.Need-element-copy-out-d
+element-copy-out-d c = search needs
+
+add-e : tie.Need-add-e
+add-e c = search needs
+
+mul-e : tie.Need-mul-e
+mul-e c = search needs
+
+element-copy-out-e : tie.Need-element-copy-out-e
+element-copy-out-e c = search needs
+
+add-f : tie.Need-add-f
+add-f c = search needs
+
+mul-f : tie.Need-mul-f
+mul-f c = search needs
+
+element-copy-out-f : tie.Need-element-copy-out-f
+element-copy-out-f c = search needs
+
+add-g : tie.Need-add-g
+add-g c = search needs
+
+mul-g : tie.Need-mul-g
+mul-g c = search needs
+
+element-copy-out-g : tie.Need-element-copy-out-g
+element-copy-out-g c = search needs
+
+add-h : tie.Need-add-h
+add-h c = search needs
+
+mul-h : tie.Need-mul-h
+mul-h c = search needs
+
+element-copy-out-h : tie.Need-element-copy-out-h
+element-copy-out-h c = search needs
+
+straight-requires : tie.Need-straight-requires
+straight-requires c κs = let s = c .before .before .before .before .before .before .before .before .before in omega (arith, when-straight (s .args .kind) (s .args .q .now) (s .args .l) (c .if1 .taken), s .pre .1)
+
+returns : tie.Need-returns
+returns c = c .straight .ensures ∙ sym (when-straight _ _ _ (c .before .if1 .taken))
+
+between-requires : tie.Need-between-requires
+between-requires c κs = let s = c .before .before .before .before .before .before .before .before .before .before in omega (arith, when-between (s .args .kind) (s .args .q .now) (s .args .l) (c .if2 .taken), s .pre .1)
+
+returns-2 : tie.Need-returns-2
+returns-2 c = c .between .ensures ∙ sym (when-between _ _ _ (c .before .if2 .taken))
+
+diagonal-requires : tie.Need-diagonal-requires
+diagonal-requires c κs = let s = c .before .before .before .before .before .before .before .before .before .before in omega (arith, when-diagonal (s .args .kind) (s .args .q .now) (s .args .l) (c .before .if1 .left) (c .if2 .left), s .pre .1)
+
+returns-3 : tie.Need-returns-3
+returns-3 c = c .diagonal .ensures ∙ sym (when-diagonal _ _ _ (c .before .before .if1 .left) (c .before .if2 .left))
+
+pub weighed-spec : {M : Type 1} → statement M
+weighed-spec =
+    tie.close
+    (tie.spec
+    mul-a
+    element-copy-out-a
+    add-b
+    mul-b
+    element-copy-out-b
+    add-c
+    mul-c
+    element-copy-out-c
+    add-d
+    mul-d
+    element-copy-out-d
+    add-e
+    mul-e
+    element-copy-out-e
+    add-f
+    mul-f
+    element-copy-out-f
+    add-g
+    mul-g
+    element-copy-out-g
+    add-h
+    mul-h
+    element-copy-out-h
+    straight-requires
+    returns
+    between-requires
+    returns-2
+    diagonal-requires
+    returns-3)

@@ -1,0 +1,72 @@
+-- The costs of eight blocks in lanes, in the code's form. Definitions only.
+use mathlib.Core.Path.{_≡_}
+use mathlib.Core.Bool.{cond}
+use mathlib.Core.List.{List}
+use Prim.Native.Nat.{ℕ, zero, suc, _+_, _-_, _*_, _/_, _%_, _≤_, _<_}
+use lib.Dec.{eqb}
+use lib.ListN.{getD, set, take, length}
+use lib.IntN.{ℤ, pos}
+use Rattle.cdef_spec.specs.Standard.{square, cost}
+use Rattle.cdef_sample.specs.Upto.{upto}
+use Rattle.cdef_eight.specs.Lines.{laneOf}
+
+-- line n of lane l
+unfoldable pub lineAt : List ℤ → ℕ → ℕ → ℤ
+lineAt p l n = getD p (n * 8 + l) (pos 0)
+
+-- lines n and 14 - n side by side
+unfoldable pub endAt : List ℤ → ℕ → ℤ
+endAt p k = lineAt p (k / 2 % 8) (cond (eqb (k % 2) 0) (k / 16) (14 - k / 16))
+
+unfoldable pub endsOf : List ℤ → List ℤ
+endsOf p = upto (endAt p) 128
+
+-- their squares
+unfoldable pub endSquares : List ℤ → ℕ → ℕ → ℕ
+endSquares p l n = square (lineAt p l n) + square (lineAt p l (14 - n))
+
+unfoldable pub squaresOf : List ℤ → List ℕ
+squaresOf p = upto (λ k. endSquares p (k % 8) (k / 8)) 64
+
+-- weighted with the divisors of the lines' lengths: straight lines, those between, diagonal ones
+abbrev pub straightOf : ℕ → ℕ → ℕ → ℕ → ℕ → ℕ → ℕ → ℕ → ℕ
+straightOf a b c d e f g h = (a + b + c + d + (e + f + g + h)) * 105
+
+abbrev pub betweenOf : ℕ → ℕ → ℕ → ℕ → ℕ → ℕ → ℕ
+betweenOf c d e f g h = (c * 4 + d * 2 + (f + g + h)) * 105 + e * 140
+
+abbrev pub diagonalOf : ℕ → ℕ → ℕ → ℕ → ℕ → ℕ → ℕ → ℕ → ℕ
+diagonalOf a b c d e f g h = (a * 8 + b * 4 + d * 2 + h) * 105 + (c * 2 + f) * 140 + e * 168 + g * 120
+
+-- of the squares e; those of line 7 are counted twice
+unfoldable pub weigh : ℕ → (ℕ → ℕ) → ℕ
+weigh kind e =
+    cond (eqb kind 0) (straightOf (e 0) (e 1) (e 2) (e 3) (e 4) (e 5) (e 6) (e 7 / 2))
+    (cond (eqb kind 1) (betweenOf (e 2) (e 3) (e 4) (e 5) (e 6) (e 7 / 2)) (diagonalOf (e 0) (e 1) (e 2) (e 3) (e 4) (e 5) (e 6) (e 7 / 2)))
+
+unfoldable pub weighedOf : ℕ → List ℕ → ℕ → ℕ
+weighedOf kind q l = weigh kind (λ n. getD q (n * 8 + l) 0)
+
+unfoldable pub costOf : List ℤ → ℕ → ℕ → ℕ
+costOf p kind l = weigh kind (endSquares p l)
+
+-- no cost above the largest that 64 samples less 128 can give
+pub record CostFits (p : List ℤ) (kind : ℕ) : Type 0 where
+  pub all : (l : ℕ) → l < 8 → costOf p kind l ≤ 880803840
+
+-- n entries of q, written from `at` on
+unfoldable pub written : List ℕ → ℕ → List ℕ → ℕ → List ℕ
+written d at q zero = d
+written d at q (suc n) = set (written d at q n) (at + n) (getD q n 0)
+
+-- the standard's costs: direction d of lane l at 8 d + l
+abbrev pub costAt : List ℤ → ℕ → ℕ
+costAt s k = cost (laneOf s (k % 8)) (k / 8)
+
+unfoldable pub costsOf : List ℤ → List ℕ
+costsOf s = upto (costAt s) 64
+
+-- the first n of them
+pub record CostsTo (s : List ℤ) (c : List ℕ) (n : ℕ) : Type 0 where
+  pub size : length c ≡ 64
+  pub first : take n c ≡ upto (costAt s) n

@@ -5,3 +5,6 @@ pub mod PartialLaws
 -- The costs, and their laws.
 pub mod Costs
 pub mod CostsLaws
+-- The best directions, and their laws.
+pub mod Best
+pub mod BestLaws

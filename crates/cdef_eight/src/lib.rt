@@ -1,3 +1,23 @@
 // The directions and variances of eight blocks side by side, whose samples are interleaved: in each group of eight lanes, lane l is of block l.
+ghost use mathlib.Core.Path.{_≡_};
+ghost use lib.ListN.{length};
+ghost use Rattle.cdef_sample.specs.Bounds.{Within};
+ghost use Rattle.cdef_eight.specs.Best.{found8Of};
+
+mod best; // best.rt: the best direction of each block
 mod costs; // costs.rt: the cost of each direction
 mod lines; // lines.rt: the line sums of eight blocks
+
+// The direction and the variance of each block.
+pub struct Found8 {
+    pub directions: [u8; 8],
+    pub variances: [u32; 8],
+}
+
+// Of the eight blocks whose lanes are s.
+pub fn eight(s: &[i16; 512]) -> Found8
+    requires { ⌜ (length (now s) ≡ 512) × Within (now s) 128 ⌝ }
+    ensures { λ r. ⌜ r ≡ found8Of (now (s .entry)) ⌝ }
+{
+    best::found(&costs::costs(s))
+}

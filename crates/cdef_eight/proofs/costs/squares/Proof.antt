@@ -21,6 +21,7 @@ Inv-loop p z q₀ k₀ q k = (take k q ≡ upto (λ (n : ℕ). endSquares p (n %
 
 abbrev μ-loop : tie.MeasureT-loop
 μ-loop p z q₀ k₀ q k = 64 - k
+
 -- the two squares of an iteration
 first : (c : tie.After-square-of Inv-loop μ-loop) → let z = getD (c .before .before .before .before .ends .result) (2 * c .before .before .before .loop .k) (pos 0) in (c .square-of .result ≡ square z) × (square z ≤ 32768 * 32768)
 first c = (c .square-of .ensures ∙ ap square (toZ-ofZ w16 _ (record { sfits = c .before .square-of-arg .given })), square-low _ (record { sfits = c .before .square-of-arg .given }))

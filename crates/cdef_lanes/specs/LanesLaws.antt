@@ -45,6 +45,10 @@ pub length-rows : (p : Plane) (depth y x : ℕ) → length (rowsOf p depth y x) 
 unfolding rowsOf
 length-rows p depth y x = length-upto _ 512
 
+pub length-lanes : (p : Plane) (depth y x : ℕ) → length (lanesOf p depth y x) ≡ 512
+unfolding lanesOf
+length-lanes p depth y x = length-upto _ 512
+
 pub length-interleaved : (a : List ℤ) (row on half : ℕ) → length (interleavedOf a row on half) ≡ 512
 unfolding interleavedOf
 length-interleaved a row on half = length-upto _ 512

@@ -1,5 +1,5 @@
 -- Laws of the best direction of each of eight blocks: a lane's step, and that the directions and variances are the standard's.
-use mathlib.Core.Path.{_≡_, refl, sym, ap, _∙_}
+use mathlib.Core.Path.{_≡_, refl, ap, _∙_}
 use mathlib.Core.Bool.{Bool, true, false, cond}
 use mathlib.Core.List.{List}
 use Prim.Native.Nat.{ℕ, zero, suc, _+_, _-_, _*_, _/_, _%_, _≤_, _<_}
@@ -8,7 +8,7 @@ use native.Mathlib.Numerals.{add-one}
 use native.Mathlib.Omega.{arith}
 use borrow.Author.Tests.{ltb-true, ltb-false}
 use lib.Dec.{ltb}
-use lib.ListN.{getD, length, List·getD-eq-default}
+use lib.ListN.{getD, List·getD-eq-default}
 use lib.IntN.{ℤ}
 use Rattle.cdef_spec.specs.Words.{_>>_}
 use Rattle.cdef_spec.specs.Standard.{cost, Best, better, best, direction, variance}
@@ -65,7 +65,8 @@ module _ (c : ℕ → ℕ) where
   most-high zero k h = absurd (omega arith)
   most-high (suc n) k h = go (most-high n k) (decLt k n) (ltb ((bestTo c n) .bestCost) (c n)) refl
     where
-      go : (k < n → c k ≤ (bestTo c n) .bestCost) → Dec (k < n) → (t : Bool) → ltb ((bestTo c n) .bestCost) (c n) ≡ t → c k ≤ (cond t (record { bestCost = c n; yDir = n }) (bestTo c n)) .bestCost
+      go : (k < n → c k ≤ (bestTo c n) .bestCost) → Dec (k < n) → (t : Bool) → ltb ((bestTo c n) .bestCost) (c n) ≡ t
+          → c k ≤ (cond t (record { bestCost = c n; yDir = n }) (bestTo c n)) .bestCost
       go ih (yes l) true e = let u : (bestTo c n) .bestCost < c n = ltb-true _ _ e in omega (arith, ih l)
       go ih (yes l) false e = ih l
       go ih (no l) true e = let q : k ≡ n = omega arith in rw q (omega arith)
@@ -115,11 +116,19 @@ module _ (s : List ℤ) where
   lane-best : (l : ℕ) → l < 8 → best (laneCost (costsOf s) l) ≡ best (cost (laneOf s l))
   lane-best l hl = best-same _ _ (λ d hd. lane-is l d hl hd)
 
+  direction-is : (l : ℕ) → l < 8 → foundAt (costsOf s) l ≡ direction (laneOf s l)
+  unfolding foundAt direction
+  direction-is l hl = ap (λ (b : Best). b .yDir) (lane-best l hl)
+
+  variance-is : (l : ℕ) → l < 8 → varianceAt (costsOf s) l ≡ variance (laneOf s l)
+  unfolding varianceAt variance
+  variance-is l hl = rw (lane-best l hl, lane-is l (((best (cost (laneOf s l))) .yDir + 4) % 8) hl (omega arith))
+
   pub founds-are : foundsOf (costsOf s) ≡ found8Of s
-  unfolding foundsOf found8Of foundAt varianceAt direction variance
+  unfolding foundsOf found8Of
   founds-are =
-      let a : upto (λ l. (best (laneCost (costsOf s) l)) .yDir) 8 ≡ upto (λ l. (best (cost (laneOf s l))) .yDir) 8 = upto-ext _ _ 8 (λ l hl. rw (lane-best l hl)) in
-      let b : upto (λ l. ((best (laneCost (costsOf s) l)) .bestCost - laneCost (costsOf s) l (((best (laneCost (costsOf s) l)) .yDir + 4) % 8)) >> 10) 8 ≡ upto (λ l. ((best (cost (laneOf s l))) .bestCost - cost (laneOf s l) (((best (cost (laneOf s l))) .yDir + 4) % 8)) >> 10) 8 = upto-ext _ _ 8 (λ l hl. rw (lane-best l hl, lane-is l (((best (cost (laneOf s l))) .yDir + 4) % 8) hl (omega arith))) in
+      let a : upto (foundAt (costsOf s)) 8 ≡ upto (λ l. direction (laneOf s l)) 8 = upto-ext _ _ 8 direction-is in
+      let b : upto (varianceAt (costsOf s)) 8 ≡ upto (λ l. variance (laneOf s l)) 8 = upto-ext _ _ 8 variance-is in
       rw (a, b)
 
   pub costs-held : Within s 128 → CostsHeld (costsOf s)

@@ -1,16 +1,15 @@
 -- Laws of the costs of eight blocks in lanes: they equal the standard's, and fit.
-use mathlib.Core.Path.{_≡_, refl, sym, ap, _∙_}
+use mathlib.Core.Path.{_≡_, refl, ap, _∙_}
 use mathlib.Core.List.{List}
 use Prim.Native.Nat.{ℕ, zero, suc, _+_, _-_, _*_, _/_, _%_, _≤_, _<_}
-use native.Mathlib.Nat.{add-assoc}
 use native.Mathlib.Numerals.{add-one}
 use native.Mathlib.Omega.{arith}
 use borrow.Author.Tests.{ne-eqb}
 use lib.ListN.{getD, set, take, length, length-set}
-use lib.IntN.{ℤ, pos, natAbs}
+use lib.IntN.{ℤ, pos}
 use Rattle.cdef_spec.specs.Standard.{partial, square, Div-Table, costStraight, costDiagonal, costBetween, cost}
 use Rattle.cdef_sample.specs.Bounds.{Within}
-use Rattle.cdef_sample.specs.Upto.{upto, upto-none, getD-upto, upto-more, upto-at}
+use Rattle.cdef_sample.specs.Upto.{upto, getD-upto, upto-more, upto-at}
 use Rattle.cdef_direction.specs.CostsLaws.{straight-is, diagonal-is, between-is}
 use Rattle.cdef_direction.specs.FoundLaws.{costs-are, costs-fit}
 use Rattle.cdef_eight.specs.Lines.{laneOf, pairsOf, linesOf}
@@ -40,9 +39,11 @@ module _ (p : List ℤ) (n l k : ℕ) (hn : n < 8) (hl : l < 8) where
 pub end-squares : (p : List ℤ) (k : ℕ) → k < 64 → square (getD (endsOf p) (2 * k) (pos 0)) + square (getD (endsOf p) (2 * k + 1) (pos 0)) ≡ endSquares p (k % 8) (k / 8)
 unfolding endsOf endSquares lineAt
 end-squares p k h =
-    let a : getD (upto (endAt p) 128) (2 * k) (pos 0) ≡ getD p (k / 8 * 8 + k % 8) (pos 0) = getD-upto (endAt p) 128 (2 * k) (pos 0) (omega arith) ∙ end-even p (k / 8) (k % 8) (2 * k) (omega arith) (omega arith) (omega arith) in
-    let b : getD (upto (endAt p) 128) (2 * k + 1) (pos 0) ≡ getD p ((14 - k / 8) * 8 + k % 8) (pos 0) = getD-upto (endAt p) 128 (2 * k + 1) (pos 0) (omega arith) ∙ end-odd p (k / 8) (k % 8) (2 * k + 1) (omega arith) (omega arith) (omega arith) in
-    rw (a, b)
+    let a : getD (upto (endAt p) 128) (2 * k) (pos 0) ≡ endAt p (2 * k) = getD-upto (endAt p) 128 (2 * k) (pos 0) (omega arith) in
+    let b : getD (upto (endAt p) 128) (2 * k + 1) (pos 0) ≡ endAt p (2 * k + 1) = getD-upto (endAt p) 128 (2 * k + 1) (pos 0) (omega arith) in
+    let c : endAt p (2 * k) ≡ getD p (k / 8 * 8 + k % 8) (pos 0) = end-even p (k / 8) (k % 8) (2 * k) (omega arith) (omega arith) (omega arith) in
+    let d : endAt p (2 * k + 1) ≡ getD p ((14 - k / 8) * 8 + k % 8) (pos 0) = end-odd p (k / 8) (k % 8) (2 * k + 1) (omega arith) (omega arith) (omega arith) in
+    rw (a, b, c, d)
 
 -- ---- weights
 
@@ -80,19 +81,63 @@ module _ (q : List ℤ) (p : ℕ → ℤ) (l : ℕ) where
   straight-cost : ((n : ℕ) → n < 8 → lineAt q l n ≡ p n) → ((n : ℕ) → 8 ≤ n → n < 16 → lineAt q l n ≡ pos 0) → costOf q 0 l ≡ costStraight p
   unfolding costOf weigh endSquares Div-Table square
   straight-cost h g =
-      rw (h 0 (omega arith), h 1 (omega arith), h 2 (omega arith), h 3 (omega arith), h 4 (omega arith), h 5 (omega arith), h 6 (omega arith), h 7 (omega arith), g 8 (omega arith) (omega arith), g 9 (omega arith) (omega arith), g 10 (omega arith) (omega arith), g 11 (omega arith) (omega arith), g 12 (omega arith) (omega arith), g 13 (omega arith) (omega arith), g 14 (omega arith) (omega arith))
+      rw (
+        h 0 (omega arith),
+        h 1 (omega arith),
+        h 2 (omega arith),
+        h 3 (omega arith),
+        h 4 (omega arith),
+        h 5 (omega arith),
+        h 6 (omega arith),
+        h 7 (omega arith),
+        g 8 (omega arith) (omega arith),
+        g 9 (omega arith) (omega arith),
+        g 10 (omega arith) (omega arith),
+        g 11 (omega arith) (omega arith),
+        g 12 (omega arith) (omega arith),
+        g 13 (omega arith) (omega arith),
+        g 14 (omega arith) (omega arith),
+      )
       (omega (arith, straight-is p))
 
   between-cost : ((n : ℕ) → n < 14 → lineAt q l (n + 2) ≡ p n) → costOf q 1 l ≡ costBetween p
   unfolding costOf weigh endSquares Div-Table
   between-cost h =
-      rw (h 0 (omega arith), h 1 (omega arith), h 2 (omega arith), h 3 (omega arith), h 4 (omega arith), h 5 (omega arith), h 6 (omega arith), h 7 (omega arith), h 8 (omega arith), h 9 (omega arith), h 10 (omega arith))
+      rw (
+        h 0 (omega arith),
+        h 1 (omega arith),
+        h 2 (omega arith),
+        h 3 (omega arith),
+        h 4 (omega arith),
+        h 5 (omega arith),
+        h 6 (omega arith),
+        h 7 (omega arith),
+        h 8 (omega arith),
+        h 9 (omega arith),
+        h 10 (omega arith),
+      )
       (omega (arith, between-is p))
 
   diagonal-cost : ((n : ℕ) → n < 15 → lineAt q l n ≡ p n) → costOf q 2 l ≡ costDiagonal p
   unfolding costOf weigh endSquares Div-Table
   diagonal-cost h =
-      rw (h 0 (omega arith), h 1 (omega arith), h 2 (omega arith), h 3 (omega arith), h 4 (omega arith), h 5 (omega arith), h 6 (omega arith), h 7 (omega arith), h 8 (omega arith), h 9 (omega arith), h 10 (omega arith), h 11 (omega arith), h 12 (omega arith), h 13 (omega arith), h 14 (omega arith))
+      rw (
+        h 0 (omega arith),
+        h 1 (omega arith),
+        h 2 (omega arith),
+        h 3 (omega arith),
+        h 4 (omega arith),
+        h 5 (omega arith),
+        h 6 (omega arith),
+        h 7 (omega arith),
+        h 8 (omega arith),
+        h 9 (omega arith),
+        h 10 (omega arith),
+        h 11 (omega arith),
+        h 12 (omega arith),
+        h 13 (omega arith),
+        h 14 (omega arith),
+      )
       (omega (arith, diagonal-is p))
 
 -- in the opposite order
@@ -140,7 +185,8 @@ unfolding laneOf
 cost-fits s w l d h = rw (costs-are (laneOf s l) d h) at (costs-fit (laneOf s l) (λ i j hi hj. w .all (i * 64 + j * 8 + l)) .all d h)
 
 -- what `cost` asks of the lines p of direction d
-pub cost-ready : (s z p : List ℤ) (rows first way kind d : ℕ) → Within s 128 → Within z 256 → rows ≤ 8 → d < 8 → p ≡ linesOf z rows first way → ((l : ℕ) → l < 8 → costOf (linesOf z rows first way) kind l ≡ cost (laneOf s l) d) → Within p 2048 × CostFits p kind
+pub cost-ready : (s z p : List ℤ) (rows first way kind d : ℕ) → Within s 128 → Within z 256 → rows ≤ 8 → d < 8 → p ≡ linesOf z rows first way
+    → ((l : ℕ) → l < 8 → costOf (linesOf z rows first way) kind l ≡ cost (laneOf s l) d) → Within p 2048 × CostFits p kind
 cost-ready s z p rows first way kind d ws wz hr hd e law = (rw e (lines-within z rows first way wz hr), record { all = λ l hl. rw (e, law l hl) (cost-fits s ws l d hd) })
 
 -- ---- entries written
@@ -160,7 +206,8 @@ module _ (c : List ℕ) (at : ℕ) (q : List ℕ) where
   length-written (suc n) = length-set (written c at q n) (at + n) (getD q n 0) ∙ length-written n
 
   -- a list whose first entries are f's, with more of them written
-  pub written-upto : (f : ℕ → ℕ) → take at c ≡ upto f at → (n : ℕ) → at + n ≤ length c → ((k : ℕ) → k < n → getD q k 0 ≡ f (at + k)) → take (at + n) (written c at q n) ≡ upto f (at + n)
+  pub written-upto : (f : ℕ → ℕ) → take at c ≡ upto f at → (n : ℕ) → at + n ≤ length c → ((k : ℕ) → k < n → getD q k 0 ≡ f (at + k))
+      → take (at + n) (written c at q n) ≡ upto f (at + n)
   unfolding written
   written-upto f e zero h g = upto-at f _ at (at + 0) (omega arith) e
   written-upto f e (suc n) h g =
@@ -168,7 +215,9 @@ module _ (c : List ℕ) (at : ℕ) (q : List ℕ) where
       (upto-more f (written c at q n) (at + n) (getD q n 0) (written-upto f e n (omega arith) (λ k l. g k (omega arith))) (omega (arith, length-written n)) (g n (omega arith)))
 
 -- the costs q of one more direction, from its lines p
-pub costs-more : (s z p : List ℤ) (c q r : List ℕ) (rows first way kind d : ℕ) → d < 8 → CostsTo s c (d * 8) → p ≡ linesOf z rows first way → q ≡ upto (costOf p kind) 8 → r ≡ written c (d * 8) q 8 → ((l : ℕ) → l < 8 → costOf (linesOf z rows first way) kind l ≡ cost (laneOf s l) d) → CostsTo s r (d * 8 + 8)
+pub costs-more : (s z p : List ℤ) (c q r : List ℕ) (rows first way kind d : ℕ) → d < 8 → CostsTo s c (d * 8) → p ≡ linesOf z rows first way
+    → q ≡ upto (costOf p kind) 8 → r ≡ written c (d * 8) q 8 → ((l : ℕ) → l < 8 → costOf (linesOf z rows first way) kind l ≡ cost (laneOf s l) d)
+    → CostsTo s r (d * 8 + 8)
 costs-more s z p c q r rows first way kind d hd t ep eq er law = record {
   size = ap length er ∙ length-written c (d * 8) q 8 ∙ t .size;
   first = rw er (written-upto c (d * 8) q (costAt s) (t .first) 8 (omega (arith, t .size)) (λ l hl. at l hl));

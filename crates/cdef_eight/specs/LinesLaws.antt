@@ -1,22 +1,21 @@
 -- Laws of the line sums: forms, magnitudes.
-use mathlib.Core.Path.{_≡_, refl, sym, ap, _∙_}
+use mathlib.Core.Path.{_≡_, refl, sym, _∙_}
 use mathlib.Core.Bool.{Bool, true, false, cond, _&&_}
 use mathlib.Core.List.{List}
-use Prim.Native.Nat.{ℕ, zero, suc, _+_, _-_, _*_, _/_, _%_, _≤_, _<_}
+use Prim.Native.Nat.{ℕ, zero, suc, _+_, _-_, _*_, _≤_, _<_}
 use native.Mathlib.Decide.{decLe, decLt, ℕ-discrete}
 use native.Mathlib.Numerals.{add-one}
 use native.Mathlib.Omega.{arith}
-use borrow.Author.Tests.{lt-ltb, le-ltb, le-leb, lt-leb, eq-eqb, ne-eqb}
+use borrow.Author.Tests.{lt-ltb, le-ltb, le-leb, lt-leb}
 use lib.Dec.{leb, ltb, eqb}
 use lib.ListN.{getD, set, length, length-set}
 use lib.Seq.{ext-getD, getD-set-same, getD-set-other}
 use lib.IntN.{ℤ, pos, natAbs, _+ℤ_, +ℤ-idr}
 use Rattle.cdef_spec.specs.SignedLaws.{size-add}
 use Rattle.cdef_spec.specs.Words.{sumℤ}
-use Rattle.cdef_spec.specs.DirectionLocal.{sumℤ-same}
 use Rattle.cdef_sample.specs.Bounds.{Within}
 use Rattle.cdef_sample.specs.Upto.{upto, length-upto, getD-upto, upto-ext, upto-all-of}
-use Rattle.cdef_eight.specs.Lines.{laneOf, pairAt, pairsOf, addAt, addedOf, placeOf, linesOf}
+use Rattle.cdef_eight.specs.Lines.{pairAt, pairsOf, addAt, addedOf, placeOf, linesOf}
 
 -- ---- a value stored among the values of a function
 
@@ -76,12 +75,14 @@ module _ (z : List ℤ) (to from : ℕ) where
       go false = omega arith
 
 -- one more entry stored
-pub added-more : (p z : List ℤ) (to from n : ℕ) (l : List ℤ) (v : ℤ) → to + n < 128 → l ≡ upto (λ m. getD p m (pos 0) +ℤ addAt z to from n m) 128 → v ≡ getD p (to + n) (pos 0) +ℤ getD z (from + n) (pos 0) → set l (to + n) v ≡ upto (λ m. getD p m (pos 0) +ℤ addAt z to from (n + 1) m) 128
+pub added-more : (p z : List ℤ) (to from n : ℕ) (l : List ℤ) (v : ℤ) → to + n < 128 → l ≡ upto (λ m. getD p m (pos 0) +ℤ addAt z to from n m) 128
+    → v ≡ getD p (to + n) (pos 0) +ℤ getD z (from + n) (pos 0) → set l (to + n) v ≡ upto (λ m. getD p m (pos 0) +ℤ addAt z to from (n + 1) m) 128
 added-more p z to from n l v h e q =
     rw e (upto-set _ _ 128 (to + n) (pos 0) v h (rw (q, add-at z to from n)) (λ k g. rw (add-else z to from n k g)))
 
 -- the entry that comes next
-pub added-next : (p z : List ℤ) (to from n : ℕ) (l : List ℤ) → to + n < 128 → l ≡ upto (λ m. getD p m (pos 0) +ℤ addAt z to from n m) 128 → getD l (to + n) (pos 0) ≡ getD p (to + n) (pos 0)
+pub added-next : (p z : List ℤ) (to from n : ℕ) (l : List ℤ) → to + n < 128 → l ≡ upto (λ m. getD p m (pos 0) +ℤ addAt z to from n m) 128
+    → getD l (to + n) (pos 0) ≡ getD p (to + n) (pos 0)
 added-next p z to from n l h e = rw e (getD-upto _ 128 (to + n) (pos 0) h ∙ rw (add-before z to from n) (+ℤ-idr _))
 
 -- at first p as it is
@@ -98,7 +99,9 @@ module _ (z : List ℤ) (rows first way : ℕ) where
   unfolding sumℤ
   sums-none k = refl
 
-  pub sums-more : (n : ℕ) (p l : List ℤ) → p ≡ upto (λ m. sumℤ n (λ i. addAt z (placeOf i rows first way * 8) (i * 64) 64 m)) 128 → l ≡ addedOf p z (placeOf n rows first way * 8) (n * 64) → l ≡ upto (λ m. sumℤ (n + 1) (λ i. addAt z (placeOf i rows first way * 8) (i * 64) 64 m)) 128
+  pub sums-more : (n : ℕ) (p l : List ℤ) → p ≡ upto (λ m. sumℤ n (λ i. addAt z (placeOf i rows first way * 8) (i * 64) 64 m)) 128
+      → l ≡ addedOf p z (placeOf n rows first way * 8) (n * 64)
+      → l ≡ upto (λ m. sumℤ (n + 1) (λ i. addAt z (placeOf i rows first way * 8) (i * 64) 64 m)) 128
   unfolding sumℤ addedOf
   sums-more n p l e g = g ∙ rw (add-one n) (upto-ext _ _ 128 (λ k h. rw (e, getD-upto _ 128 k (pos 0) h)))
 
@@ -110,7 +113,10 @@ sum-size f w h zero = omega arith
 sum-size f w h (suc n) = omega (arith, sum-size f w h n, size-add (sumℤ n f) (f n), h n)
 
 pub sums-within : (z : List ℤ) (rows first way n : ℕ) → Within z 256 → n ≤ 8 → Within (upto (λ m. sumℤ n (λ i. addAt z (placeOf i rows first way * 8) (i * 64) 64 m)) 128) 2048
-sums-within z rows first way n h hn = record { all = upto-all-of (λ (z : ℤ). natAbs z ≤ 2048) _ 128 (pos 0) (λ k. omega (arith, sum-size (λ i. addAt z (placeOf i rows first way * 8) (i * 64) 64 k) 256 (λ i. add-size z _ _ 64 k 256 h) n)) (omega arith) }
+sums-within z rows first way n h hn = record { all = upto-all-of (λ (z : ℤ). natAbs z ≤ 2048) _ 128 (pos 0) (λ m. at m) (omega arith) }
+  where
+    at : (m : ℕ) → natAbs (sumℤ n (λ i. addAt z (placeOf i rows first way * 8) (i * 64) 64 m)) ≤ 2048
+    at m = omega (arith, sum-size (λ i. addAt z (placeOf i rows first way * 8) (i * 64) 64 m) 256 (λ i. add-size z _ _ 64 m 256 h) n)
 
 pub lines-within : (z : List ℤ) (rows first way : ℕ) → Within z 256 → rows ≤ 8 → Within (linesOf z rows first way) 2048
 unfolding linesOf

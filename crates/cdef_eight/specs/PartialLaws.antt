@@ -12,7 +12,7 @@ use lib.IntN.{ℤ, pos, _+ℤ_, +ℤ-assoc, +ℤ-idl}
 use Rattle.cdef_spec.specs.Words.{sumℤ}
 use Rattle.cdef_spec.specs.DirectionLocal.{sumℤ-same}
 use Rattle.cdef_spec.specs.Standard.{lineOf, partial}
-use Rattle.cdef_sample.specs.Upto.{upto, getD-upto}
+use Rattle.cdef_sample.specs.Upto.{getD-upto}
 use Rattle.cdef_direction.specs.LinesLaws.{row-is, turned-is}
 use Rattle.cdef_eight.specs.Lines.{laneOf, pairAt, pairsOf, addAt, placeOf, linesOf}
 use Rattle.cdef_eight.specs.LinesLaws.{place-high}
@@ -49,7 +49,8 @@ module _ (s n l : ℕ) (hl : l < 8) where
   unfolding addAt onLine laneOf
   row-lane z i = rw (low-same, high-same) (go (decLe s n))
     where
-      go : Dec (s ≤ n) → cond (leb s n && ltb n (s + 8)) (getD z (i * 64 + (n * 8 + l - s * 8)) (pos 0)) (pos 0) ≡ cond (leb s n && ltb n (s + 8)) (getD z (i * 64 + (n - s) * 8 + l) (pos 0)) (pos 0)
+      go : Dec (s ≤ n)
+          → cond (leb s n && ltb n (s + 8)) (getD z (i * 64 + (n * 8 + l - s * 8)) (pos 0)) (pos 0) ≡ cond (leb s n && ltb n (s + 8)) (getD z (i * 64 + (n - s) * 8 + l) (pos 0)) (pos 0)
       go (yes h) = let e : i * 64 + (n * 8 + l - s * 8) ≡ i * 64 + (n - s) * 8 + l = omega arith in rw e
       go (no h) = let a : n < s = omega arith in rw (lt-leb s n a)
 
@@ -64,7 +65,8 @@ line-from : (f : ℕ → ℤ) (s n : ℕ) → s ≤ 8 → sumℤ 8 (λ j. cond (
 unfolding onLine
 line-from f s n hs = row-is f (λ j. j + s) n (8 - s) 8 (λ j h. omega arith) ∙ go (decLe s n) (decLt n (s + 8))
   where
-    go : Dec (s ≤ n) → Dec (n < s + 8) → cond (leb 8 (n + (8 - s)) && ltb (n + (8 - s)) (8 + 8)) (f (n + (8 - s) - 8)) (pos 0) ≡ cond (leb s n && ltb n (s + 8)) (f (n - s)) (pos 0)
+    go : Dec (s ≤ n) → Dec (n < s + 8)
+        → cond (leb 8 (n + (8 - s)) && ltb (n + (8 - s)) (8 + 8)) (f (n + (8 - s) - 8)) (pos 0) ≡ cond (leb s n && ltb n (s + 8)) (f (n - s)) (pos 0)
     go (yes a) (yes b) =
         let c : 8 ≤ n + (8 - s) = omega arith in
         let d : n + (8 - s) < 8 + 8 = omega arith in
@@ -92,7 +94,10 @@ module _ (x : ℕ → ℕ → ℤ) (L : ℕ → ℕ → ℕ) (S : ℕ → ℕ) (
     (low : (i : ℕ) → i < 8 → S i ≤ 8)
     (line : (i j : ℕ) → i < 8 → j < 8 → (L i j ≡ n → j + S i ≡ N) × (j + S i ≡ N → L i j ≡ n)) where
   rows-are : sumℤ 8 (λ i. sumℤ 8 (λ j. cond (eqb (L i j) n) (x i j) (pos 0))) ≡ sumℤ 8 (λ i. onLine (x i) (S i) N)
-  rows-are = sumℤ-same 8 _ _ (λ i hi. sumℤ-same 8 _ _ (λ j hj. ap (λ (t : Bool). cond t (x i j) (pos 0)) (eqb-same (L i j) n (j + S i) N (line i j hi hj .0) (line i j hi hj .1))) ∙ line-from (x i) (S i) N (low i hi))
+  rows-are = sumℤ-same 8 _ _ (λ i hi. sumℤ-same 8 _ _ (λ j hj. ap (λ (t : Bool). cond t (x i j) (pos 0)) (same i j hi hj)) ∙ line-from (x i) (S i) N (low i hi))
+    where
+      same : (i j : ℕ) → i < 8 → j < 8 → eqb (L i j) n ≡ eqb (j + S i) N
+      same i j hi hj = eqb-same (L i j) n (j + S i) N (line i j hi hj .0) (line i j hi hj .1)
 
 -- ---- pairs of rows
 
@@ -122,7 +127,8 @@ module _ (z : List ℤ) (x : ℕ → ℕ → ℤ) (first way l : ℕ) (hl : l < 
   pair-lines : (n : ℕ) → n < 16 → lineAt (linesOf z 4 first way) l n ≡ sumℤ 8 (λ i. onLine (x i) (placeOf (i / 2) 4 first way) n)
   pair-lines n hn = line-sum z 4 first way l n hl hn ∙ sumℤ-same 4 _ _ (λ m hm. one m hm) ∙ sym (by-pairs (λ i. onLine (x i) (placeOf (i / 2) 4 first way) n))
     where
-      one : (m : ℕ) → m < 4 → onLine (laneOf z l m) (placeOf m 4 first way) n ≡ onLine (x (2 * m)) (placeOf (2 * m / 2) 4 first way) n +ℤ onLine (x (2 * m + 1)) (placeOf ((2 * m + 1) / 2) 4 first way) n
+      one : (m : ℕ) → m < 4
+          → onLine (laneOf z l m) (placeOf m 4 first way) n ≡ onLine (x (2 * m)) (placeOf (2 * m / 2) 4 first way) n +ℤ onLine (x (2 * m + 1)) (placeOf ((2 * m + 1) / 2) 4 first way) n
       one m hm =
           let a : 2 * m / 2 ≡ m = omega arith in
           let b : (2 * m + 1) / 2 ≡ m = omega arith in
@@ -157,16 +163,26 @@ module _ (s : List ℤ) (l : ℕ) (hl : l < 8) where
 
   -- ---- THE EIGHT DIRECTIONS: line n of the standard, at its index
 
-  row-line : (d way n m : ℕ) → m < 16 → ((i j : ℕ) → i < 8 → j < 8 → (lineOf d i j ≡ n → j + placeOf i 8 0 way ≡ m) × (j + placeOf i 8 0 way ≡ m → lineOf d i j ≡ n)) → lineAt (linesOf s 8 0 way) l m ≡ partial (laneOf s l) d n
+  row-line : (d way n m : ℕ) → m < 16
+      → ((i j : ℕ) → i < 8 → j < 8 → (lineOf d i j ≡ n → j + placeOf i 8 0 way ≡ m) × (j + placeOf i 8 0 way ≡ m → lineOf d i j ≡ n))
+      → lineAt (linesOf s 8 0 way) l m ≡ partial (laneOf s l) d n
   unfolding partial
   row-line d way n m hm line = line-sum s 8 0 way l m hl hm ∙ sym (rows-are (laneOf s l) (lineOf d) (λ i. placeOf i 8 0 way) n m (λ i hi. omega (arith, place-high i 8 0 way hi)) line)
 
-  column-pair-line : (d way first n m : ℕ) → first ≤ 2 → m < 16 → ((i j : ℕ) → i < 8 → j < 8 → (lineOf d i j ≡ n → j + placeOf (i / 2) 4 first way ≡ m) × (j + placeOf (i / 2) 4 first way ≡ m → lineOf d i j ≡ n)) → lineAt (linesOf (pairsOf s 128 8 64) 4 first way) l m ≡ partial (laneOf s l) d n
+  column-pair-line : (d way first n m : ℕ) → first ≤ 2 → m < 16
+      → ((i j : ℕ) → i < 8 → j < 8 → (lineOf d i j ≡ n → j + placeOf (i / 2) 4 first way ≡ m) × (j + placeOf (i / 2) 4 first way ≡ m → lineOf d i j ≡ n))
+      → lineAt (linesOf (pairsOf s 128 8 64) 4 first way) l m ≡ partial (laneOf s l) d n
   unfolding partial
-  column-pair-line d way first n m hf hm line = pair-lines _ (laneOf s l) first way l hl hf column-pairs m hm ∙ sym (rows-are (laneOf s l) (lineOf d) (λ i. placeOf (i / 2) 4 first way) n m (λ i hi. half-low i first way hi hf) line)
+  column-pair-line d way first n m hf hm line =
+      pair-lines _ (laneOf s l) first way l hl hf column-pairs m hm
+      ∙ sym (rows-are (laneOf s l) (lineOf d) (λ i. placeOf (i / 2) 4 first way) n m (λ i hi. half-low i first way hi hf) line)
 
-  row-pair-line : (d way first n m : ℕ) → first ≤ 2 → m < 16 → ((i j : ℕ) → i < 8 → j < 8 → (lineOf d j i ≡ n → j + placeOf (i / 2) 4 first way ≡ m) × (j + placeOf (i / 2) 4 first way ≡ m → lineOf d j i ≡ n)) → lineAt (linesOf (pairsOf s 16 64 8) 4 first way) l m ≡ partial (laneOf s l) d n
-  row-pair-line d way first n m hf hm line = pair-lines _ (λ i j. laneOf s l j i) first way l hl hf row-pairs m hm ∙ sym (rows-are (λ i j. laneOf s l j i) (λ i j. lineOf d j i) (λ i. placeOf (i / 2) 4 first way) n m (λ i hi. half-low i first way hi hf) line) ∙ turned-is (laneOf s l) d n
+  row-pair-line : (d way first n m : ℕ) → first ≤ 2 → m < 16
+      → ((i j : ℕ) → i < 8 → j < 8 → (lineOf d j i ≡ n → j + placeOf (i / 2) 4 first way ≡ m) × (j + placeOf (i / 2) 4 first way ≡ m → lineOf d j i ≡ n))
+      → lineAt (linesOf (pairsOf s 16 64 8) 4 first way) l m ≡ partial (laneOf s l) d n
+  row-pair-line d way first n m hf hm line =
+      pair-lines _ (λ i j. laneOf s l j i) first way l hl hf row-pairs m hm
+      ∙ sym (rows-are (λ i j. laneOf s l j i) (λ i j. lineOf d j i) (λ i. placeOf (i / 2) 4 first way) n m (λ i hi. half-low i first way hi hf) line) ∙ turned-is (laneOf s l) d n
 
   pub lines-0 : (n : ℕ) → n < 16 → lineAt (linesOf s 8 0 1) l n ≡ partial (laneOf s l) 0 n
   unfolding lineOf placeOf

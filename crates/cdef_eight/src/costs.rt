@@ -1,8 +1,7 @@
 // The cost of each direction of eight blocks, from their line sums.
 ghost use mathlib.Core.Path.{_≡_};
-ghost use Prim.Native.Nat.{_+_, _*_, _/_, _%_, _≤_, _<_};
-ghost use lib.ListN.{length, getD};
-ghost use Rattle.cdef_spec.specs.Standard.{cost};
+ghost use Prim.Native.Nat.{_+_, _*_, _≤_, _<_};
+ghost use lib.ListN.{length};
 ghost use Rattle.cdef_sample.specs.Bounds.{Within};
 ghost use Rattle.cdef_sample.specs.Upto.{upto};
 ghost use Rattle.cdef_eight.specs.Costs.{endsOf, squaresOf, straightOf, betweenOf, diagonalOf, weighedOf, CostFits, costOf, written, CostsTo, costsOf};

@@ -1,5 +1,5 @@
 -- Three interleavings give the lanes; each sample is of magnitude at most 128.
-use mathlib.Core.Path.{_≡_, refl, sym, ap, _∙_}
+use mathlib.Core.Path.{_≡_, sym, ap, _∙_}
 use mathlib.Core.List.{List}
 use Prim.Native.Nat.{ℕ, _+_, _-_, _*_, _/_, _%_, _^_, _≤_, _<_, min}
 use native.Mathlib.Nat.{add-assoc, div-lt-iff-lt-mul}
@@ -56,7 +56,8 @@ length-interleaved a row on half = length-upto _ 512
 -- ---- the order
 
 -- sample k of row i, read from the plane
-pub row-at : (s : List ℕ) (w h depth y x i k : ℕ) → x + 64 ≤ w → y + 8 ≤ h → i < 8 → k < 64 → pos (getD s ((y + i) * w + x + k) 0 / 2 ^ (depth - 8)) -ℤ pos 128 ≡ directionInput (record { samples = s; width = w; height = h }) depth y x ((i * 64 + k) / 64) ((i * 64 + k) % 64)
+pub row-at : (s : List ℕ) (w h depth y x i k : ℕ) → x + 64 ≤ w → y + 8 ≤ h → i < 8 → k < 64
+    → pos (getD s ((y + i) * w + x + k) 0 / 2 ^ (depth - 8)) -ℤ pos 128 ≡ directionInput (record { samples = s; width = w; height = h }) depth y x ((i * 64 + k) / 64) ((i * 64 + k) % 64)
 unfolding directionInput edgeSample
 row-at s w h depth y x i k hx hy hi hk =
     let a : (i * 64 + k) / 64 ≡ i = omega arith in
@@ -91,7 +92,8 @@ first-in k h = low (k / 128) (k / 16 % 8) (k / 2 % 8) (k % 2) (omega arith) (ome
     low m i j b hm hi hj hb = omega arith
 
 -- three interleavings of an index with the digits i, j, t, v, u
-thrice-digits : (i j t v u : ℕ) → i < 8 → j < 8 → t < 2 → v < 2 → u < 2 → fromAt 8 64 32 (fromAt 64 8 256 (fromAt 64 8 256 (i * 64 + j * 8 + t * 4 + v * 2 + u))) ≡ i * 64 + ((t * 4 + v * 2 + u) * 8 + j)
+thrice-digits : (i j t v u : ℕ) → i < 8 → j < 8 → t < 2 → v < 2 → u < 2
+    → fromAt 8 64 32 (fromAt 64 8 256 (fromAt 64 8 256 (i * 64 + j * 8 + t * 4 + v * 2 + u))) ≡ i * 64 + ((t * 4 + v * 2 + u) * 8 + j)
 thrice-digits i j t v u hi hj ht hv hu =
     let d : (i * 64 + j * 8 + t * 4 + v * 2 + u) / 2 ≡ i * 32 + j * 4 + t * 2 + v = omega arith in
     let m : (i * 64 + j * 8 + t * 4 + v * 2 + u) % 2 ≡ u = omega arith in
@@ -101,7 +103,8 @@ thrice-digits i j t v u hi hj ht hv hu =
     let g : fromAt 64 8 256 (i * 32 + j * 4 + t * 2 + v + u * 256) ≡ (v * 2 + u) * 128 + i * 16 + 2 * j + t = halves-is _ (omega arith) ∙ rw (d2, m2) (omega arith) in
     rw (e, g, from-at 8 64 32 (v * 2 + u) i j t (omega arith) hi hj ht) (omega arith)
 
-thrice : (k i j t v u : ℕ) → k ≡ i * 64 + j * 8 + t * 4 + v * 2 + u → i < 8 → j < 8 → t < 2 → v < 2 → u < 2 → fromAt 8 64 32 (fromAt 64 8 256 (fromAt 64 8 256 k)) ≡ i * 64 + ((t * 4 + v * 2 + u) * 8 + j)
+thrice : (k i j t v u : ℕ) → k ≡ i * 64 + j * 8 + t * 4 + v * 2 + u → i < 8 → j < 8 → t < 2 → v < 2 → u < 2
+    → fromAt 8 64 32 (fromAt 64 8 256 (fromAt 64 8 256 k)) ≡ i * 64 + ((t * 4 + v * 2 + u) * 8 + j)
 thrice k i j t v u e hi hj ht hv hu = rw e (thrice-digits i j t v u hi hj ht hv hu)
 
 -- an interleaving of listed values
@@ -126,11 +129,13 @@ digits k = omega arith
 pub lanes-are : (p : Plane) (depth y x : ℕ) → interleavedOf (interleavedOf (interleavedOf (rowsOf p depth y x) 8 64 32) 64 8 256) 64 8 256 ≡ lanesOf p depth y x
 unfolding rowsOf lanesOf directionInput
 lanes-are p depth y x =
-    rw (interleaved-upto (λ k. directionInput p depth y x (k / 64) (k % 64)) 8 64 32 first-in, interleaved-upto (λ k. directionInput p depth y x (fromAt 8 64 32 k / 64) (fromAt 8 64 32 k % 64)) 64 8 256 halves-in, interleaved-upto (λ k. directionInput p depth y x (fromAt 8 64 32 (fromAt 64 8 256 k) / 64) (fromAt 8 64 32 (fromAt 64 8 256 k) % 64)) 64 8 256 halves-in)
+    rw (interleaved-upto _ 8 64 32 first-in, interleaved-upto _ 64 8 256 halves-in, interleaved-upto _ 64 8 256 halves-in)
     (upto-ext _ _ 512 (λ k h. rw (place k h) (same (k / 64) (k % 8) (k / 8 % 8) (omega arith) (omega arith))))
   where
     place : (k : ℕ) → k < 512 → fromAt 8 64 32 (fromAt 64 8 256 (fromAt 64 8 256 k)) ≡ k / 64 * 64 + (k % 8 * 8 + k / 8 % 8)
-    place k h = thrice k (k / 64) (k / 8 % 8) (k / 4 % 2) (k / 2 % 2) (k % 2) (sym (digits k) ∙ rw (← low-digits k) (omega arith)) (omega arith) (omega arith) (omega arith) (omega arith) (omega arith) ∙ rw (low-digits k)
+    place k h =
+        thrice k (k / 64) (k / 8 % 8) (k / 4 % 2) (k / 2 % 2) (k % 2) (sym (digits k) ∙ rw (← low-digits k) (omega arith)) (omega arith) (omega arith) (omega arith) (omega arith) (omega arith)
+        ∙ rw (low-digits k)
 
     same : (i l j : ℕ) → l < 8 → j < 8 → directionInput p depth y x ((i * 64 + (l * 8 + j)) / 64) ((i * 64 + (l * 8 + j)) % 64) ≡ directionInput p depth y (x + l * 8) i j
     same i l j hl hj =

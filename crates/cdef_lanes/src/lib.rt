@@ -38,9 +38,10 @@ fn interleaved(out: &mut [i16; 512], a: &[i16; 512], row: usize, on: usize, half
         for i in 0..8usize {
             let to = m * 128 + i * 16;
             let from = m * row + i * on;
+            let next = from + half;
             for j in 0..8usize {
                 out[to + 2 * j] = a[from + j];
-                out[to + 2 * j + 1] = a[from + half + j];
+                out[to + 2 * j + 1] = a[next + j];
             }
         }
     }

@@ -1,5 +1,5 @@
 -- A plane whose samples all fit the depth, a block's index in the lists, and the lists once they are filled.
-use mathlib.Core.Path.{_≡_, sym, ap, _∙_}
+use mathlib.Core.Path.{_≡_, sym, _∙_}
 use mathlib.Core.Bool.{true}
 use mathlib.Core.List.{List}
 use Prim.Native.Nat.{ℕ, _+_, _*_, _/_, _%_, _^_, _≤_, _<_}
@@ -42,7 +42,8 @@ filled f l n j e h g =
 -- ---- the lists, filled further
 
 -- lists of the same lengths
-pub pass-same : (s : List ℕ) (w h depth : ℕ) (dirs vars ds vs : List ℕ) → PassIn s w h depth dirs vars → length ds ≡ length dirs → length vs ≡ length vars → PassIn s w h depth ds vs
+pub pass-same : (s : List ℕ) (w h depth : ℕ) (dirs vars ds vs : List ℕ) → PassIn s w h depth dirs vars → length ds ≡ length dirs
+    → length vs ≡ length vars → PassIn s w h depth ds vs
 pass-same s w h depth dirs vars ds vs q ed ev = record {
   size = q .size;
   dirs-size = ed ∙ q .dirs-size;
@@ -67,7 +68,9 @@ module _ (s : List ℕ) (w h depth : ℕ) where
 
   module _ (by bx : ℕ) (dirs vars : List ℕ) (t : Filled s w h depth (by * (w / 8) + bx) dirs vars) where
     -- by one block
-    pub filled-one : (d v : ℕ) → bx < w / 8 → by * (w / 8) + bx < length dirs → by * (w / 8) + bx < length vars → d ≡ blockDirection (sized s w h) depth (by * 8) (bx * 8) → v ≡ blockVariance (sized s w h) depth (by * 8) (bx * 8) → Filled s w h depth (by * (w / 8) + (bx + 1)) (set dirs (by * (w / 8) + bx) d) (set vars (by * (w / 8) + bx) v)
+    pub filled-one : (d v : ℕ) → bx < w / 8 → by * (w / 8) + bx < length dirs → by * (w / 8) + bx < length vars
+        → d ≡ blockDirection (sized s w h) depth (by * 8) (bx * 8) → v ≡ blockVariance (sized s w h) depth (by * 8) (bx * 8)
+        → Filled s w h depth (by * (w / 8) + (bx + 1)) (set dirs (by * (w / 8) + bx) d) (set vars (by * (w / 8) + bx) v)
     filled-one d v hb hd hv ed ev = record {
       dirs-are = upto-at _ _ _ _ (omega arith) (upto-more _ _ _ _ (t .dirs-are) hd (ed ∙ at-block (blockDirection (sized s w h) depth) (w / 8) by bx hb));
       vars-are = upto-at _ _ _ _ (omega arith) (upto-more _ _ _ _ (t .vars-are) hv (ev ∙ at-block (blockVariance (sized s w h) depth) (w / 8) by bx hb));
@@ -111,8 +114,11 @@ module _ (p : Plane) (depth cols by bx l : ℕ) (hl : l < 8) (hb : bx + l < cols
 
 -- by eight blocks
 module _ (s : List ℕ) (w h depth by bx : ℕ) (dirs vars : List ℕ) (t : Filled s w h depth (by * (w / 8) + bx) dirs vars) where
-  pub filled-eight : (z : List ℤ) (f : Found8) (ds vs : List ℕ) → bx + 8 ≤ w / 8 → by * (w / 8) + bx + 8 ≤ length dirs → by * (w / 8) + bx + 8 ≤ length vars → z ≡ lanesOf (sized s w h) depth (by * 8) (bx * 8) → f ≡ found8Of z → ds ≡ written dirs (by * (w / 8) + bx) (f .directions) 8 → vs ≡ written vars (by * (w / 8) + bx) (f .variances) 8 → Filled s w h depth (by * (w / 8) + (bx + 8)) ds vs
+  pub filled-eight : (z : List ℤ) (f : Found8) (ds vs : List ℕ) → bx + 8 ≤ w / 8 → by * (w / 8) + bx + 8 ≤ length dirs
+      → by * (w / 8) + bx + 8 ≤ length vars → z ≡ lanesOf (sized s w h) depth (by * 8) (bx * 8) → f ≡ found8Of z
+      → ds ≡ written dirs (by * (w / 8) + bx) (f .directions) 8 → vs ≡ written vars (by * (w / 8) + bx) (f .variances) 8
+      → Filled s w h depth (by * (w / 8) + (bx + 8)) ds vs
   filled-eight z f ds vs hb hd hv ez ef ed ev = record {
-    dirs-are = rw ed (upto-at _ _ _ _ (omega arith) (written-upto dirs _ (f .directions) (directionAt (sized s w h) depth (w / 8)) (t .dirs-are) 8 hd (λ l hl. found-direction (sized s w h) depth (w / 8) by bx l hl (omega arith) z f ez ef)));
-    vars-are = rw ev (upto-at _ _ _ _ (omega arith) (written-upto vars _ (f .variances) (varianceAt (sized s w h) depth (w / 8)) (t .vars-are) 8 hv (λ l hl. found-variance (sized s w h) depth (w / 8) by bx l hl (omega arith) z f ez ef)));
+    dirs-are = rw ed (upto-at _ _ _ _ (omega arith) (written-upto dirs _ (f .directions) _ (t .dirs-are) 8 hd (λ l hl. found-direction (sized s w h) depth (w / 8) by bx l hl (omega arith) z f ez ef)));
+    vars-are = rw ev (upto-at _ _ _ _ (omega arith) (written-upto vars _ (f .variances) _ (t .vars-are) 8 hv (λ l hl. found-variance (sized s w h) depth (w / 8) by bx l hl (omega arith) z f ez ef)));
   }

@@ -1,5 +1,5 @@
 -- `cdef_eight::eight` meets its contract.
-use mathlib.Core.Path.{_≡_, ap, _∙_}
+use mathlib.Core.Path.{ap, _∙_}
 use Rattle.cdef_eight.specs.Best.{foundsOf}
 use Rattle.cdef_eight.specs.BestLaws.{founds-are, costs-held}
 use Rattle.cdef_eight.proofs.eight.Statement.{statement}

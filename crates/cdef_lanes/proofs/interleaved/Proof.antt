@@ -1,5 +1,5 @@
 -- `cdef_lanes::interleaved` meets its contract.
-use mathlib.Core.Path.{_≡_, sym, _∙_}
+use mathlib.Core.Path.{_≡_, sym}
 use mathlib.Core.List.{List}
 use Prim.Native.Nat.{ℕ, _+_, _-_, _*_, _≤_, _<_}
 use native.Mathlib.Nat.{mul-le-mul-right}
@@ -17,10 +17,10 @@ use Rattle.cdef_lanes.proofs.interleaved.Statement.{statement}
 use Rattle.cdef_lanes.proofs.interleaved.Tie as tie
 
 abbrev Inv-loop3 : tie.InvT-loop3
-Inv-loop3 out₀ a row on half m i to from j₀ out j = (take (to + 2 * j) out ≡ upto (λ (k : ℕ). getD a (fromAt row on half k) (pos 0)) (to + 2 * j)) × (length out ≡ 512) × (j ≤ 8)
+Inv-loop3 out₀ a row on half m i to from next j₀ out j = (take (to + 2 * j) out ≡ upto (λ (k : ℕ). getD a (fromAt row on half k) (pos 0)) (to + 2 * j)) × (length out ≡ 512) × (j ≤ 8)
 
 abbrev μ-loop3 : tie.MeasureT-loop3
-μ-loop3 out₀ a row on half m i to from j₀ out j = 8 - j
+μ-loop3 out₀ a row on half m i to from next j₀ out j = 8 - j
 
 abbrev Inv-loop2 : tie.InvT-loop2
 Inv-loop2 out₀ a row on half m i₀ out i = (take (m * 128 + i * 16) out ≡ upto (λ (k : ℕ). getD a (fromAt row on half k) (pos 0)) (m * 128 + i * 16)) × (length out ≡ 512) × (i ≤ 8)
@@ -35,7 +35,8 @@ abbrev μ-loop : tie.MeasureT-loop
 μ-loop out₀ a row on half m₀ out m = 4 - m
 
 -- the two runs of an iteration are in the array
-inside : (c : tie.In-loop2 Inv-loop3 μ-loop3 Inv-loop2 μ-loop2 Inv-loop μ-loop) → let a = c .before .before .before .before .args in c .before .before .before .loop .m * a .row + c .before .loop2 .i * a .on + a .half + 8 ≤ 512
+inside : (c : tie.In-loop2 Inv-loop3 μ-loop3 Inv-loop2 μ-loop2 Inv-loop μ-loop)
+    → let a = c .before .before .before .before .args in c .before .before .before .loop .m * a .row + c .before .loop2 .i * a .on + a .half + 8 ≤ 512
 inside c =
     let s = c .before .before .before .before in
     let m : c .before .before .before .loop .m ≤ 3 = omega arith in
@@ -43,7 +44,8 @@ inside c =
     omega (arith, mul-le-mul-right (s .args .row) m, mul-le-mul-right (s .args .on) i, s .pre .1)
 
 -- what is stored at k
-stored : (a : List ℤ) (row on half m i j b at k : ℕ) → Within a 128 → m < 4 → i < 8 → j < 8 → b < 2 → at ≡ m * row + i * on + j + b * half → k ≡ m * 128 + i * 16 + 2 * j + b → toZ w16 (ofZ w16 (getD a at (pos 0))) ≡ getD a (fromAt row on half k) (pos 0)
+stored : (a : List ℤ) (row on half m i j b at k : ℕ) → Within a 128 → m < 4 → i < 8 → j < 8 → b < 2 → at ≡ m * row + i * on + j + b * half
+    → k ≡ m * 128 + i * 16 + 2 * j + b → toZ w16 (ofZ w16 (getD a at (pos 0))) ≡ getD a (fromAt row on half k) (pos 0)
 stored a row on half m i j b at k w hm hi hj hb e f = rw (e, f, from-at row on half m i j b hm hi hj hb) (back _ (omega (arith, w .all (m * row + i * on + j + b * half))))
 
 loop-holds : tie.Need-loop-holds Inv-loop3 μ-loop3 Inv-loop2 μ-loop2 Inv-loop μ-loop
@@ -69,6 +71,9 @@ mul-from-2 c = omega (arith, inside c)
 
 add-from : tie.Need-add-from Inv-loop3 μ-loop3 Inv-loop2 μ-loop2 Inv-loop μ-loop
 add-from c = omega (arith, inside c)
+
+add-next : tie.Need-add-next Inv-loop3 μ-loop3 Inv-loop2 μ-loop2 Inv-loop μ-loop
+add-next c = omega (arith, inside c)
 
 loop3-holds : tie.Need-loop3-holds Inv-loop3 μ-loop3 Inv-loop2 μ-loop2 Inv-loop μ-loop
 loop3-holds c = let p = c .before in (upto-at _ _ _ _ (omega arith) (p .loop2 .inv .0), p .loop2 .inv .1, omega arith)
@@ -97,23 +102,20 @@ element-set-from-out c = omega arith
 add-out-3 : tie.Need-add-out-3 Inv-loop3 μ-loop3 Inv-loop2 μ-loop2 Inv-loop μ-loop
 add-out-3 c = omega (arith, inside (c .before .before .before))
 
-add-out-4 : tie.Need-add-out-4 Inv-loop3 μ-loop3 Inv-loop2 μ-loop2 Inv-loop μ-loop
-add-out-4 c = omega (arith, inside (c .before .before .before))
-
 mul-out-4 : tie.Need-mul-out-4 Inv-loop3 μ-loop3 Inv-loop2 μ-loop2 Inv-loop μ-loop
 mul-out-4 c = omega (arith, inside (c .before .before .before))
 
 element-copy-out-out-2 : tie.Need-element-copy-out-out-2 Inv-loop3 μ-loop3 Inv-loop2 μ-loop2 Inv-loop μ-loop
 element-copy-out-out-2 c = omega (arith, inside (c .before .before .before))
 
-mul-t21 : tie.Need-mul-t21 Inv-loop3 μ-loop3 Inv-loop2 μ-loop2 Inv-loop μ-loop
-mul-t21 c = omega arith
+mul-t23 : tie.Need-mul-t23 Inv-loop3 μ-loop3 Inv-loop2 μ-loop2 Inv-loop μ-loop
+mul-t23 c = omega arith
 
-add-t17 : tie.Need-add-t17 Inv-loop3 μ-loop3 Inv-loop2 μ-loop2 Inv-loop μ-loop
-add-t17 c = omega arith
+add-t22 : tie.Need-add-t22 Inv-loop3 μ-loop3 Inv-loop2 μ-loop2 Inv-loop μ-loop
+add-t22 c = omega arith
 
-add-t28 : tie.Need-add-t28 Inv-loop3 μ-loop3 Inv-loop2 μ-loop2 Inv-loop μ-loop
-add-t28 c = omega arith
+add-t18 : tie.Need-add-t18 Inv-loop3 μ-loop3 Inv-loop2 μ-loop2 Inv-loop μ-loop
+add-t18 c = omega arith
 
 mul-t29 : tie.Need-mul-t29 Inv-loop3 μ-loop3 Inv-loop2 μ-loop2 Inv-loop μ-loop
 mul-t29 c = omega arith
@@ -176,6 +178,7 @@ interleaved-spec =
     mul-from
     mul-from-2
     add-from
+    add-next
     loop3-holds
     add-out
     mul-out
@@ -185,12 +188,11 @@ interleaved-spec =
     mul-out-3
     element-set-from-out
     add-out-3
-    add-out-4
     mul-out-4
     element-copy-out-out-2
-    mul-t21
-    add-t17
-    add-t28
+    mul-t23
+    add-t22
+    add-t18
     mul-t29
     element-set-from-out-2
     add-j

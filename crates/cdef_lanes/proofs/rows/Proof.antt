@@ -2,7 +2,7 @@
 use mathlib.Core.Path.{_≡_, sym, _∙_}
 use Prim.Native.Nat.{ℕ, _+_, _-_, _*_, _/_, _%_, _≤_, _<_}
 use native.Mathlib.Omega.{arith}
-use lib.ListN.{length, take, getD, length-set}
+use lib.ListN.{length, take, length-set}
 use mir.Syntax.{w16}
 use mir.Val.{toZ, ofZ}
 use Rattle.cdef_sample.specs.Upto.{upto, upto-none, upto-more, upto-at, upto-all}
@@ -28,7 +28,8 @@ abbrev μ-loop : tie.MeasureT-loop
 μ-loop a₀ plane width height x y depth shift i₀ a i = 8 - i
 
 -- a row's samples are in the plane
-inside : (c : tie.In-loop Inv-loop2 μ-loop2 Inv-loop μ-loop) → let a = c .before .before .before .args in ((a .y + c .before .loop .i) * a .width + a .x + 64 ≤ length (a .plane .now)) × (length (a .plane .now) ≤ 4096 * 4096)
+inside : (c : tie.In-loop Inv-loop2 μ-loop2 Inv-loop μ-loop)
+    → let a = c .before .before .before .args in ((a .y + c .before .loop .i) * a .width + a .x + 64 ≤ length (a .plane .now)) × (length (a .plane .now) ≤ 4096 * 4096)
 inside c =
     let a = c .before .before .before .args in
     let q = c .before .before .before .pre .1 in
@@ -37,7 +38,8 @@ inside c =
     (omega (arith, place-low (a .width) (a .height) (a .y + c .before .loop .i) (a .x + 63) i k, q .size), omega (arith, plane-low (a .width) (a .height) (q .w-high) (q .h-high), q .size))
 
 -- what an iteration stores
-stored : (c : tie.After-level Inv-loop2 μ-loop2 Inv-loop μ-loop) → let a = c .before .before .before .before .before .before .before .args in let i = c .before .before .before .before .before .loop .i in let k = c .before .before .before .loop2 .k in toZ w16 (ofZ w16 (c .level .result)) ≡ directionInput (record { samples = a .plane .now; width = a .width; height = a .height }) (a .depth) (a .y) (a .x) ((i * 64 + k) / 64) ((i * 64 + k) % 64)
+stored : (c : tie.After-level Inv-loop2 μ-loop2 Inv-loop μ-loop)
+    → let a = c .before .before .before .before .before .before .before .args in let i = c .before .before .before .before .before .loop .i in let k = c .before .before .before .loop2 .k in toZ w16 (ofZ w16 (c .level .result)) ≡ directionInput (record { samples = a .plane .now; width = a .width; height = a .height }) (a .depth) (a .y) (a .x) ((i * 64 + k) / 64) ((i * 64 + k) % 64)
 stored c =
     let a = c .before .before .before .before .before .before .before .args in
     let q = c .before .before .before .before .before .before .before .pre .1 in

@@ -1,10 +1,10 @@
 -- `cdef_pass::eight_blocks` meets its contract.
-use mathlib.Core.Path.{_≡_, refl, sym, ap, _∙_}
-use Prim.Native.Nat.{ℕ, _+_, _-_, _*_, _/_, _≤_, _<_}
+use mathlib.Core.Path.{_≡_, ap, _∙_}
+use Prim.Native.Nat.{_+_, _-_, _*_, _/_, _≤_, _<_}
 use native.Mathlib.Nat.{mul-le-mul}
 use native.Mathlib.Omega.{arith}
 use lib.Arith.{digits-lt}
-use lib.ListN.{length, length-set}
+use lib.ListN.{length}
 use Rattle.cdef_lanes.specs.Lanes.{EightIn}
 use Rattle.cdef_lanes.specs.LanesLaws.{lanes-within, length-lanes}
 use Rattle.cdef_eight.specs.Costs.{written}
@@ -20,7 +20,8 @@ abbrev μ-loop : tie.MeasureT-loop
 μ-loop dirs₀ vars₀ plane width height bx by depth a s directions variances at l₀ dirs vars l = 8 - l
 
 -- the blocks' indices
-place : (s : tie.Start Inv-loop μ-loop) → let a = s .args in (a .by * (a .width / 8) + a .bx + 8 ≤ length (a .dirs .now)) × (a .by * (a .width / 8) + a .bx + 8 ≤ length (a .vars .now)) × (length (a .dirs .now) ≤ 512 * 512)
+place : (s : tie.Start Inv-loop μ-loop)
+    → let a = s .args in (a .by * (a .width / 8) + a .bx + 8 ≤ length (a .dirs .now)) × (a .by * (a .width / 8) + a .bx + 8 ≤ length (a .vars .now)) × (length (a .dirs .now) ≤ 512 * 512)
 place s =
     let a = s .args in
     let q = s .pre .0 .0 in
@@ -45,10 +46,12 @@ inside s = let q = s .pre .0 .0 in
     }
 
 -- the lists keep their lengths
-dirs-length : (c : tie.At-loop Inv-loop μ-loop) → length (c .loop .dirs) ≡ length (c .before .before .before .before .before .before .before .before .before .before .before .args .dirs .now)
+dirs-length : (c : tie.At-loop Inv-loop μ-loop)
+    → length (c .loop .dirs) ≡ length (c .before .before .before .before .before .before .before .before .before .before .before .args .dirs .now)
 dirs-length c = ap length (c .loop .inv .0) ∙ length-written _ _ _ _
 
-vars-length : (c : tie.At-loop Inv-loop μ-loop) → length (c .loop .vars) ≡ length (c .before .before .before .before .before .before .before .before .before .before .before .args .vars .now)
+vars-length : (c : tie.At-loop Inv-loop μ-loop)
+    → length (c .loop .vars) ≡ length (c .before .before .before .before .before .before .before .before .before .before .before .args .vars .now)
 vars-length c = ap length (c .loop .inv .1) ∙ length-written _ _ _ _
 
 mul-lanes : tie.Need-mul-lanes Inv-loop μ-loop

@@ -1,6 +1,5 @@
 -- `cdef_pass::one_block` meets its contract.
-use mathlib.Core.Path.{_≡_, refl, sym, _∙_}
-use Prim.Native.Nat.{ℕ, _+_, _*_, _/_, _≤_, _<_}
+use Prim.Native.Nat.{_+_, _*_, _/_, _≤_, _<_}
 use native.Mathlib.Nat.{mul-le-mul}
 use native.Mathlib.Omega.{arith}
 use lib.Arith.{digits-lt}
@@ -11,7 +10,8 @@ use Rattle.cdef_pass.proofs.one_block.Statement.{statement}
 use Rattle.cdef_pass.proofs.one_block.Tie as tie
 
 -- the block's index
-place : (s : tie.Start) → let a = s .args in (a .by * (a .width / 8) + a .bx < length (a .dirs .now)) × (a .by * (a .width / 8) + a .bx < length (a .vars .now)) × (length (a .dirs .now) ≤ 512 * 512)
+place : (s : tie.Start)
+    → let a = s .args in (a .by * (a .width / 8) + a .bx < length (a .dirs .now)) × (a .by * (a .width / 8) + a .bx < length (a .vars .now)) × (length (a .dirs .now) ≤ 512 * 512)
 place s =
     let a = s .args in
     let q = s .pre .0 .0 in

@@ -1,6 +1,6 @@
 -- `cdef_pass::row` meets its contract.
-use mathlib.Core.Path.{_≡_, refl, sym, _∙_}
-use Prim.Native.Nat.{ℕ, _+_, _-_, _*_, _/_, _≤_}
+use mathlib.Core.Path.{_≡_, refl, _∙_}
+use Prim.Native.Nat.{_+_, _-_, _*_, _/_, _≤_}
 use native.Mathlib.Omega.{arith}
 use lib.ListN.{length}
 use Rattle.cdef_pass.specs.Pass.{Filled}

@@ -1,6 +1,6 @@
 -- `cdef_eight::best::best` meets its contract.
 use mathlib.Core.Path.{_≡_, refl, _∙_}
-use Prim.Native.Nat.{ℕ, _-_, _≤_}
+use Prim.Native.Nat.{_-_, _≤_}
 use native.Mathlib.Omega.{arith}
 use Rattle.cdef_sample.specs.Upto.{upto}
 use Rattle.cdef_direction.specs.CostsLaws.{bestTo}

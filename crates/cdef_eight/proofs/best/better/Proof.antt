@@ -1,5 +1,5 @@
 -- `cdef_eight::best::better` meets its contract.
-use mathlib.Core.Path.{_≡_, refl, sym, ap, _∙_}
+use mathlib.Core.Path.{_≡_, refl, sym, _∙_}
 use mathlib.Core.Bool.{Bool, cond}
 use mathlib.Core.List.{List}
 use Prim.Native.Nat.{ℕ, _+_, _-_, _*_, _≤_, _<_}
@@ -35,7 +35,8 @@ module _ (c : List ℕ) (d l : ℕ) (b : Best8) (e : b ≡ bestsOf c d) (hl : l 
     unfolding laneCost
     next-most r er = er ∙ rw (eu, e, most-at c d l hl) (most-more (laneCost c l) d)
 
-both : (c : List ℕ) (n : ℕ) (x y : List ℕ) → x ≡ upto (λ (l : ℕ). (bestTo (laneCost c l) n) .yDir) 8 → y ≡ upto (λ (l : ℕ). (bestTo (laneCost c l) n) .bestCost) 8 → record { directions = x; most = y } ≡ bestsOf c n
+both : (c : List ℕ) (n : ℕ) (x y : List ℕ) → x ≡ upto (λ (l : ℕ). (bestTo (laneCost c l) n) .yDir) 8
+    → y ≡ upto (λ (l : ℕ). (bestTo (laneCost c l) n) .bestCost) 8 → record { directions = x; most = y } ≡ bestsOf c n
 unfolding bestsOf
 both c n x y ex ey = rw (ex, ey)
 

@@ -1,13 +1,12 @@
 -- `cdef_eight::best::found` meets its contract.
 use mathlib.Core.Path.{_≡_, refl, sym, _∙_}
 use mathlib.Core.List.{List}
-use Prim.Native.Nat.{ℕ, _+_, _-_, _*_, _%_, _≤_, _<_}
+use Prim.Native.Nat.{ℕ, _-_, _≤_, _<_}
 use native.Mathlib.Omega.{arith}
 use lib.ListN.{getD, length, take, length-set}
 use Rattle.cdef_sample.specs.Upto.{upto, upto-none, upto-more, upto-all}
 use Rattle.cdef_direction.specs.CostsLaws.{bestTo}
-use Rattle.cdef_eight.specs.declared.best.Best8.{Best8}
-use Rattle.cdef_eight.specs.Best.{laneCost, bestsOf, foundAt, varianceAt, foundsOf}
+use Rattle.cdef_eight.specs.Best.{laneCost, foundAt, varianceAt, foundsOf}
 use Rattle.cdef_eight.specs.BestLaws.{dir-at, most-at, dir-8, across-low, dir-found, variance-found}
 use Rattle.cdef_eight.proofs.best.found.Statement.{statement}
 use Rattle.cdef_eight.proofs.best.found.Tie as tie
@@ -19,10 +18,12 @@ abbrev μ-loop : tie.MeasureT-loop
 μ-loop c from top directions₀ variances₀ l₀ directions variances l = 8 - l
 
 -- a lane's best direction and its cost
-dir : (c : tie.In-loop Inv-loop μ-loop) → getD ((c .before .before .before .before .best .result) .directions) (c .before .loop .l) 0 ≡ (bestTo (laneCost (c .before .before .before .before .before .args .c .now) (c .before .loop .l)) 8) .yDir
+dir : (c : tie.In-loop Inv-loop μ-loop)
+    → getD ((c .before .before .before .before .best .result) .directions) (c .before .loop .l) 0 ≡ (bestTo (laneCost (c .before .before .before .before .before .args .c .now) (c .before .loop .l)) 8) .yDir
 dir c = rw (c .before .before .before .before .best .ensures) (dir-at _ 8 _ (c .loop-test .taken))
 
-most : (c : tie.In-loop Inv-loop μ-loop) → getD ((c .before .before .before .before .best .result) .most) (c .before .loop .l) 0 ≡ (bestTo (laneCost (c .before .before .before .before .before .args .c .now) (c .before .loop .l)) 8) .bestCost
+most : (c : tie.In-loop Inv-loop μ-loop)
+    → getD ((c .before .before .before .before .best .result) .most) (c .before .loop .l) 0 ≡ (bestTo (laneCost (c .before .before .before .before .before .args .c .now) (c .before .loop .l)) 8) .bestCost
 most c = rw (c .before .before .before .before .best .ensures) (most-at _ 8 _ (c .loop-test .taken))
 
 low : (c : tie.In-loop Inv-loop μ-loop) → getD ((c .before .before .before .before .best .result) .directions) (c .before .loop .l) 0 < 8

@@ -1,5 +1,4 @@
 -- `cdef_eight::best::less` meets its contract.
-use mathlib.Core.Path.{_≡_}
 use native.Mathlib.Omega.{arith}
 use mir.Syntax.{w32}
 use Rattle.cdef_spec.specs.SignedLaws.{back-nat}

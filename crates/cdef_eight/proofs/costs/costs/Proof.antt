@@ -1,6 +1,5 @@
 -- `cdef_eight::costs::costs` meets its contract.
-use mathlib.Core.Path.{_≡_, refl, sym}
-use native.Mathlib.Omega.{arith}
+use mathlib.Core.Path.{refl, sym}
 use Rattle.cdef_sample.specs.Upto.{upto-none, upto-all}
 use Rattle.cdef_eight.specs.Costs.{costsOf}
 use Rattle.cdef_eight.proofs.costs.costs.Statement.{statement}

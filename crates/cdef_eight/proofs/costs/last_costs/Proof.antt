@@ -1,6 +1,5 @@
 -- `cdef_eight::costs::last_costs` meets its contract.
 use mathlib.Core.Path.{_≡_, sym, ap, _∙_}
-use Prim.Native.Nat.{ℕ}
 use native.Mathlib.Omega.{arith}
 use lib.ListN.{length}
 use Rattle.cdef_sample.specs.Bounds.{Within}

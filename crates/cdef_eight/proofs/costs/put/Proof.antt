@@ -1,6 +1,6 @@
 -- `cdef_eight::costs::put` meets its contract.
 use mathlib.Core.Path.{_≡_, _∙_}
-use Prim.Native.Nat.{ℕ, _+_, _-_, _*_, _≤_}
+use Prim.Native.Nat.{_-_, _≤_}
 use native.Mathlib.Omega.{arith}
 use Rattle.cdef_eight.specs.Costs.{written}
 use Rattle.cdef_eight.specs.CostsLaws.{written-none, written-more}

@@ -23,10 +23,12 @@ abbrev μ-loop : tie.MeasureT-loop
 μ-loop p z q₀ k₀ q k = 64 - k
 
 -- the two squares of an iteration
-first : (c : tie.After-square-of Inv-loop μ-loop) → let z = getD (c .before .before .before .before .ends .result) (2 * c .before .before .before .loop .k) (pos 0) in (c .square-of .result ≡ square z) × (square z ≤ 32768 * 32768)
+first : (c : tie.After-square-of Inv-loop μ-loop)
+    → let z = getD (c .before .before .before .before .ends .result) (2 * c .before .before .before .loop .k) (pos 0) in (c .square-of .result ≡ square z) × (square z ≤ 32768 * 32768)
 first c = (c .square-of .ensures ∙ ap square (toZ-ofZ w16 _ (record { sfits = c .before .square-of-arg .given })), square-low _ (record { sfits = c .before .square-of-arg .given }))
 
-second : (c : tie.After-square-of2 Inv-loop μ-loop) → let z = getD (c .before .before .before .before .before .before .ends .result) (2 * c .before .before .before .before .before .loop .k + 1) (pos 0) in (c .square-of2 .result ≡ square z) × (square z ≤ 32768 * 32768)
+second : (c : tie.After-square-of2 Inv-loop μ-loop)
+    → let z = getD (c .before .before .before .before .before .before .ends .result) (2 * c .before .before .before .before .before .loop .k + 1) (pos 0) in (c .square-of2 .result ≡ square z) × (square z ≤ 32768 * 32768)
 second c = (c .square-of2 .ensures ∙ ap square (toZ-ofZ w16 _ (record { sfits = c .before .square-of-arg2 .given })), square-low _ (record { sfits = c .before .square-of-arg2 .given }))
 
 -- their sum

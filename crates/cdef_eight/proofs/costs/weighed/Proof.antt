@@ -1,10 +1,10 @@
 -- `cdef_eight::costs::weighed` meets its contract.
 use mathlib.Core.Path.{_≡_, sym, ap, _∙_}
 use mathlib.Core.List.{List}
-use Prim.Native.Nat.{ℕ, _+_, _*_, _/_, _≤_}
+use Prim.Native.Nat.{ℕ, _+_, _*_, _/_}
 use native.Mathlib.Omega.{arith}
 use lib.ListN.{getD}
-use Rattle.cdef_eight.specs.Costs.{straightOf, betweenOf, diagonalOf, weigh, weighedOf}
+use Rattle.cdef_eight.specs.Costs.{straightOf, betweenOf, diagonalOf, weighedOf}
 use Rattle.cdef_eight.specs.CostsLaws.{weigh-straight, weigh-between, weigh-diagonal}
 use borrow.Author.Needs.{needs}
 use Rattle.cdef_eight.proofs.costs.weighed.Statement.{statement}
@@ -15,15 +15,18 @@ module _ (kind : ℕ) (q : List ℕ) (l : ℕ) where
   zero-at : getD q (0 * 8 + l) 0 ≡ getD q l 0
   zero-at = ap (λ (k : ℕ). getD q k 0) (omega arith)
 
-  when-straight : kind ≡ 0 → weighedOf kind q l ≡ straightOf (getD q l 0) (getD q (8 + l) 0) (getD q (16 + l) 0) (getD q (24 + l) 0) (getD q (32 + l) 0) (getD q (40 + l) 0) (getD q (48 + l) 0) (getD q (56 + l) 0 / 2)
+  when-straight : kind ≡ 0
+      → weighedOf kind q l ≡ straightOf (getD q l 0) (getD q (8 + l) 0) (getD q (16 + l) 0) (getD q (24 + l) 0) (getD q (32 + l) 0) (getD q (40 + l) 0) (getD q (48 + l) 0) (getD q (56 + l) 0 / 2)
   unfolding weighedOf
   when-straight h = weigh-straight kind _ h ∙ rw zero-at
 
-  when-between : kind ≡ 1 → weighedOf kind q l ≡ betweenOf (getD q (16 + l) 0) (getD q (24 + l) 0) (getD q (32 + l) 0) (getD q (40 + l) 0) (getD q (48 + l) 0) (getD q (56 + l) 0 / 2)
+  when-between : kind ≡ 1
+      → weighedOf kind q l ≡ betweenOf (getD q (16 + l) 0) (getD q (24 + l) 0) (getD q (32 + l) 0) (getD q (40 + l) 0) (getD q (48 + l) 0) (getD q (56 + l) 0 / 2)
   unfolding weighedOf
   when-between h = weigh-between kind _ h
 
-  when-diagonal : (kind ≡ 0 → ⊥) → (kind ≡ 1 → ⊥) → weighedOf kind q l ≡ diagonalOf (getD q l 0) (getD q (8 + l) 0) (getD q (16 + l) 0) (getD q (24 + l) 0) (getD q (32 + l) 0) (getD q (40 + l) 0) (getD q (48 + l) 0) (getD q (56 + l) 0 / 2)
+  when-diagonal : (kind ≡ 0 → ⊥) → (kind ≡ 1 → ⊥)
+      → weighedOf kind q l ≡ diagonalOf (getD q l 0) (getD q (8 + l) 0) (getD q (16 + l) 0) (getD q (24 + l) 0) (getD q (32 + l) 0) (getD q (40 + l) 0) (getD q (48 + l) 0) (getD q (56 + l) 0 / 2)
   unfolding weighedOf
   when-diagonal h g = weigh-diagonal kind _ h g ∙ rw zero-at
 

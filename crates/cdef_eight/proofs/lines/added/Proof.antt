@@ -1,10 +1,10 @@
 -- `cdef_eight::lines::added` meets its contract.
-use mathlib.Core.Path.{_≡_, refl, ap, _∙_}
+use mathlib.Core.Path.{_≡_, refl, _∙_}
 use Prim.Native.Nat.{ℕ, _+_, _-_, _≤_}
 use native.Mathlib.Omega.{arith}
 use lib.IntN.{pos, _+ℤ_}
-use lib.ListN.{length, getD}
-use Rattle.cdef_sample.specs.Upto.{upto, length-upto}
+use lib.ListN.{getD}
+use Rattle.cdef_sample.specs.Upto.{upto}
 use Rattle.cdef_sample.proofs.Joins.{Is, add-ok, add-is, back-is}
 use Rattle.cdef_eight.specs.Lines.{addAt, addedOf}
 use Rattle.cdef_eight.specs.LinesLaws.{added-none, added-next, added-more}
@@ -18,13 +18,15 @@ abbrev μ-loop : tie.MeasureT-loop
 μ-loop p₀ z to from k₀ p k = 64 - k
 
 -- what an iteration reads
-first : (c : tie.In-loop Inv-loop μ-loop) → let a = c .before .before .args in let k = c .before .loop .k in Is (getD (c .before .loop .p) (a .to + k) (pos 0)) (getD (a .p .now) (a .to + k) (pos 0)) 2048
+first : (c : tie.In-loop Inv-loop μ-loop)
+    → let a = c .before .before .args in let k = c .before .loop .k in Is (getD (c .before .loop .p) (a .to + k) (pos 0)) (getD (a .p .now) (a .to + k) (pos 0)) 2048
 first c = let s = c .before .before in
     let a = s .args in
     let k = c .before .loop .k in
     record { is = added-next (a .p .now) (a .z .now) (a .to) (a .from) k _ (omega arith) (c .before .loop .inv .0); small = s .pre .1 .0 .all (a .to + k) }
 
-second : (c : tie.In-loop Inv-loop μ-loop) → let a = c .before .before .args in let k = c .before .loop .k in Is (getD (a .z .now) (a .from + k) (pos 0)) (getD (a .z .now) (a .from + k) (pos 0)) 256
+second : (c : tie.In-loop Inv-loop μ-loop)
+    → let a = c .before .before .args in let k = c .before .loop .k in Is (getD (a .z .now) (a .from + k) (pos 0)) (getD (a .z .now) (a .from + k) (pos 0)) 256
 second c = record { is = refl; small = c .before .before .pre .1 .1 .all (c .before .before .args .from + c .before .loop .k) }
 
 loop-holds : tie.Need-loop-holds Inv-loop μ-loop

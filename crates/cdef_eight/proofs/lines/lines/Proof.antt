@@ -1,11 +1,9 @@
 -- `cdef_eight::lines::lines` meets its contract.
-use mathlib.Core.Path.{_≡_, refl, sym, ap, _∙_}
-use Prim.Native.Nat.{ℕ, _+_, _-_, _*_, _≤_}
+use mathlib.Core.Path.{_≡_, refl, ap, _∙_}
+use Prim.Native.Nat.{ℕ, _-_, _*_, _≤_}
 use native.Mathlib.Omega.{arith}
-use lib.IntN.{pos}
 use lib.ListN.{length}
 use Rattle.cdef_spec.specs.Words.{sumℤ}
-use Rattle.cdef_sample.specs.Bounds.{Within}
 use Rattle.cdef_sample.specs.Upto.{upto, length-upto}
 use Rattle.cdef_eight.specs.Lines.{addAt, placeOf, linesOf}
 use Rattle.cdef_eight.specs.LinesLaws.{sums-more, sums-within, place-high}

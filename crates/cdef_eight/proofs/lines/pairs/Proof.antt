@@ -1,5 +1,5 @@
 -- `cdef_eight::lines::pairs` meets its contract.
-use mathlib.Core.Path.{_≡_, refl, sym, _∙_}
+use mathlib.Core.Path.{_≡_, refl, sym}
 use mathlib.Core.List.{List}
 use Prim.Native.Nat.{ℕ, _+_, _-_, _*_, _/_, _%_, _≤_, _<_}
 use native.Mathlib.Nat.{mul-le-mul-right}
@@ -8,7 +8,6 @@ use lib.IntN.{ℤ, pos}
 use lib.ListN.{length, take, getD, length-set}
 use mir.Syntax.{w16}
 use mir.Val.{toZ, ofZ}
-use Rattle.cdef_sample.specs.Bounds.{Within}
 use Rattle.cdef_sample.specs.Upto.{upto, upto-none, upto-more, upto-at, upto-all}
 use Rattle.cdef_sample.proofs.Joins.{Is, add-ok, add-is, back-is}
 use Rattle.cdef_eight.specs.Lines.{pairAt, pairsOf}
@@ -34,7 +33,8 @@ abbrev μ-loop : tie.MeasureT-loop
 μ-loop s down on next v₀ m₀ v m = 4 - m
 
 -- the two groups of an iteration are in the array
-inside : (c : tie.In-loop2 Inv-loop3 μ-loop3 Inv-loop2 μ-loop2 Inv-loop μ-loop) → let a = c .before .before .before .before .args in c .before .before .before .loop .m * a .down + c .before .loop2 .i * a .on + a .next + 8 ≤ 512
+inside : (c : tie.In-loop2 Inv-loop3 μ-loop3 Inv-loop2 μ-loop2 Inv-loop μ-loop)
+    → let a = c .before .before .before .before .args in c .before .before .before .loop .m * a .down + c .before .loop2 .i * a .on + a .next + 8 ≤ 512
 inside c =
     let s = c .before .before .before .before in
     let m : c .before .before .before .loop .m ≤ 3 = omega arith in
@@ -45,12 +45,14 @@ inside c =
 at : (s : tie.Start Inv-loop3 μ-loop3 Inv-loop2 μ-loop2 Inv-loop μ-loop) (k : ℕ) → Is (getD (s .args .s .now) k (pos 0)) (getD (s .args .s .now) k (pos 0)) 128
 at s k = record { is = refl; small = s .pre .1 .all k }
 
-read : (c : tie.After-add Inv-loop3 μ-loop3 Inv-loop2 μ-loop2 Inv-loop μ-loop) → let a = c .before .before .before .before .before .before .before .before .before .args in toZ w16 (ofZ w16 (c .add .result)) ≡ pairAt (a .s .now) (c .before .before .before .before .before .before .before .before .loop .m * a .down + c .before .before .before .before .before .before .loop2 .i * a .on) (a .next) (c .before .before .before .before .loop3 .l)
+read : (c : tie.After-add Inv-loop3 μ-loop3 Inv-loop2 μ-loop2 Inv-loop μ-loop)
+    → let a = c .before .before .before .before .before .before .before .before .before .args in toZ w16 (ofZ w16 (c .add .result)) ≡ pairAt (a .s .now) (c .before .before .before .before .before .before .before .before .loop .m * a .down + c .before .before .before .before .before .before .loop2 .i * a .on) (a .next) (c .before .before .before .before .loop3 .l)
 unfolding pairAt
 read c = back-is (add-is (at (c .before .before .before .before .before .before .before .before .before) _) (at (c .before .before .before .before .before .before .before .before .before) _) (omega arith) (c .add .ensures)) (omega arith)
 
 -- the sum of the two, at its index
-sum-at : (s : List ℤ) (down on next m i l k : ℕ) (r : ℤ) → i < 8 → l < 8 → k ≡ m * 64 + i * 8 + l → r ≡ pairAt s (m * down + i * on) next l → r ≡ pairAt s (k / 64 * down + k / 8 % 8 * on) next (k % 8)
+sum-at : (s : List ℤ) (down on next m i l k : ℕ) (r : ℤ) → i < 8 → l < 8 → k ≡ m * 64 + i * 8 + l → r ≡ pairAt s (m * down + i * on) next l
+    → r ≡ pairAt s (k / 64 * down + k / 8 % 8 * on) next (k % 8)
 sum-at s down on next m i l k r hi hl e g =
     let a : k / 64 ≡ m = omega arith in
     let b : k / 8 % 8 ≡ i = omega arith in

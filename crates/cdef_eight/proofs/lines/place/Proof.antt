@@ -1,7 +1,6 @@
 -- `cdef_eight::lines::place` meets its contract.
 use mathlib.Core.Path.{_≡_}
 use Prim.Native.Nat.{ℕ, _+_, _-_}
-use native.Mathlib.Omega.{arith}
 use borrow.Author.Tests.{ne-eqb}
 use Rattle.cdef_eight.specs.Lines.{placeOf}
 use borrow.Author.Needs.{needs}

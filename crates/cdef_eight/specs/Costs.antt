@@ -28,15 +28,15 @@ endSquares p l n = square (lineAt p l n) + square (lineAt p l (14 - n))
 unfoldable pub squaresOf : List ℤ → List ℕ
 squaresOf p = upto (λ k. endSquares p (k % 8) (k / 8)) 64
 
--- weighted with the divisors of the lines' lengths: straight lines, those between, diagonal ones
+-- weighted with the divisors of the lines' lengths, 840 / n: straight lines, those between, diagonal ones
 abbrev pub straightOf : ℕ → ℕ → ℕ → ℕ → ℕ → ℕ → ℕ → ℕ → ℕ
-straightOf a b c d e f g h = (a + b + c + d + (e + f + g + h)) * 105
+straightOf a b c d e f g h = (a + b + c + d + (e + f + g + h)) * (840 / 8)
 
 abbrev pub betweenOf : ℕ → ℕ → ℕ → ℕ → ℕ → ℕ → ℕ
-betweenOf c d e f g h = (c * 4 + d * 2 + (f + g + h)) * 105 + e * 140
+betweenOf c d e f g h = (c * 4 + d * 2 + (f + g + h)) * (840 / 8) + e * (840 / 6)
 
 abbrev pub diagonalOf : ℕ → ℕ → ℕ → ℕ → ℕ → ℕ → ℕ → ℕ → ℕ
-diagonalOf a b c d e f g h = (a * 8 + b * 4 + d * 2 + h) * 105 + (c * 2 + f) * 140 + e * 168 + g * 120
+diagonalOf a b c d e f g h = (a * 8 + b * 4 + d * 2 + h) * (840 / 8) + (c * 2 + f) * (840 / 6) + e * (840 / 5) + g * (840 / 7)
 
 -- of the squares e; those of line 7 are counted twice
 unfoldable pub weigh : ℕ → (ℕ → ℕ) → ℕ

@@ -1,11 +1,12 @@
 // The cost of each direction of eight blocks, from their line sums.
 ghost use mathlib.Core.Path.{_≡_};
-ghost use Prim.Native.Nat.{_+_, _*_, _≤_, _<_};
+ghost use Prim.Native.Nat.{_+_, _*_, _/_, _≤_, _<_};
 ghost use lib.ListN.{length};
 ghost use Rattle.cdef_sample.specs.Bounds.{Within};
 ghost use Rattle.cdef_sample.specs.Upto.{upto};
 ghost use Rattle.cdef_eight.specs.Costs.{endsOf, squaresOf, straightOf, betweenOf, diagonalOf, weighedOf, CostFits, costOf, written, CostsTo, costsOf};
 use crate::lines;
+use cdef_leaf::tables;
 
 // Lines n and 14 - n of each lane side by side, for n below 8, so that the compiler squares and adds them at once.
 fn ends(p: &[i16; 128]) -> [i16; 128]
@@ -40,28 +41,36 @@ fn squares(p: &[i16; 128]) -> [u32; 64]
     q
 }
 
+// A sum of squares times the divisor of lines of n samples.
+fn times(x: u32, n: u32) -> u32
+    requires { ⌜ (1 ≤ n) × (n ≤ 8) × (x * (840 / n) ≤ 880803840) ⌝ }
+    ensures { λ r. ⌜ r ≡ x * (840 / n) ⌝ }
+{
+    x * tables::divisor(n)
+}
+
 // The cost of eight lines of 8 samples.
 fn straight(a: u32, b: u32, c: u32, d: u32, e: u32, f: u32, g: u32, h: u32) -> u32
     requires { ⌜ straightOf a b c d e f g h ≤ 880803840 ⌝ }
     ensures { λ r. ⌜ r ≡ straightOf a b c d e f g h ⌝ }
 {
-    (a + b + c + d + (e + f + g + h)) * 105
+    times(a + b + c + d + (e + f + g + h), 8)
 }
 
-// The cost of eleven lines, of 2, 4 and 6 samples at either end and of 8 between: 420, 210, 140 and 105.
+// The cost of eleven lines, of 2, 4 and 6 samples at either end and of 8 between. The divisors of 2 and 4 are 4 and 2 times that of 8.
 fn between(c: u32, d: u32, e: u32, f: u32, g: u32, h: u32) -> u32
     requires { ⌜ betweenOf c d e f g h ≤ 880803840 ⌝ }
     ensures { λ r. ⌜ r ≡ betweenOf c d e f g h ⌝ }
 {
-    (c * 4 + d * 2 + (f + g + h)) * 105 + e * 140
+    times(c * 4 + d * 2 + (f + g + h), 8) + times(e, 6)
 }
 
-// The cost of fifteen lines, of 1 to 8 and back to 1 samples: 840, 420, 280, 210, 168, 140, 120 and 105.
+// The cost of fifteen lines, of 1 to 8 and back to 1 samples. The divisors of 1, 2 and 4 are 8, 4 and 2 times that of 8, the divisor of 3 twice that of 6.
 fn diagonal(a: u32, b: u32, c: u32, d: u32, e: u32, f: u32, g: u32, h: u32) -> u32
     requires { ⌜ diagonalOf a b c d e f g h ≤ 880803840 ⌝ }
     ensures { λ r. ⌜ r ≡ diagonalOf a b c d e f g h ⌝ }
 {
-    (a * 8 + b * 4 + d * 2 + h) * 105 + (c * 2 + f) * 140 + e * 168 + g * 120
+    times(a * 8 + b * 4 + d * 2 + h, 8) + times(c * 2 + f, 6) + times(e, 5) + times(g, 7)
 }
 
 // The cost of lane l. Line 7 is its own counterpart, and counted twice.

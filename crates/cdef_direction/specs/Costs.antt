@@ -1,10 +1,10 @@
 -- The costs of line sums and the best of them, in the code's form. Definitions only.
-use Prim.Native.Nat.{ℕ, _+_, _-_, _%_, _≤_, _<_}
+use Prim.Native.Nat.{ℕ, zero, suc, _+_, _-_, _%_, _≤_, _<_}
 use mathlib.Core.List.{List, [], _∷_}
 use lib.ListN.{getD}
 use lib.IntN.{ℤ, pos}
 use Rattle.cdef_spec.specs.Words.{_>>_}
-use Rattle.cdef_spec.specs.Standard.{costStraight, costDiagonal, costBetween, best}
+use Rattle.cdef_spec.specs.Standard.{costStraight, costDiagonal, costBetween, Best, better, best}
 use Rattle.cdef_direction.specs.declared.Partials.{Partials}
 use Rattle.cdef_direction.specs.declared.Found.{Found}
 
@@ -24,11 +24,16 @@ costList p =
     ∷ costBetween (entry (p .d7))
     ∷ []
 
--- each cost is at most the largest that 64 samples less 128 can give
+-- no cost above 64 * 128 * 128 * 840, that of 64 values of -128, the largest there is
 pub record CostsFit (p : Partials) : Type 0 where
   pub all : (d : ℕ) → d < 8 → getD (costList p) d 0 ≤ 880803840
 
--- the best of eight costs
+-- the best of the first n costs
+unfoldable pub bestTo : (ℕ → ℕ) → ℕ → Best
+bestTo c zero = record { bestCost = 0; yDir = 0 }
+bestTo c (suc n) = better c n (bestTo c n)
+
+-- the best of eight
 unfoldable pub bestOf : List ℕ → Found
 bestOf c =
     let cost : ℕ → ℕ = λ d. getD c d 0 in

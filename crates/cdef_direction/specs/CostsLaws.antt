@@ -9,7 +9,7 @@ use lib.ListN.{getD}
 use lib.IntN.{ℤ}
 use Rattle.cdef_spec.specs.Words.{sum, for, _>>_}
 use Rattle.cdef_spec.specs.Standard.{square, Div-Table, divBy, costStraight, costDiagonal, costBetween, Best, better, best}
-use Rattle.cdef_direction.specs.Costs.{bestOf}
+use Rattle.cdef_direction.specs.Costs.{bestTo, bestOf}
 
 -- ---- the costs as plain sums
 
@@ -27,10 +27,6 @@ module _ (p : ℕ → ℤ) where
   between-is = omega arith
 
 -- ---- the best of the first n costs
-
-unfoldable pub bestTo : (ℕ → ℕ) → ℕ → Best
-bestTo c zero = record { bestCost = 0; yDir = 0 }
-bestTo c (suc n) = better c n (bestTo c n)
 
 module _ (c : ℕ → ℕ) where
   pub best-none : record { bestCost = 0; yDir = 0 } ≡ bestTo c 0

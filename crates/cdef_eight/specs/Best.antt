@@ -6,13 +6,13 @@ use lib.IntN.{ℤ}
 use Rattle.cdef_spec.specs.Words.{_>>_}
 use Rattle.cdef_spec.specs.Standard.{best, direction, variance}
 use Rattle.cdef_sample.specs.Upto.{upto}
-use Rattle.cdef_direction.specs.CostsLaws.{bestTo}
+use Rattle.cdef_direction.specs.Costs.{bestTo}
 use Rattle.cdef_eight.specs.declared.best.Best8.{Best8}
 use Rattle.cdef_eight.specs.declared.Found8.{Found8}
-use Rattle.cdef_eight.specs.Lines.{laneOf}
+use Rattle.cdef_lane_sums.specs.Lines.{laneOf}
 
--- no cost above the largest that 64 samples less 128 can give
-pub record CostsHeld (c : List ℕ) : Type 0 where
+-- no cost above 64 * 128 * 128 * 840, that of 64 values of -128, the largest there is
+pub record CostListFits (c : List ℕ) : Type 0 where
   pub all : (k : ℕ) → getD c k 0 ≤ 880803840
 
 -- the costs of lane l
@@ -27,15 +27,15 @@ bestsOf c n = record {
 }
 
 -- the direction and the variance of each lane by its costs
-unfoldable pub foundAt : List ℕ → ℕ → ℕ
-foundAt c l = (best (laneCost c l)) .yDir
+unfoldable pub laneDirection : List ℕ → ℕ → ℕ
+laneDirection c l = (best (laneCost c l)) .yDir
 
-unfoldable pub varianceAt : List ℕ → ℕ → ℕ
-varianceAt c l = ((best (laneCost c l)) .bestCost - laneCost c l (((best (laneCost c l)) .yDir + 4) % 8)) >> 10
+unfoldable pub laneVariance : List ℕ → ℕ → ℕ
+laneVariance c l = ((best (laneCost c l)) .bestCost - laneCost c l (((best (laneCost c l)) .yDir + 4) % 8)) >> 10
 
-unfoldable pub foundsOf : List ℕ → Found8
-foundsOf c = record { directions = upto (foundAt c) 8; variances = upto (varianceAt c) 8 }
+unfoldable pub foundByCosts : List ℕ → Found8
+foundByCosts c = record { directions = upto (laneDirection c) 8; variances = upto (laneVariance c) 8 }
 
 -- the standard's direction and variance of each lane
-unfoldable pub found8Of : List ℤ → Found8
-found8Of s = record { directions = upto (λ l. direction (laneOf s l)) 8; variances = upto (λ l. variance (laneOf s l)) 8 }
+unfoldable pub foundBySamples : List ℤ → Found8
+foundBySamples s = record { directions = upto (λ l. direction (laneOf s l)) 8; variances = upto (λ l. variance (laneOf s l)) 8 }

@@ -14,12 +14,13 @@ use Rattle.cdef_spec.specs.Words.{_>>_}
 use Rattle.cdef_spec.specs.Standard.{cost, Best, better, best, direction, variance}
 use Rattle.cdef_sample.specs.Bounds.{Within}
 use Rattle.cdef_sample.specs.Upto.{upto, length-upto, getD-upto, upto-ext}
-use Rattle.cdef_direction.specs.CostsLaws.{bestTo, best-all}
+use Rattle.cdef_direction.specs.Costs.{bestTo}
+use Rattle.cdef_direction.specs.CostsLaws.{best-all}
 use Rattle.cdef_direction.specs.FoundLaws.{best-same}
-use Rattle.cdef_eight.specs.Lines.{laneOf}
-use Rattle.cdef_eight.specs.Costs.{costAt, costsOf}
-use Rattle.cdef_eight.specs.CostsLaws.{cost-fits}
-use Rattle.cdef_eight.specs.Best.{CostsHeld, laneCost, bestsOf, foundAt, varianceAt, foundsOf, found8Of}
+use Rattle.cdef_lane_sums.specs.Lines.{laneOf}
+use Rattle.cdef_lane_costs.specs.Costs.{costAt, costsOf}
+use Rattle.cdef_lane_costs.specs.CostsLaws.{cost-fits}
+use Rattle.cdef_eight.specs.Best.{CostListFits, laneCost, bestsOf, laneDirection, laneVariance, foundByCosts, foundBySamples}
 
 -- ---- one more direction
 
@@ -83,7 +84,7 @@ module _ (c : List ℕ) (n l : ℕ) (hl : l < 8) where
   unfolding bestsOf
   most-at = getD-upto _ 8 l 0 hl
 
-pub lane-held : (c : List ℕ) (l n : ℕ) → CostsHeld c → (bestTo (laneCost c l) n) .bestCost ≤ 880803840
+pub lane-held : (c : List ℕ) (l n : ℕ) → CostListFits c → (bestTo (laneCost c l) n) .bestCost ≤ 880803840
 unfolding laneCost
 lane-held c l n h = most-held _ 880803840 (λ k. h .all (k * 8 + l)) n
 
@@ -95,12 +96,12 @@ module _ (c : List ℕ) (l : ℕ) where
   unfolding laneCost
   across-low d = most-high (laneCost c l) 8 ((d + 4) % 8) (omega arith)
 
-  pub dir-found : (bestTo (laneCost c l) 8) .yDir ≡ foundAt c l
-  unfolding foundAt
+  pub dir-found : (bestTo (laneCost c l) 8) .yDir ≡ laneDirection c l
+  unfolding laneDirection
   dir-found = ap (λ (b : Best). b .yDir) (best-all (laneCost c l))
 
-  pub variance-found : (m d : ℕ) → m ≡ (bestTo (laneCost c l) 8) .bestCost → d ≡ (bestTo (laneCost c l) 8) .yDir → (m - getD c ((d + 4) % 8 * 8 + l) 0) >> 10 ≡ varianceAt c l
-  unfolding varianceAt laneCost
+  pub variance-found : (m d : ℕ) → m ≡ (bestTo (laneCost c l) 8) .bestCost → d ≡ (bestTo (laneCost c l) 8) .yDir → (m - getD c ((d + 4) % 8 * 8 + l) 0) >> 10 ≡ laneVariance c l
+  unfolding laneVariance laneCost
   variance-found m d em ed = rw (em, ed, best-all (laneCost c l))
 
 -- ---- THE DIRECTIONS AND VARIANCES are the standard's
@@ -116,22 +117,22 @@ module _ (s : List ℤ) where
   lane-best : (l : ℕ) → l < 8 → best (laneCost (costsOf s) l) ≡ best (cost (laneOf s l))
   lane-best l hl = best-same _ _ (λ d hd. lane-is l d hl hd)
 
-  direction-is : (l : ℕ) → l < 8 → foundAt (costsOf s) l ≡ direction (laneOf s l)
-  unfolding foundAt direction
+  direction-is : (l : ℕ) → l < 8 → laneDirection (costsOf s) l ≡ direction (laneOf s l)
+  unfolding laneDirection direction
   direction-is l hl = ap (λ (b : Best). b .yDir) (lane-best l hl)
 
-  variance-is : (l : ℕ) → l < 8 → varianceAt (costsOf s) l ≡ variance (laneOf s l)
-  unfolding varianceAt variance
+  variance-is : (l : ℕ) → l < 8 → laneVariance (costsOf s) l ≡ variance (laneOf s l)
+  unfolding laneVariance variance
   variance-is l hl = rw (lane-best l hl, lane-is l (((best (cost (laneOf s l))) .yDir + 4) % 8) hl (omega arith))
 
-  pub founds-are : foundsOf (costsOf s) ≡ found8Of s
-  unfolding foundsOf found8Of
+  pub founds-are : foundByCosts (costsOf s) ≡ foundBySamples s
+  unfolding foundByCosts foundBySamples
   founds-are =
-      let a : upto (foundAt (costsOf s)) 8 ≡ upto (λ l. direction (laneOf s l)) 8 = upto-ext _ _ 8 direction-is in
-      let b : upto (varianceAt (costsOf s)) 8 ≡ upto (λ l. variance (laneOf s l)) 8 = upto-ext _ _ 8 variance-is in
+      let a : upto (laneDirection (costsOf s)) 8 ≡ upto (λ l. direction (laneOf s l)) 8 = upto-ext _ _ 8 direction-is in
+      let b : upto (laneVariance (costsOf s)) 8 ≡ upto (λ l. variance (laneOf s l)) 8 = upto-ext _ _ 8 variance-is in
       rw (a, b)
 
-  pub costs-held : Within s 128 → CostsHeld (costsOf s)
+  pub costs-held : Within s 128 → CostListFits (costsOf s)
   unfolding costsOf
   costs-held w = record { all = λ k. at k (decLt k 64) }
     where

@@ -1,10 +1,4 @@
--- The line sums of eight blocks in lanes, and their laws.
-pub mod Lines
-pub mod LinesLaws
-pub mod PartialLaws
--- The costs, and their laws.
-pub mod Costs
-pub mod CostsLaws
--- The best directions, and their laws.
+-- The best direction of each of eight blocks.
 pub mod Best
+-- Its laws: a lane's step, and that directions and variances are the standard's.
 pub mod BestLaws

@@ -3,7 +3,7 @@ ghost use mathlib.Core.Path.{_≡_};
 ghost use mathlib.Core.Bool.{cond};
 ghost use Prim.Native.Nat.{_+_, _≤_, _<_};
 ghost use lib.Dec.{ltb};
-ghost use Rattle.cdef_eight.specs.Best.{CostsHeld, bestsOf, foundsOf};
+ghost use Rattle.cdef_eight.specs.Best.{CostListFits, bestsOf, foundByCosts};
 use crate::Found8;
 
 // The best so far of each lane.
@@ -28,7 +28,7 @@ fn choose(t: bool, a: u32, b: u32) -> u32
 
 // One more direction.
 fn better(b: Best8, c: &[u32; 64], d: usize) -> Best8
-    requires { ⌜ (d < 8) × CostsHeld (now c) × (b ≡ bestsOf (now c) d) ⌝ }
+    requires { ⌜ (d < 8) × CostListFits (now c) × (b ≡ bestsOf (now c) d) ⌝ }
     ensures { λ r. ⌜ r ≡ bestsOf (now (c .entry)) (d + 1) ⌝ }
 {
     let from = b.directions;
@@ -47,7 +47,7 @@ fn better(b: Best8, c: &[u32; 64], d: usize) -> Best8
 
 // All eight directions.
 fn best(c: &[u32; 64]) -> Best8
-    requires { ⌜ CostsHeld (now c) ⌝ }
+    requires { ⌜ CostListFits (now c) ⌝ }
     ensures { λ r. ⌜ r ≡ bestsOf (now (c .entry)) 8 ⌝ }
 {
     let mut b = Best8 {
@@ -62,8 +62,8 @@ fn best(c: &[u32; 64]) -> Best8
 
 // The best directions, with their costs' excess over those of the directions four further, shifted right by 10.
 pub fn found(c: &[u32; 64]) -> Found8
-    requires { ⌜ CostsHeld (now c) ⌝ }
-    ensures { λ r. ⌜ r ≡ foundsOf (now (c .entry)) ⌝ }
+    requires { ⌜ CostListFits (now c) ⌝ }
+    ensures { λ r. ⌜ r ≡ foundByCosts (now (c .entry)) ⌝ }
 {
     let b = best(c);
     let from = b.directions;

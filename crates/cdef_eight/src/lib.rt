@@ -2,11 +2,9 @@
 ghost use mathlib.Core.Path.{_≡_};
 ghost use lib.ListN.{length};
 ghost use Rattle.cdef_sample.specs.Bounds.{Within};
-ghost use Rattle.cdef_eight.specs.Best.{found8Of};
+ghost use Rattle.cdef_eight.specs.Best.{foundBySamples};
 
 mod best; // best.rt: the best direction of each block
-mod costs; // costs.rt: the cost of each direction
-mod lines; // lines.rt: the line sums of eight blocks
 
 // The direction and the variance of each block.
 pub struct Found8 {
@@ -17,7 +15,7 @@ pub struct Found8 {
 // Of the eight blocks whose lanes are s.
 pub fn eight(s: &[i16; 512]) -> Found8
     requires { ⌜ (length (now s) ≡ 512) × Within (now s) 128 ⌝ }
-    ensures { λ r. ⌜ r ≡ found8Of (now (s .entry)) ⌝ }
+    ensures { λ r. ⌜ r ≡ foundBySamples (now (s .entry)) ⌝ }
 {
-    best::found(&costs::costs(s))
+    best::found(&cdef_lane_costs::costs(s))
 }

@@ -12,7 +12,7 @@ directionAt p depth cols b = blockDirection p depth (b / cols * 8) (b % cols * 8
 abbrev pub varianceAt : Plane → ℕ → ℕ → ℕ → ℕ
 varianceAt p depth cols b = blockVariance p depth (b / cols * 8) (b % cols * 8)
 
--- the samples s of a plane fit the depth, and the lists have an entry for each block
+-- sides up to 4096, depth 8 to 12, every sample below 2 ^ depth, one entry per block in each list
 pub record PassIn (s : List ℕ) (w h depth : ℕ) (dirs vars : List ℕ) : Type 0 where
   pub size : length s ≡ w * h
   pub dirs-size : length dirs ≡ h / 8 * (w / 8)

@@ -18,10 +18,10 @@ use Rattle.cdef_spec.specs.Questions.{sampleTaken, lookedAt, cutTaken}
 use Rattle.cdef_sample.specs.Upto.{upto, length-upto, getD-upto, upto-none, upto-more, upto-at, upto-all}
 use Rattle.cdef_lanes.specs.Lanes.{lanesOf}
 use Rattle.cdef_eight.specs.declared.Found8.{Found8}
-use Rattle.cdef_eight.specs.Lines.{laneOf}
-use Rattle.cdef_eight.specs.Costs.{written}
-use Rattle.cdef_eight.specs.CostsLaws.{written-upto}
-use Rattle.cdef_eight.specs.Best.{found8Of}
+use Rattle.cdef_lane_sums.specs.Lines.{laneOf}
+use Rattle.cdef_lane_costs.specs.Costs.{written}
+use Rattle.cdef_lane_costs.specs.CostsLaws.{written-upto}
+use Rattle.cdef_eight.specs.Best.{foundBySamples}
 use Rattle.cdef_pass.specs.Pass.{directionAt, varianceAt, PassIn, Filled}
 
 -- where every sample fits the depth, so do those of each block
@@ -97,7 +97,7 @@ module _ (p : Plane) (depth y x l : ℕ) (hl : l < 8) where
   lane-variance = variance-same _ _ lane-input
 
 -- of block bx + l of row by
-module _ (p : Plane) (depth cols by bx l : ℕ) (hl : l < 8) (hb : bx + l < cols) (z : List ℤ) (f : Found8) (ez : z ≡ lanesOf p depth (by * 8) (bx * 8)) (ef : f ≡ found8Of z) where
+module _ (p : Plane) (depth cols by bx l : ℕ) (hl : l < 8) (hb : bx + l < cols) (z : List ℤ) (f : Found8) (ez : z ≡ lanesOf p depth (by * 8) (bx * 8)) (ef : f ≡ foundBySamples z) where
   lane-place : (g : ℕ → ℕ → ℕ) → g (by * 8) (bx * 8 + l * 8) ≡ g ((by * cols + bx + l) / cols * 8) ((by * cols + bx + l) % cols * 8)
   lane-place g =
       let a : bx * 8 + l * 8 ≡ (bx + l) * 8 = omega arith in
@@ -105,17 +105,17 @@ module _ (p : Plane) (depth cols by bx l : ℕ) (hl : l < 8) (hb : bx + l < cols
       rw (a, b) (at-block g cols by (bx + l) hb)
 
   found-direction : getD (f .directions) l 0 ≡ directionAt p depth cols (by * cols + bx + l)
-  unfolding found8Of
+  unfolding foundBySamples
   found-direction = rw (ef, ez) (getD-upto _ 8 l 0 hl ∙ lane-direction p depth (by * 8) (bx * 8) l hl ∙ lane-place (blockDirection p depth))
 
   found-variance : getD (f .variances) l 0 ≡ varianceAt p depth cols (by * cols + bx + l)
-  unfolding found8Of
+  unfolding foundBySamples
   found-variance = rw (ef, ez) (getD-upto _ 8 l 0 hl ∙ lane-variance p depth (by * 8) (bx * 8) l hl ∙ lane-place (blockVariance p depth))
 
 -- by eight blocks
 module _ (s : List ℕ) (w h depth by bx : ℕ) (dirs vars : List ℕ) (t : Filled s w h depth (by * (w / 8) + bx) dirs vars) where
   pub filled-eight : (z : List ℤ) (f : Found8) (ds vs : List ℕ) → bx + 8 ≤ w / 8 → by * (w / 8) + bx + 8 ≤ length dirs
-      → by * (w / 8) + bx + 8 ≤ length vars → z ≡ lanesOf (sized s w h) depth (by * 8) (bx * 8) → f ≡ found8Of z
+      → by * (w / 8) + bx + 8 ≤ length vars → z ≡ lanesOf (sized s w h) depth (by * 8) (bx * 8) → f ≡ foundBySamples z
       → ds ≡ written dirs (by * (w / 8) + bx) (f .directions) 8 → vs ≡ written vars (by * (w / 8) + bx) (f .variances) 8
       → Filled s w h depth (by * (w / 8) + (bx + 8)) ds vs
   filled-eight z f ds vs hb hd hv ez ef ed ev = record {

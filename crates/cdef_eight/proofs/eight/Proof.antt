@@ -1,6 +1,6 @@
 -- `cdef_eight::eight` meets its contract.
 use mathlib.Core.Path.{ap, _∙_}
-use Rattle.cdef_eight.specs.Best.{foundsOf}
+use Rattle.cdef_eight.specs.Best.{foundByCosts}
 use Rattle.cdef_eight.specs.BestLaws.{founds-are, costs-held}
 use Rattle.cdef_eight.proofs.eight.Statement.{statement}
 use Rattle.cdef_eight.proofs.eight.Tie as tie
@@ -12,7 +12,7 @@ found-requires : tie.Need-found-requires
 found-requires c κs = rw (c .before .costs .ensures) (costs-held _ (c .before .before .pre .1))
 
 returns : tie.Need-returns
-returns c = c .found .ensures ∙ ap foundsOf (c .before .before .costs .ensures) ∙ founds-are _
+returns c = c .found .ensures ∙ ap foundByCosts (c .before .before .costs .ensures) ∙ founds-are _
 
 pub eight-spec : {M : Type 1} → statement M
 eight-spec = tie.close (tie.spec costs-requires found-requires returns)

@@ -7,8 +7,8 @@ use lib.Arith.{digits-lt}
 use lib.ListN.{length}
 use Rattle.cdef_lanes.specs.Lanes.{EightIn}
 use Rattle.cdef_lanes.specs.LanesLaws.{lanes-within, length-lanes}
-use Rattle.cdef_eight.specs.Costs.{written}
-use Rattle.cdef_eight.specs.CostsLaws.{written-none, written-more, length-written}
+use Rattle.cdef_lane_costs.specs.Costs.{written}
+use Rattle.cdef_lane_costs.specs.CostsLaws.{written-none, written-more, length-written}
 use Rattle.cdef_pass.specs.PassLaws.{filled-eight}
 use Rattle.cdef_pass.proofs.eight_blocks.Statement.{statement}
 use Rattle.cdef_pass.proofs.eight_blocks.Tie as tie

@@ -5,7 +5,8 @@ use Prim.Native.Nat.{ℕ, _+_, _-_, _≤_, _<_}
 use native.Mathlib.Decide.{ℕ-discrete}
 use native.Mathlib.Omega.{arith}
 use lib.ListN.{getD}
-use Rattle.cdef_direction.specs.CostsLaws.{bestTo, best-none, best-new, best-old, found-is}
+use Rattle.cdef_direction.specs.Costs.{bestTo}
+use Rattle.cdef_direction.specs.CostsLaws.{best-none, best-new, best-old, found-is}
 use Rattle.cdef_direction.proofs.costs.best.Statement.{statement}
 use Rattle.cdef_direction.proofs.costs.best.Tie as tie
 

@@ -7,9 +7,9 @@ use native.Mathlib.Omega.{arith}
 use lib.Dec.{ltb}
 use lib.ListN.{getD, length, take, length-set}
 use Rattle.cdef_sample.specs.Upto.{upto, upto-none, upto-more, upto-all}
-use Rattle.cdef_direction.specs.CostsLaws.{bestTo}
+use Rattle.cdef_direction.specs.Costs.{bestTo}
 use Rattle.cdef_eight.specs.declared.best.Best8.{Best8}
-use Rattle.cdef_eight.specs.Best.{CostsHeld, laneCost, bestsOf}
+use Rattle.cdef_eight.specs.Best.{CostListFits, laneCost, bestsOf}
 use Rattle.cdef_eight.specs.BestLaws.{dir-more, most-more, dir-at, most-at, lane-held}
 use borrow.Author.Needs.{needs}
 use Rattle.cdef_eight.proofs.best.better.Statement.{statement}
@@ -23,7 +23,7 @@ abbrev μ-loop : tie.MeasureT-loop
 
 -- a lane's step, from what the calls return
 module _ (c : List ℕ) (d l : ℕ) (b : Best8) (e : b ≡ bestsOf c d) (hl : l < 8) where
-  held : CostsHeld c → getD (b .most) l 0 ≤ 880803840
+  held : CostListFits c → getD (b .most) l 0 ≤ 880803840
   held h = rw (e, most-at c d l hl) (lane-held c l d h)
 
   module _ (u : Bool) (eu : u ≡ ltb (getD (b .most) l 0) (getD c (d * 8 + l) 0)) where

@@ -5,14 +5,14 @@ use Prim.Native.Nat.{ℕ, _-_, _≤_, _<_}
 use native.Mathlib.Omega.{arith}
 use lib.ListN.{getD, length, take, length-set}
 use Rattle.cdef_sample.specs.Upto.{upto, upto-none, upto-more, upto-all}
-use Rattle.cdef_direction.specs.CostsLaws.{bestTo}
-use Rattle.cdef_eight.specs.Best.{laneCost, foundAt, varianceAt, foundsOf}
+use Rattle.cdef_direction.specs.Costs.{bestTo}
+use Rattle.cdef_eight.specs.Best.{laneCost, laneDirection, laneVariance, foundByCosts}
 use Rattle.cdef_eight.specs.BestLaws.{dir-at, most-at, dir-8, across-low, dir-found, variance-found}
 use Rattle.cdef_eight.proofs.best.found.Statement.{statement}
 use Rattle.cdef_eight.proofs.best.found.Tie as tie
 
 abbrev Inv-loop : tie.InvT-loop
-Inv-loop c from top directions₀ variances₀ l₀ directions variances l = (take l directions ≡ upto (foundAt c) l) × (take l variances ≡ upto (varianceAt c) l) × (length directions ≡ 8) × (length variances ≡ 8) × (l ≤ 8)
+Inv-loop c from top directions₀ variances₀ l₀ directions variances l = (take l directions ≡ upto (laneDirection c) l) × (take l variances ≡ upto (laneVariance c) l) × (length directions ≡ 8) × (length variances ≡ 8) × (l ≤ 8)
 
 abbrev μ-loop : tie.MeasureT-loop
 μ-loop c from top directions₀ variances₀ l₀ directions variances l = 8 - l
@@ -29,8 +29,8 @@ most c = rw (c .before .before .before .before .best .ensures) (most-at _ 8 _ (c
 low : (c : tie.In-loop Inv-loop μ-loop) → getD ((c .before .before .before .before .best .result) .directions) (c .before .loop .l) 0 < 8
 low c = rw (dir c) (dir-8 _ _)
 
-both : (c x y : List ℕ) → x ≡ upto (foundAt c) 8 → y ≡ upto (varianceAt c) 8 → record { directions = x; variances = y } ≡ foundsOf c
-unfolding foundsOf
+both : (c x y : List ℕ) → x ≡ upto (laneDirection c) 8 → y ≡ upto (laneVariance c) 8 → record { directions = x; variances = y } ≡ foundByCosts c
+unfolding foundByCosts
 both c x y ex ey = rw (ex, ey)
 
 best-requires : tie.Need-best-requires Inv-loop μ-loop

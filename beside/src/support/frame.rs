@@ -32,6 +32,12 @@ impl Size {
         self.width / 8 * (self.height / 8)
     }
 
+    /// The unit of a block.
+    pub fn unit_of(&self, block: usize) -> usize {
+        let blocks = self.width / 8;
+        block / blocks / 8 * self.width.div_ceil(64) + block % blocks / 8
+    }
+
     /// Units of 64 by 64, partial ones too.
     pub fn units(&self) -> usize {
         self.width.div_ceil(64) * self.height.div_ceil(64)

@@ -7,11 +7,26 @@ use support::frame::stated::FrameCase;
 use support::planes::SIDE_MAX;
 use support::report::Tally;
 
+/// Along each side a block is at an edge, next to such a one, or away from both edges.
+const PLACES: usize = 5 * 5;
+
+/// In a picture of five blocks or more each way.
+fn place(size: &Size, block: usize) -> usize {
+    let along = |n: usize, count: usize| match (n, count - 1 - n) {
+        (0 | 1, _) => n,
+        (_, left @ (0 | 1)) => 4 - left,
+        _ => 2,
+    };
+    let (columns, rows) = (size.width / 8, size.height / 8);
+    5 * along(block / columns, rows) + along(block % columns, columns)
+}
+
 pub struct PictureSeen {
     depths: Seen,
     pairs: Seen,
     dampings: Seen,
     sides: Seen,
+    places: Seen,
     /// Pairs and dampings, of the calls that take them.
     taken: [bool; 2],
     pictures: usize,
@@ -26,6 +41,10 @@ impl PictureSeen {
             pairs: Seen::new("pairs at each depth of each layout", 5 * kinds * PAIRS),
             dampings: Seen::new("dampings given, and none", 5),
             sides: Seen::new("sides of 4,096", 2),
+            places: Seen::new(
+                "places of filtered blocks at each depth of each layout",
+                5 * kinds * PLACES,
+            ),
             taken: [false; 2],
             pictures: 0,
             cut: 0,
@@ -57,6 +76,11 @@ impl PictureSeen {
                 _ => 4,
             });
         }
+        if width.min(height) >= 40 {
+            for block in (0..c.size().blocks()).filter(|&block| c.filters(block)) {
+                self.places.see(of_depth * PLACES + place(&c.size(), block));
+            }
+        }
         if width == SIDE_MAX {
             self.sides.see(0);
         }
@@ -73,10 +97,12 @@ impl PictureSeen {
     pub fn check(&self, tally: &mut Tally) {
         self.depths.check(tally);
         self.sides.check(tally);
-        for (seen, taken) in [&self.pairs, &self.dampings].into_iter().zip(self.taken) {
-            if taken {
-                seen.check(tally);
-            }
+        if self.taken[0] {
+            self.pairs.check(tally);
+            self.places.check(tally);
+        }
+        if self.taken[1] {
+            self.dampings.check(tally);
         }
         let quarter = 4 * self.cut >= self.pictures;
         tally.number("a quarter with partial units", i64::from(quarter), 1);

@@ -105,6 +105,11 @@ impl FrameCase for Applying {
         both.map(|(&p, &s)| (p, s)).collect()
     }
 
+    fn filters(&self, block: usize) -> bool {
+        let unit = self.picture.size.unit_of(block);
+        self.picture.skip[block] == 0 && (self.primaries[unit], self.secondaries[unit]) != (0, 0)
+    }
+
     fn by_other_map(&self, due: &Vec<u16>) -> Amount {
         let other = map::with_other(self.frame()).map(|frame| self.applied(&frame));
         Amount {

@@ -34,6 +34,13 @@ impl Compared {
         }
     }
 
+    /// Whether a block counts: it is not skipped, and a part of it is visible.
+    pub(crate) fn counts(&self, block: usize) -> bool {
+        let blocks = self.picture.size.width / 8;
+        let (x, y) = (block % blocks * 8, block / blocks * 8);
+        self.picture.skip[block] == 0 && x < self.visible_width && y < self.visible_height
+    }
+
     /// A luma picture of depth 12, whose blocks show how the steps of the weighted
     /// distance are rounded.
     pub(crate) fn built(number: usize, r: &mut Random) -> Self {

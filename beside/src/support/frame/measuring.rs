@@ -93,6 +93,10 @@ impl FrameCase for Measuring {
         vec![(self.primary, self.secondary)]
     }
 
+    fn filters(&self, block: usize) -> bool {
+        (self.primary, self.secondary) != (0, 0) && self.compared.counts(block)
+    }
+
     fn breaks(kind: Kind) -> Vec<Break<Self>> {
         type C = Measuring;
         let mut list = of_parts(Compared::breaks(kind), |c: &mut C| &mut c.compared);

@@ -32,6 +32,12 @@ pub trait FrameCase: Case + Clone + PartialEq + 'static {
         Vec::new()
     }
 
+    /// Whether a block is filtered, in the calls that take pairs: it is not skipped, and its
+    /// pair is not 0, 0.
+    fn filters(&self, _block: usize) -> bool {
+        false
+    }
+
     /// How much of the reference's answer to an accepted case is another one by the other
     /// chroma direction map: the standard's, or the reference's own.
     fn by_other_map(&self, _due: &Self::Value) -> Amount {

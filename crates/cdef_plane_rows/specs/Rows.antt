@@ -1,4 +1,4 @@
--- Rows of a block, their taps straight from a plane without marks. Definitions only.
+-- Rows of a block, and 4 by 4 squares of it in sixteen lanes, their taps straight from a plane without marks. Definitions only.
 use mathlib.Core.Path.{_≡_}
 use mathlib.Core.List.{List}
 use Prim.Native.Nat.{ℕ, zero, suc, _+_, _-_, _*_, _/_, _%_, _^_, _≤_, _<_}
@@ -35,7 +35,7 @@ pub record Reached6 (len k : ℕ) (t : Taps) : Type 0 where
   pub r0 : Reached len k (t .r0)
   pub r1 : Reached len k (t .r1)
 
--- n samples from k on, in a list that has m more on each side; o leads at most m away
+-- n samples from k on, in a list that has m more on each side, at most 4096 by 4096 in all; o leads at most m away
 pub record Along (len k n o : ℕ) : Type 0 where
   pub m : ℕ
   pub low : m ≤ k
@@ -53,7 +53,7 @@ pub record Around (len k n : ℕ) (t : Taps) : Type 0 where
 
 -- ---- strengths as they are passed
 
--- in range; the near weight of the primary taps is 3 or 4
+-- strengths of at most 240, shifts of at most 15 (a larger one gives 0 like 15); the primary taps are weighted near and 6 - near
 pub record Strong (s sh near s2 sh2 : ℕ) : Type 0 where
   pub pri : s ≤ 240
   pub pri-shift : sh ≤ 15
@@ -70,7 +70,7 @@ secIn s sh = record { s = s; sh = sh; w0 = 2; w1 = 1 }
 
 -- ---- four rows of four samples
 
--- the index of sample j, from k on, in a plane w wide
+-- the index of sample j (row j / 4, column j % 4) of the square whose first sample is at k, in a plane w wide
 unfoldable pub fourAt : ℕ → ℕ → ℕ → ℕ
 fourAt w k j = k + (j / 4 * w + j % 4)
 
@@ -84,7 +84,7 @@ onRun l w k o = upto (λ j. getD l (onFrom (fourAt w k j) o) 0) 16
 unfoldable pub backRun : List ℕ → ℕ → ℕ → ℕ → List ℕ
 backRun l w k o = upto (λ j. getD l (backFrom (fourAt w k j) o) 0) 16
 
--- entry n of each
+-- the two taps in lane n
 unfoldable pub pairIn : List ℕ → List ℕ → ℕ → Pair
 pairIn on back n = record { on = getD on n 0; back = getD back n 0 }
 
@@ -102,24 +102,25 @@ firstLanes c a0 b0 a1 b1 f = record {
 unfoldable pub firstRun : List ℕ → ℕ → ℕ → Taps → Strength → Parts
 firstRun l w k t f = firstLanes (centreRun l w k) (onRun l w k (t .p0)) (backRun l w k (t .p0)) (onRun l w k (t .p1)) (backRun l w k (t .p1)) f
 
--- with the primary strength alone, with the secondary one alone, and with both, from the first parts
+-- filtered with the primary strength alone, and with the secondary one alone: taps a, their opposites b
 unfoldable pub priLanes : List ℕ → List ℕ → List ℕ → List ℕ → List ℕ → Strength → List ℕ
 priLanes c a0 b0 a1 b1 f = upto (λ n. freeOf (getD c n 0) (priPlain (pairIn a0 b0 n) (pairIn a1 b1 n) (getD c n 0) f)) 16
 
 unfoldable pub secLanes : List ℕ → List ℕ → List ℕ → List ℕ → List ℕ → List ℕ → List ℕ → List ℕ → List ℕ → Strength → List ℕ
 secLanes c a0 b0 a1 b1 a2 b2 a3 b3 f = upto (λ n. freeOf (getD c n 0) (secPlain (pairIn a0 b0 n) (pairIn a1 b1 n) (pairIn a2 b2 n) (pairIn a3 b3 n) (getD c n 0) f)) 16
 
--- entry n of each
+-- the part in lane n
 unfoldable pub partIn : Parts → ℕ → Part
 partIn m n = record { sum = getD (m .sum) n (pos 0); lo = getD (m .lo) n 0; hi = getD (m .hi) n 0 }
 
 pub record BoundedAll (m : Parts) : Type 0 where
   pub all : (n : ℕ) → Bounded (partIn m n)
 
+-- filtered with both strengths, from the primary parts m
 unfoldable pub lastLanes : Parts → List ℕ → List ℕ → List ℕ → List ℕ → List ℕ → List ℕ → List ℕ → List ℕ → List ℕ → Strength → List ℕ
 lastLanes m c a0 b0 a1 b1 a2 b2 a3 b3 g = upto (λ n. lastOf (partIn m n) (pairIn a0 b0 n) (pairIn a1 b1 n) (pairIn a2 b2 n) (pairIn a3 b3 n) (getD c n 0) g) 16
 
--- none of four lists of taps is marked
+-- four lists of taps of at most 12 bits, so that none is marked
 pub record LowPairs (a0 b0 a1 b1 : List ℕ) : Type 0 where
   pub on0 : AllLow a0
   pub back0 : AllLow b0
@@ -142,6 +143,6 @@ placedRows d w to v (suc n) = placed (placedRows d w to v n) (to + n * w) v (n *
 unfoldable pub insideTap : List ℕ → ℕ → ℕ → Taps → Strength → Strength → ℕ → ℕ → ℕ → ℕ → Tap
 insideTap l w at t f g y x r c = unmarked (kernelAt l (at + ((r - y) * w + (c - x))) t f g)
 
--- n rows of `cols` samples, stored from index `to` on; d is the destination before, and last after
+-- the destination d has become `last`: n rows of `cols` filtered samples, from index `to` on, whatever row y and column x that is
 pub record Stored (l d last : List ℕ) (w at to : ℕ) (t : Taps) (f g : Strength) (cols n : ℕ) : Type 0 where
   pub block : (y x : ℕ) → to ≡ y * w + x → last ≡ putBlock d w (insideTap l w at t f g y x) y x cols n

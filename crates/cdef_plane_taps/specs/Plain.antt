@@ -15,7 +15,7 @@ use Rattle.cdef_plane_taps.specs.declared.plain.Part.{Part}
 unfoldable pub heldOf : ℤ → ℕ → ℤ
 heldOf z l = let v = underOf z l in cond (ltZ v (negℤ (pos l))) (negℤ (pos l)) v
 
--- both samples below the mark
+-- both samples below the mark, 16384
 pub record Low (p : Pair) : Type 0 where
   pub on : p .on < 16384
   pub back : p .back < 16384
@@ -56,7 +56,7 @@ lastOf m q0 q1 r0 r1 c g =
     (min (m .lo) (min (lowTwo q0 q1) (lowTwo r0 r1)))
     (max (m .hi) (max (highTwo q0 q1) (highTwo r0 r1)))
 
--- what the first part of a sample is bounded by
+-- the sum at most 16 * 240 either way (the four primary weights add up to 12), least and greatest below the mark
 pub record Bounded (m : Part) : Type 0 where
   pub sum : natAbs (m .sum) ≤ 3840
   pub lo : m .lo < 16384

@@ -11,7 +11,7 @@ use lib.ListN.{getD}
 use Rattle.cdef_spec.specs.CodeForm.{rows, cols, rowOf, colOf}
 use Rattle.cdef_spec.specs.PlaceLaws.{steps-low}
 use Rattle.cdef_rows.specs.Place.{onFrom, backFrom}
-use Rattle.cdef_plane_taps.specs.Steps.{stepOf, stepIn, tapsIn, Reach, Reach6}
+use Rattle.cdef_plane_taps.specs.Steps.{wrappedStep, stepIn, tapsIn, Reach, Reach6}
 
 -- ---- an offset of at most m
 
@@ -40,8 +40,8 @@ module _ (m k o : ℕ) (lo : m ≤ k) (hi : k + m < 2 ^ 63) (n : Reach m o) wher
 
 -- ---- the steps are near: at most two rows and two columns
 
-step-near : (w r2 c2 : ℕ) → w ≤ 4096 → r2 ≤ 4 → c2 ≤ 4 → Reach (2 * w + 2) (stepOf w r2 c2)
-unfolding stepOf
+step-near : (w r2 c2 : ℕ) → w ≤ 4096 → r2 ≤ 4 → c2 ≤ 4 → Reach (2 * w + 2) (wrappedStep w r2 c2)
+unfolding wrappedStep
 step-near w r2 c2 hw hr hc =
     let b : r2 * w ≤ 4 * w = mul-le-mul-right w hr in
     record { reach = go (r2 * w) b (decLe (2 * w + 2) (r2 * w + c2)) }
@@ -106,8 +106,8 @@ module _ (A B K w x c2 : ℕ) (e : A + B ≡ K + 2 * w) (ha : A ≤ 2 ^ 24) (hb 
           rw (step-down (omega arith), q) (mod-eq-of-lt (omega arith))
 
 module _ (w y x r2 c2 : ℕ) (hw : w ≤ 4096) (hy : 2 ≤ y) (hh : y ≤ 4096) (hx : 2 ≤ x) (hv : x ≤ 4096) (hr : r2 ≤ 4) (hc : c2 ≤ 4) where
-  led : (onFrom (y * w + x) (stepOf w r2 c2) ≡ (y + r2 - 2) * w + (x + c2 - 2)) × (backFrom (y * w + x) (stepOf w r2 c2) ≡ y * w + y * w - (y + r2 - 2) * w + (x + (4 - c2) - 2))
-  unfolding onFrom backFrom stepOf step
+  led : (onFrom (y * w + x) (wrappedStep w r2 c2) ≡ (y + r2 - 2) * w + (x + c2 - 2)) × (backFrom (y * w + x) (wrappedStep w r2 c2) ≡ y * w + y * w - (y + r2 - 2) * w + (x + (4 - c2) - 2))
+  unfolding onFrom backFrom wrappedStep step
   led =
       let a : y * w ≤ 4096 * w = mul-le-mul-right w hh in
       let b : r2 * w ≤ 4 * w = mul-le-mul-right w hr in
@@ -118,10 +118,10 @@ module _ (w y x r2 c2 : ℕ) (hw : w ≤ 4096) (hy : 2 ≤ y) (hh : y ≤ 4096) 
       let j : y * w ≤ 2 ^ 24 = omega arith in
       (lands-on (y * w) (r2 * w) ((y + r2 - 2) * w) w x c2 i j b d hw hx hv hc, lands-back (y * w) (r2 * w) ((y + r2 - 2) * w) w x c2 i j b d hw hx hv hc)
 
-  pub on-lands : onFrom (y * w + x) (stepOf w r2 c2) ≡ (y + r2 - 2) * w + (x + c2 - 2)
+  pub on-lands : onFrom (y * w + x) (wrappedStep w r2 c2) ≡ (y + r2 - 2) * w + (x + c2 - 2)
   on-lands = led .0
 
-  pub back-lands : backFrom (y * w + x) (stepOf w r2 c2) ≡ (y + (4 - r2) - 2) * w + (x + (4 - c2) - 2)
+  pub back-lands : backFrom (y * w + x) (wrappedStep w r2 c2) ≡ (y + (4 - r2) - 2) * w + (x + (4 - c2) - 2)
   back-lands =
       let e : y + y ≡ (y + r2 - 2) + (y + (4 - r2) - 2) = omega arith in
       let p : (y + y) * w ≡ ((y + r2 - 2) + (y + (4 - r2) - 2)) * w = ap (λ (n : ℕ). n * w) e in
@@ -131,7 +131,7 @@ module _ (w y x r2 c2 : ℕ) (hw : w ≤ 4096) (hy : 2 ≤ y) (hh : y ≤ 4096) 
 
 module _ (w r : ℕ) (hw : w ≤ 4096) (hr : r < 2 ^ 64) where
   pub near-is : (dir : ℕ) → dir < 8 → (r + w) % 2 ^ 64 ≡ (cond (leb 1 dir) 1 0 + cond (leb 4 dir) 1 0) * w + cond (leb dir 4) 1 0 → r ≡ stepIn w dir 0
-  unfolding stepIn stepOf rows cols
+  unfolding stepIn wrappedStep rows cols
   near-is zero h e = omega arith
   near-is (suc zero) h e = omega arith
   near-is (suc (suc zero)) h e = omega arith
@@ -143,7 +143,7 @@ module _ (w r : ℕ) (hw : w ≤ 4096) (hr : r < 2 ^ 64) where
   near-is (suc (suc (suc (suc (suc (suc (suc (suc d)))))))) h e = absurd (omega arith)
 
   pub far-is : (dir row : ℕ) → dir < 8 → row ≡ min dir 4 → (r + (2 * w + 2)) % 2 ^ 64 ≡ row * w + (4 + row - dir) → r ≡ stepIn w dir 1
-  unfolding stepIn stepOf rows cols
+  unfolding stepIn wrappedStep rows cols
   far-is zero row h p e = let g = rw p at e in omega arith
   far-is (suc zero) row h p e = let g = rw p at e in omega arith
   far-is (suc (suc zero)) row h p e = let g = rw p at e in omega arith

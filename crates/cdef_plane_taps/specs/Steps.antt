@@ -4,15 +4,15 @@ use Prim.Native.Nat.{ℕ, _+_, _-_, _*_, _%_, _^_, _≤_, _<_}
 use Rattle.cdef_spec.specs.CodeForm.{rowOf, colOf}
 use Rattle.cdef_rows.specs.declared.Taps.{Taps}
 
--- a step of r2 - 2 rows and c2 - 2 columns in a plane w wide, as a wrapped number
-unfoldable pub stepOf : ℕ → ℕ → ℕ → ℕ
-stepOf w r2 c2 = (r2 * w + c2 + (2 ^ 64 - (2 * w + 2))) % 2 ^ 64
+-- a step of r2 - 2 rows and c2 - 2 columns in a plane w wide, as a wrapped usize
+unfoldable pub wrappedStep : ℕ → ℕ → ℕ → ℕ
+wrappedStep w r2 c2 = (r2 * w + c2 + (2 ^ 64 - (2 * w + 2))) % 2 ^ 64
 
 -- the near (k = 0) and the far step of a direction
 unfoldable pub stepIn : ℕ → ℕ → ℕ → ℕ
-stepIn w dir k = stepOf w (rowOf dir k) (colOf dir k)
+stepIn w dir k = wrappedStep w (rowOf dir k) (colOf dir k)
 
--- of a direction, of the one 2 further and of the one 6 further
+-- of the primary direction (p), and of the secondary ones, 2 (q) and 6 (r) further
 unfoldable pub tapsIn : ℕ → ℕ → Taps
 tapsIn w dir = record {
   p0 = stepIn w dir 0;
@@ -23,7 +23,7 @@ tapsIn w dir = record {
   r1 = stepIn w ((dir + 6) % 8) 1;
 }
 
--- at most m forward or back, as a wrapped number
+-- at most m forward or back, as a wrapped usize
 pub record Reach (m o : ℕ) : Type 0 where
   pub reach : (o ≤ m) ⊎ ((2 ^ 64 - m ≤ o) × (o < 2 ^ 64))
 

@@ -3,7 +3,7 @@ use mathlib.Core.Path.{_≡_}
 use mathlib.Core.Bool.{Bool, _&&_}
 use mathlib.Core.Logic.{_⊎_}
 use mathlib.Core.List.{List}
-use Prim.Native.Nat.{ℕ, _+_, _-_, _≤_}
+use Prim.Native.Nat.{ℕ, _+_, _-_, _≤_, _<_}
 use lib.Dec.{leb}
 use Rattle.cdef_spec.specs.declared.Block.{Block}
 use Rattle.cdef_spec.specs.declared.WorkingDamping.{WorkingDamping}
@@ -33,6 +33,16 @@ pub record Inner (w h x y bw bh : ℕ) : Type 0 where
   pub top : 2 ≤ y
   pub right : x + bw + 2 ≤ w
   pub bottom : y + bh + 2 ≤ h
+
+-- depth 8, and both strengths and their shifts such that sums fit in bytes
+pub record Bytes (depth s sh s2 sh2 : ℕ) : Type 0 where
+  pub deep : depth ≡ 8
+  pub pri : s ≤ 15
+  pub some : 1 ≤ s
+  pub pri-shift : sh < 8
+  pub sec : s2 ≤ 4
+  pub some2 : 1 ≤ s2
+  pub sec-shift : sh2 < 8
 
 -- the filtered samples of cols by rows of a plane, from (y, x) on, stored in d, whose first row is the plane's row y0
 abbrev pub storedBlock : List ℕ → List ℕ → ℕ → ℕ → FilterParams → ℕ → ℕ → ℕ → ℕ → ℕ → List ℕ

@@ -1,3 +1,4 @@
 -- Blocks inside the plane, and their laws.
 pub mod Inside
 pub mod PlaneLaws
+pub mod RowLaws

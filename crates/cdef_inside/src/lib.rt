@@ -5,8 +5,9 @@ ghost use lib.ListN.{length};
 ghost use Rattle.cdef_window.specs.Spans.{InPlane};
 ghost use Rattle.cdef_filter.specs.Store.{Usable};
 ghost use Rattle.cdef_plane_taps.specs.Plain.{AllLow};
+ghost use Rattle.cdef_plane_bytes.specs.Eights.{AllByte};
 ghost use Rattle.cdef_inside.specs.Inside.{Sided, Inner, innerBlock, blockFrom, paramsFrom, storedBlock};
-use cdef_plane_rows::eights;
+mod rows; // rows.rt: rows of eight samples
 use cdef_plane_rows::fours;
 use cdef_spec::Block;
 use cdef_spec::FilterParams;
@@ -46,7 +47,7 @@ fn filter_inside(
     damping: u8,
     depth: u8,
 )
-    requires { ⌜ InPlane (now src) w h (blockFrom x y bw bh) × AllLow (now src) × Usable (paramsFrom pri sec dir damping depth) ⌝ }
+    requires { ⌜ InPlane (now src) w h (blockFrom x y bw bh) × AllLow (now src) × Usable (paramsFrom pri sec dir damping depth) × (depth ≡ 8 → AllByte (now src)) ⌝ }
     requires { ⌜ (y0 ≤ y) × ((y - y0 + bh) * w ≤ length (now dst)) × Sided bw × Sided bh × Inner w h x y bw bh ⌝ }
     ensures { λ _. ⌜ now (dst .exit) ≡ storedBlock (now (dst .entry)) (now (src .entry)) w h (paramsFrom pri sec dir damping depth) y0 y x bw bh ⌝ }
 {
@@ -58,10 +59,10 @@ fn filter_inside(
     let dir = dir as usize;
     if bw == 8 {
         if bh == 8 {
-            eights::rows(dst, to, src, w, at, 8, dir, f.s, f.sh, f.w0, g.s, g.sh);
+            rows::eight_wide(dst, to, src, w, at, 8, dir, depth, f.s, f.sh, f.w0, g.s, g.sh);
             return;
         }
-        eights::rows(dst, to, src, w, at, 4, dir, f.s, f.sh, f.w0, g.s, g.sh);
+        rows::eight_wide(dst, to, src, w, at, 4, dir, depth, f.s, f.sh, f.w0, g.s, g.sh);
         return;
     }
     fours::rows(dst, to, src, w, at, dir, f.s, f.sh, f.w0, g.s, g.sh);
@@ -100,7 +101,7 @@ pub fn filter_block(
     damping: u8,
     depth: u8,
 )
-    requires { ⌜ InPlane (now src) w h (blockFrom x y bw bh) × AllLow (now src) × Usable (paramsFrom pri sec dir damping depth) ⌝ }
+    requires { ⌜ InPlane (now src) w h (blockFrom x y bw bh) × AllLow (now src) × Usable (paramsFrom pri sec dir damping depth) × (depth ≡ 8 → AllByte (now src)) ⌝ }
     requires { ⌜ (y0 ≤ y) × ((y - y0 + min bh (h - y)) * w ≤ length (now dst)) × Sided bw × Sided bh ⌝ }
     ensures { λ _. ⌜ now (dst .exit) ≡ storedBlock (now (dst .entry)) (now (src .entry)) w h (paramsFrom pri sec dir damping depth) y0 y x (min bw (w - x)) (min bh (h - y)) ⌝ }
 {

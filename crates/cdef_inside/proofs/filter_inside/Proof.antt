@@ -18,11 +18,13 @@ use Rattle.cdef_plane_rows.specs.Rows.{Around, Strong, priIn, secIn}
 use Rattle.cdef_inside.specs.Inside.{blockFrom, paramsFrom}
 use Rattle.cdef_inside.specs.PlaneLaws.{block-two, stored, pri-passed, sec-passed, strong-passed, around-row, around-four, room}
 use borrow.Author.Needs.{needs}
+use mathlib.Core.Logic.{inl, inr}
+use Rattle.cdef_inside.specs.RowLaws.{near-least}
 use Rattle.cdef_inside.proofs.filter_inside.Statement.{statement}
 use Rattle.cdef_inside.proofs.filter_inside.Tie as tie
 use Rattle.cdef_inside.proofs.filter_inside.Reads as reads
 use Rattle.cdef_inside.proofs.filter_inside.Lts as lts
-use Rattle.cdef_plane_rows.proofs.eights.rows.Reads as eights-rows-reads
+use Rattle.cdef_inside.proofs.rows.eight_wide.Reads as eight-wide-reads
 use Rattle.cdef_plane_rows.proofs.fours.rows.Reads as fours-rows-reads
 use Rattle.cdef_kernel.proofs.from_one.Reads as from-one-reads
 use Rattle.cdef_kernel.proofs.primary.Reads as primary-reads
@@ -104,10 +106,10 @@ mul-to c = search needs
 add-to : tie.Need-add-to
 add-to c = search needs
 
-rows-requires : tie.Need-rows-requires
-rows-requires c κs = let s = c .before .before .before .before .before .before .before .before in
+eight-wide-requires : tie.Need-eight-wide-requires
+eight-wide-requires c κs = let s = c .before .before .before .before .before .before .before .before in
     let a = s .args in
-    ((s .pre .0 .1, s .pre .0 .0 .wide, omega arith, s .pre .0 .2 .dir, strong (c .before .before .before)), λ i h. (around-row (a .w) (a .h) (a .x) (a .y) (a .bw) (a .bh) _ (s .pre .0 .0 .full) (s .pre .0 .0 .wide) (s .pre .0 .0 .high) (s .pre .1 .4) (a .dir) i (s .pre .0 .2 .dir) (omega arith) (omega arith), room (a .w) (a .x) (a .y - a .y0) (a .bh) _ i 8 (s .pre .1 .1) (omega arith) (omega (arith, s .pre .1 .4 .right))))
+    ((s .pre .0 .1, s .pre .0 .0 .wide, record { side = inr refl }, s .pre .0 .2 .dir, strong (c .before .before .before), rw (c .before .before .before .before .primary .ensures) (near-least _ _ _), s .pre .0 .3), λ i h. (around-row (a .w) (a .h) (a .x) (a .y) (a .bw) (a .bh) _ (s .pre .0 .0 .full) (s .pre .0 .0 .wide) (s .pre .0 .0 .high) (s .pre .1 .4) (a .dir) i (s .pre .0 .2 .dir) (omega arith) (omega arith), room (a .w) (a .x) (a .y - a .y0) (a .bh) _ i 8 (s .pre .1 .1) (omega arith) (omega (arith, s .pre .1 .4 .right))))
 
 same-length : tie.Need-same-length
 same-length c = search needs
@@ -119,12 +121,12 @@ returns c = let s = c .before .before .before .before .before .before .before .b
     let n = s .pre .1 .4 in
     let k : a .bh ≡ 8 = omega arith in
     let v : a .bw ≡ 8 = omega arith in
-    rw (k, v) (stored (a .src .now) (a .w) (a .h) (blockFrom (a .x) (a .y) (a .bw) (a .bh)) (paramsFrom (a .pri) (a .sec) (a .dir) (a .damping) (a .depth)) (a .y0) (a .y) (i .wide) (i .high) (i .bw) (i .bh) (n .left) (n .top) (n .right) (n .bottom) (s .pre .1 .0) (omega arith) (s .pre .0 .2 .dir) (held s) _ _ _ _ 8 8 _ _ (omega arith) (omega arith) refl refl (pri-is (c .before .before .before .before .before .before)) (sec-is (c .before .before .before .before .before .before)) (c .before .before .rows .ensures .block))
+    rw (k, v) (stored (a .src .now) (a .w) (a .h) (blockFrom (a .x) (a .y) (a .bw) (a .bh)) (paramsFrom (a .pri) (a .sec) (a .dir) (a .damping) (a .depth)) (a .y0) (a .y) (i .wide) (i .high) (i .bw) (i .bh) (n .left) (n .top) (n .right) (n .bottom) (s .pre .1 .0) (omega arith) (s .pre .0 .2 .dir) (held s) _ _ _ _ 8 8 _ _ (omega arith) (omega arith) refl refl (pri-is (c .before .before .before .before .before .before)) (sec-is (c .before .before .before .before .before .before)) (c .before .before .eight-wide .ensures .block))
 
-rows-requires-2 : tie.Need-rows-requires-2
-rows-requires-2 c κs = let s = c .before .before .before .before .before .before .before .before in
+eight-wide-requires-2 : tie.Need-eight-wide-requires-2
+eight-wide-requires-2 c κs = let s = c .before .before .before .before .before .before .before .before in
     let a = s .args in
-    ((s .pre .0 .1, s .pre .0 .0 .wide, omega arith, s .pre .0 .2 .dir, strong (c .before .before .before)), λ i h. (around-row (a .w) (a .h) (a .x) (a .y) (a .bw) (a .bh) _ (s .pre .0 .0 .full) (s .pre .0 .0 .wide) (s .pre .0 .0 .high) (s .pre .1 .4) (a .dir) i (s .pre .0 .2 .dir) (omega (arith, four-high s)) (omega arith), room (a .w) (a .x) (a .y - a .y0) (a .bh) _ i 8 (s .pre .1 .1) (omega (arith, four-high s)) (omega (arith, s .pre .1 .4 .right))))
+    ((s .pre .0 .1, s .pre .0 .0 .wide, record { side = inl refl }, s .pre .0 .2 .dir, strong (c .before .before .before), rw (c .before .before .before .before .primary .ensures) (near-least _ _ _), s .pre .0 .3), λ i h. (around-row (a .w) (a .h) (a .x) (a .y) (a .bw) (a .bh) _ (s .pre .0 .0 .full) (s .pre .0 .0 .wide) (s .pre .0 .0 .high) (s .pre .1 .4) (a .dir) i (s .pre .0 .2 .dir) (omega (arith, four-high s)) (omega arith), room (a .w) (a .x) (a .y - a .y0) (a .bh) _ i 8 (s .pre .1 .1) (omega (arith, four-high s)) (omega (arith, s .pre .1 .4 .right))))
 
 same-length-2 : tie.Need-same-length-2
 same-length-2 c = search needs
@@ -136,10 +138,10 @@ returns-2 c = let s = c .before .before .before .before .before .before .before 
     let n = s .pre .1 .4 in
     let k : a .bh ≡ 4 = short s (λ e. omega arith) in
     let v : a .bw ≡ 8 = omega arith in
-    rw (k, v) (stored (a .src .now) (a .w) (a .h) (blockFrom (a .x) (a .y) (a .bw) (a .bh)) (paramsFrom (a .pri) (a .sec) (a .dir) (a .damping) (a .depth)) (a .y0) (a .y) (i .wide) (i .high) (i .bw) (i .bh) (n .left) (n .top) (n .right) (n .bottom) (s .pre .1 .0) (omega arith) (s .pre .0 .2 .dir) (held s) _ _ _ _ 8 4 _ _ (omega arith) (omega arith) refl refl (pri-is (c .before .before .before .before .before .before)) (sec-is (c .before .before .before .before .before .before)) (c .before .before .rows2 .ensures .block))
+    rw (k, v) (stored (a .src .now) (a .w) (a .h) (blockFrom (a .x) (a .y) (a .bw) (a .bh)) (paramsFrom (a .pri) (a .sec) (a .dir) (a .damping) (a .depth)) (a .y0) (a .y) (i .wide) (i .high) (i .bw) (i .bh) (n .left) (n .top) (n .right) (n .bottom) (s .pre .1 .0) (omega arith) (s .pre .0 .2 .dir) (held s) _ _ _ _ 8 4 _ _ (omega arith) (omega arith) refl refl (pri-is (c .before .before .before .before .before .before)) (sec-is (c .before .before .before .before .before .before)) (c .before .before .eight-wide2 .ensures .block))
 
-rows-requires-3 : tie.Need-rows-requires-3
-rows-requires-3 c κs = let s = c .before .before .before .before .before .before .before in
+rows-requires : tie.Need-rows-requires
+rows-requires c κs = let s = c .before .before .before .before .before .before .before in
     let a = s .args in
     let e : a .y * a .w + a .x + 0 * a .w ≡ a .y * a .w + a .x = omega arith in
     ((s .pre .0 .1, s .pre .0 .0 .wide, s .pre .0 .2 .dir, strong (c .before .before)), (rw e at (around-four (a .w) (a .h) (a .x) (a .y) (a .bw) (a .bh) _ (s .pre .0 .0 .full) (s .pre .0 .0 .wide) (s .pre .0 .0 .high) (s .pre .1 .4) (a .dir) 0 (s .pre .0 .2 .dir) (four-high s) (four-wide s)), omega (arith, room (a .w) (a .x) (a .y - a .y0) (a .bh) _ 3 4 (s .pre .1 .1) (omega (arith, four-high s)) (omega (arith, s .pre .1 .4 .right, four-wide s)))))
@@ -154,7 +156,7 @@ returns-3 c = let s = c .before .before .before .before .before .before .before 
     let n = s .pre .1 .4 in
     let k : a .bh ≡ 4 = omega arith in
     let v : a .bw ≡ 4 = narrow s (λ e. omega arith) in
-    rw (k, v) (stored (a .src .now) (a .w) (a .h) (blockFrom (a .x) (a .y) (a .bw) (a .bh)) (paramsFrom (a .pri) (a .sec) (a .dir) (a .damping) (a .depth)) (a .y0) (a .y) (i .wide) (i .high) (i .bw) (i .bh) (n .left) (n .top) (n .right) (n .bottom) (s .pre .1 .0) (omega arith) (s .pre .0 .2 .dir) (held s) _ _ _ _ 4 4 _ _ (omega arith) (omega arith) refl refl (pri-is (c .before .before .before .before .before .before)) (sec-is (c .before .before .before .before .before .before)) (c .before .before .before .rows3 .ensures .block))
+    rw (k, v) (stored (a .src .now) (a .w) (a .h) (blockFrom (a .x) (a .y) (a .bw) (a .bh)) (paramsFrom (a .pri) (a .sec) (a .dir) (a .damping) (a .depth)) (a .y0) (a .y) (i .wide) (i .high) (i .bw) (i .bh) (n .left) (n .top) (n .right) (n .bottom) (s .pre .1 .0) (omega arith) (s .pre .0 .2 .dir) (held s) _ _ _ _ 4 4 _ _ (omega arith) (omega arith) refl refl (pri-is (c .before .before .before .before .before .before)) (sec-is (c .before .before .before .before .before .before)) (c .before .before .before .rows .ensures .block))
 
 mul-rows : tie.Need-mul-rows
 mul-rows c = search needs
@@ -168,11 +170,11 @@ mul-rows-2 c = search needs
 add-rows-2 : tie.Need-add-rows-2
 add-rows-2 c = let s = c .before .before .before .before .before .before .before .before .before .before .before .before in omega (arith, first s, s .pre .0 .0 .wide)
 
-rows-requires-4 : tie.Need-rows-requires-4
-rows-requires-4 c κs = let s = c .before .before .before .before .before .before .before .before .before .before .before .before in
+rows-requires-2 : tie.Need-rows-requires-2
+rows-requires-2 c κs = let s = c .before .before .before .before .before .before .before .before .before .before .before .before in
     let a = s .args in
     let k : a .bh ≡ 8 = tall s (λ e. omega arith) in
-    ((s .pre .0 .1, s .pre .0 .0 .wide, s .pre .0 .2 .dir, strong (c .before .before .before .before .before .before .before)), (around-four (a .w) (a .h) (a .x) (a .y) (a .bw) (a .bh) _ (s .pre .0 .0 .full) (s .pre .0 .0 .wide) (s .pre .0 .0 .high) (s .pre .1 .4) (a .dir) 4 (s .pre .0 .2 .dir) (omega arith) (four-wide s), omega (arith, room (a .w) (a .x) (a .y - a .y0) (a .bh) _ 7 4 (s .pre .1 .1) (omega arith) (omega (arith, s .pre .1 .4 .right, four-wide s)), c .before .before .before .before .rows3 .kept .0)))
+    ((s .pre .0 .1, s .pre .0 .0 .wide, s .pre .0 .2 .dir, strong (c .before .before .before .before .before .before .before)), (around-four (a .w) (a .h) (a .x) (a .y) (a .bw) (a .bh) _ (s .pre .0 .0 .full) (s .pre .0 .0 .wide) (s .pre .0 .0 .high) (s .pre .1 .4) (a .dir) 4 (s .pre .0 .2 .dir) (omega arith) (four-wide s), omega (arith, room (a .w) (a .x) (a .y - a .y0) (a .bh) _ 7 4 (s .pre .1 .1) (omega arith) (omega (arith, s .pre .1 .4 .right, four-wide s)), c .before .before .before .before .rows .kept .0)))
 
 same-length-4 : tie.Need-same-length-4
 same-length-4 c = search needs
@@ -186,8 +188,8 @@ returns-4 c = let s = c .before .before .before .before .before .before .before 
     let v : a .bw ≡ 4 = narrow s (λ e. omega arith) in
     let l : a .y0 ≤ a .y = s .pre .1 .0 in
     let z : (a .y + 4 - a .y0) * a .w ≡ (a .y - a .y0) * a .w + 4 * a .w = two-parts (a .y) (a .y0) (a .w) l in
-    let p = stored (a .src .now) (a .w) (a .h) (blockFrom (a .x) (a .y) (a .bw) (a .bh)) (paramsFrom (a .pri) (a .sec) (a .dir) (a .damping) (a .depth)) (a .y0) (a .y) (i .wide) (i .high) (i .bw) (i .bh) (n .left) (n .top) (n .right) (n .bottom) l (omega arith) (s .pre .0 .2 .dir) (held s) _ _ _ _ 4 4 _ _ (omega arith) (omega arith) refl refl (pri-is (c .before .before .before .before .before .before .before .before .before .before)) (sec-is (c .before .before .before .before .before .before .before .before .before .before)) (c .before .before .before .before .before .before .before .rows3 .ensures .block) in
-    let q = stored (a .src .now) (a .w) (a .h) (blockFrom (a .x) (a .y) (a .bw) (a .bh)) (paramsFrom (a .pri) (a .sec) (a .dir) (a .damping) (a .depth)) (a .y0) (a .y + 4) (i .wide) (i .high) (i .bw) (i .bh) (n .left) (n .top) (n .right) (n .bottom) (omega arith) (omega arith) (s .pre .0 .2 .dir) (held s) _ _ _ _ 4 4 _ _ (omega arith) (omega arith) (omega arith) (omega arith) (pri-is (c .before .before .before .before .before .before .before .before .before .before)) (sec-is (c .before .before .before .before .before .before .before .before .before .before)) (c .before .before .rows4 .ensures .block) in
+    let p = stored (a .src .now) (a .w) (a .h) (blockFrom (a .x) (a .y) (a .bw) (a .bh)) (paramsFrom (a .pri) (a .sec) (a .dir) (a .damping) (a .depth)) (a .y0) (a .y) (i .wide) (i .high) (i .bw) (i .bh) (n .left) (n .top) (n .right) (n .bottom) l (omega arith) (s .pre .0 .2 .dir) (held s) _ _ _ _ 4 4 _ _ (omega arith) (omega arith) refl refl (pri-is (c .before .before .before .before .before .before .before .before .before .before)) (sec-is (c .before .before .before .before .before .before .before .before .before .before)) (c .before .before .before .before .before .before .before .rows .ensures .block) in
+    let q = stored (a .src .now) (a .w) (a .h) (blockFrom (a .x) (a .y) (a .bw) (a .bh)) (paramsFrom (a .pri) (a .sec) (a .dir) (a .damping) (a .depth)) (a .y0) (a .y + 4) (i .wide) (i .high) (i .bw) (i .bh) (n .left) (n .top) (n .right) (n .bottom) (omega arith) (omega arith) (s .pre .0 .2 .dir) (held s) _ _ _ _ 4 4 _ _ (omega arith) (omega arith) (omega arith) (omega arith) (pri-is (c .before .before .before .before .before .before .before .before .before .before)) (sec-is (c .before .before .before .before .before .before .before .before .before .before)) (c .before .before .rows2 .ensures .block) in
     rw (k, v) (two-halves _ _ _ _ _ _ _ _ p q (omega arith))
 
 pub filter-inside-spec : {M : Type 1} → statement M
@@ -204,19 +206,19 @@ filter-inside-spec =
     sub-to
     mul-to
     add-to
-    rows-requires
+    eight-wide-requires
     same-length
     returns
-    rows-requires-2
+    eight-wide-requires-2
     same-length-2
     returns-2
-    rows-requires-3
+    rows-requires
     same-length-3
     returns-3
     mul-rows
     add-rows
     mul-rows-2
     add-rows-2
-    rows-requires-4
+    rows-requires-2
     same-length-4
     returns-4)

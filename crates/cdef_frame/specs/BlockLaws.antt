@@ -83,5 +83,8 @@ module _ (f : Frame) (h : Shaped f) (l : List ℕ) (g : Sampled f l) where
   pub sample-low : (k : ℕ) → getD l k 0 < 4096
   sample-low k = omega (arith, g .low k, pow-mono {i = f .depth} {j = 12} (h .flat))
 
+  pub sample-byte : f .depth ≡ 8 → (k : ℕ) → getD l k 0 < 256
+  sample-byte e k = rw e at (g .low k)
+
   pub window-low : (w m : ℕ) (b : Block) → Held (upto (windowAt (planeOf l w m) b) 144)
   window-low w m b = window-held (planeOf l w m) (λ k. omega (arith, sample-low k)) b

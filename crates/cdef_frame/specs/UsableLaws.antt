@@ -1,4 +1,5 @@
 -- The filter accepts the parameters of every pair.
+use mathlib.Core.Path.{_≡_, refl}
 use mathlib.Core.Bool.{Bool, true, false, cond}
 use mathlib.Core.List.{List}
 use Prim.Native.Nat.{ℕ, _-_, _≤_, _<_}
@@ -7,6 +8,7 @@ use lib.Dec.{eqb}
 use lib.ListN.{getD}
 use Rattle.cdef_spec.specs.declared.SignalledDamping.{SignalledDamping}
 use Rattle.cdef_spec.specs.declared.UnitPair.{UnitPair}
+use Rattle.cdef_spec.specs.declared.FilterParams.{FilterParams}
 use Rattle.cdef_spec.specs.Words.{_<<_}
 use Rattle.cdef_spec.specs.ChromaLaws.{chroma-low}
 use Rattle.cdef_spec.specs.Standard.{chromaDirection}
@@ -38,3 +40,12 @@ usable (chroma sx sy) depth dirs d p b deep flat hp hs hd h = record {
   deep = deep;
   flat = flat;
 }
+
+-- a block's depth is the picture's
+depth-of : (k : PlaneKind) (depth : ℕ) (dirs : List ℕ) (d : SignalledDamping) (p : UnitPair) (b : ℕ) → (paramsFor k depth dirs d p b) .depth ≡ depth
+unfolding paramsFor lumaParams chromaParams
+depth-of (luma vars) depth dirs d p b = refl
+depth-of (chroma sx sy) depth dirs d p b = refl
+
+pub depth-kept : (k : PlaneKind) (depth : ℕ) (dirs : List ℕ) (d : SignalledDamping) (p : UnitPair) (b : ℕ) (q : FilterParams) → q ≡ paramsFor k depth dirs d p b → q .depth ≡ depth
+depth-kept k depth dirs d p b q e = rw e (depth-of k depth dirs d p b)

@@ -7,7 +7,9 @@ ghost use Rattle.cdef_filter.specs.Store.{Usable};
 ghost use Rattle.cdef_plane_taps.specs.Plain.{AllLow};
 ghost use Rattle.cdef_plane_bytes.specs.Eights.{AllByte};
 ghost use Rattle.cdef_inside.specs.Inside.{Sided, Inner, innerBlock, blockFrom, paramsFrom, storedBlock};
+
 mod rows; // rows.rt: rows of eight samples
+
 use cdef_plane_rows::fours;
 use cdef_spec::Block;
 use cdef_spec::FilterParams;
@@ -59,10 +61,38 @@ fn filter_inside(
     let dir = dir as usize;
     if bw == 8 {
         if bh == 8 {
-            rows::eight_wide(dst, to, src, w, at, 8, dir, depth, f.s, f.sh, f.w0, g.s, g.sh);
+            rows::eight_wide(
+                dst,
+                to,
+                src,
+                w,
+                at,
+                8,
+                dir,
+                depth,
+                f.s,
+                f.sh,
+                f.w0,
+                g.s,
+                g.sh,
+            );
             return;
         }
-        rows::eight_wide(dst, to, src, w, at, 4, dir, depth, f.s, f.sh, f.w0, g.s, g.sh);
+        rows::eight_wide(
+            dst,
+            to,
+            src,
+            w,
+            at,
+            4,
+            dir,
+            depth,
+            f.s,
+            f.sh,
+            f.w0,
+            g.s,
+            g.sh,
+        );
         return;
     }
     fours::rows(dst, to, src, w, at, dir, f.s, f.sh, f.w0, g.s, g.sh);

@@ -1,12 +1,13 @@
 -- `cdef_apply::filter_with` meets its contract.
 use Prim.Native.Nat.{_+_, _*_, _<_}
+use mathlib.Core.Path.{sym, _∙_}
 use native.Mathlib.Omega.{arith}
 use borrow.Author.Needs.{needs}
 use mathlib.Core.List.{[]}
 use Prim.Native.Nat.{_/_, _^_}
 use Rattle.cdef_frame.specs.Lent.{blocksOf}
-use Rattle.cdef_frame.specs.BlockLaws.{number-low, counts-low, block-sides, sample-low}
-use Rattle.cdef_frame.specs.UsableLaws.{usable}
+use Rattle.cdef_frame.specs.BlockLaws.{number-low, counts-low, block-sides, sample-low, sample-byte}
+use Rattle.cdef_frame.specs.UsableLaws.{usable, depth-kept}
 use Rattle.cdef_apply.specs.FilterLaws.{number-small, in-plane, room, filtered-is}
 use borrow.Author.Needs.{needs}
 use Rattle.cdef_apply.proofs.block.filter_with.Statement.{statement}
@@ -40,7 +41,7 @@ filter-block-requires : tie.Need-filter-block-requires
 filter-block-requires c κs = let s = c .before .before .before .before .before .before .before .before in let a = s .args in
     let e = c .before .before .before .block-of .ensures [] [] [] in
     let k = block-sides (a .f) (s .pre .0 .0) [] [] [] (a .by) (a .bx) _ e in
-    ((in-plane (a .f) (s .pre .0 .0) [] [] [] (a .by) (a .bx) (s .pre .1 .1 .2) (s .pre .1 .1 .3) (a .snapshot .now) (s .pre .1 .0 .0) _ _ _ e (s .pre .1 .1 .0) (s .pre .1 .1 .1), record { all = sample-low (a .f) (s .pre .0 .0) (a .snapshot .now) (s .pre .1 .0 .0) }, rw (c .before .params-for .ensures) (usable _ _ _ _ _ _ (s .pre .0 .0 .deep) (s .pre .0 .0 .flat) (s .pre .1 .0 .2) (s .pre .1 .0 .3) (s .pre .1 .0 .1) (s .pre .0 .3 _))), (omega arith, room (a .f) (s .pre .0 .0) [] [] [] (a .by) (a .bx) (s .pre .1 .1 .2) (s .pre .1 .1 .3) _ _ _ _ e (s .pre .1 .1 .0) (s .pre .1 .1 .1) (s .pre .1 .1 .4), record { side = k .0 }, record { side = k .1 }))
+    ((in-plane (a .f) (s .pre .0 .0) [] [] [] (a .by) (a .bx) (s .pre .1 .1 .2) (s .pre .1 .1 .3) (a .snapshot .now) (s .pre .1 .0 .0) _ _ _ e (s .pre .1 .1 .0) (s .pre .1 .1 .1), record { all = sample-low (a .f) (s .pre .0 .0) (a .snapshot .now) (s .pre .1 .0 .0) }, rw (c .before .params-for .ensures) (usable _ _ _ _ _ _ (s .pre .0 .0 .deep) (s .pre .0 .0 .flat) (s .pre .1 .0 .2) (s .pre .1 .0 .3) (s .pre .1 .0 .1) (s .pre .0 .3 _)), λ z. record { all = sample-byte (a .f) (s .pre .0 .0) (a .snapshot .now) (s .pre .1 .0 .0) (sym (depth-kept _ _ _ _ _ _ _ (c .before .params-for .ensures)) ∙ z) }), (omega arith, room (a .f) (s .pre .0 .0) [] [] [] (a .by) (a .bx) (s .pre .1 .1 .2) (s .pre .1 .1 .3) _ _ _ _ e (s .pre .1 .1 .0) (s .pre .1 .1 .1) (s .pre .1 .1 .4), record { side = k .0 }, record { side = k .1 }))
 
 same-length : tie.Need-same-length
 same-length c = search needs

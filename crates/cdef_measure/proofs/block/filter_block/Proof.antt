@@ -4,8 +4,8 @@ use native.Mathlib.Omega.{arith}
 use borrow.Author.Needs.{needs}
 use mathlib.Core.List.{[]}
 use Rattle.cdef_frame.specs.FrameLaws.{width-is}
-use Rattle.cdef_frame.specs.BlockLaws.{counts-low, number-low, block-sides, sample-low}
-use Rattle.cdef_frame.specs.UsableLaws.{usable}
+use Rattle.cdef_frame.specs.BlockLaws.{counts-low, number-low, block-sides, sample-low, sample-byte}
+use Rattle.cdef_frame.specs.UsableLaws.{usable, depth-kept}
 use Rattle.cdef_measure.specs.FilledLaws.{number-small, fits-plane, has-room, stored-is, filled}
 use borrow.Author.Needs.{needs}
 use Rattle.cdef_measure.proofs.block.filter_block.Statement.{statement}
@@ -48,6 +48,7 @@ filter-block-requires c κs = let s = c .before .before .before .before .before 
         fits-plane (a .f) (k .0) [] (a .dirs .now) (a .vars .now) (a .plane .now) (k .1) (a .d) (a .p) (a .by) (a .bx) (s .pre .1 .1) (s .pre .1 .2) _ _ _ ew em eb,
         record { all = sample-low (a .f) (k .0) (a .plane .now) (k .1) },
         rw (c .before .params-for .ensures) (usable _ _ _ _ _ _ (k .0 .deep) (k .0 .flat) (k .3) (k .4) (k .2) (l .dirs-low _)),
+        λ z. record { all = sample-byte (a .f) (k .0) (a .plane .now) (k .1) (sym (depth-kept _ _ _ _ _ _ _ (c .before .params-for .ensures)) ∙ z) },
       ),
       (omega arith, has-room (a .f) (k .0) [] (a .dirs .now) (a .vars .now) (a .plane .now) (k .1) (a .d) (a .p) (a .by) (a .bx) (s .pre .1 .1) (s .pre .1 .2) _ _ _ ew em eb _ (s .pre .1 .3), record { side = z .0 }, record { side = z .1 }),
     )

@@ -12,7 +12,7 @@ pub struct Best8 {
     pub most: [u32; 8],
 }
 
-// Whether a cost is less than another, by a signed test, which compilers have for vectors.
+// Whether a cost is less than another: a signed test, since SSE2 has no other for vectors.
 fn less(a: u32, b: u32) -> bool
     requires { ⌜ (a ≤ 880803840) × (b ≤ 880803840) ⌝ }
     ensures { λ r. ⌜ r ≡ ltb a b ⌝ }

@@ -1,4 +1,4 @@
-// The directions and variances of eight blocks side by side, whose samples are interleaved: in each group of eight lanes, lane l is of block l.
+// The directions and variances of eight blocks in lanes: in each group of eight entries, entry l is of block l.
 ghost use mathlib.Core.Path.{_≡_};
 ghost use lib.ListN.{length};
 ghost use Rattle.cdef_sample.specs.Bounds.{Within};
@@ -12,7 +12,7 @@ pub struct Found8 {
     pub variances: [u32; 8],
 }
 
-// Of the eight blocks whose lanes are s.
+// Of the eight blocks whose samples are s: sample (i, j) of block l at 64 i + 8 j + l, less 128.
 pub fn eight(s: &[i16; 512]) -> Found8
     requires { ⌜ (length (now s) ≡ 512) × Within (now s) 128 ⌝ }
     ensures { λ r. ⌜ r ≡ foundBySamples (now (s .entry)) ⌝ }

@@ -1,4 +1,4 @@
-// The cost of each direction of eight blocks, from their line sums.
+// The cost of each direction of eight blocks in lanes. Lines n and 14 - n have the same number of samples, in every direction: the eleven lines of an odd one stand at 2 to 12.
 ghost use mathlib.Core.Path.{_≡_};
 ghost use Prim.Native.Nat.{_+_, _*_, _/_, _≤_, _<_};
 ghost use lib.ListN.{length};
@@ -7,7 +7,7 @@ ghost use Rattle.cdef_sample.specs.Upto.{upto};
 ghost use Rattle.cdef_lane_costs.specs.Costs.{endsOf, squaresOf, straightOf, betweenOf, diagonalOf, weighedOf, LaneCostsFit, costOf, written, CostsTo, costsOf};
 use cdef_leaf::tables;
 
-// Lines n and 14 - n of each lane side by side, for n below 8, so that the compiler squares and adds them at once.
+// Lines n and 14 - n of each lane side by side, for n below 8, so that one instruction squares and adds both.
 fn ends(p: &[i16; 128]) -> [i16; 128]
     requires { ⌜ Within (now p) 2048 ⌝ }
     ensures { λ r. ⌜ r ≡ endsOf (now (p .entry)) ⌝ }
@@ -118,7 +118,7 @@ fn put(c: &mut [u32; 64], d: usize, q: &[u32; 8])
     }
 }
 
-// Directions 0 to 3.
+// Directions 0 to 3: 0 from the rows, the others from sums of neighbours in a row.
 fn first_costs(c: &mut [u32; 64], s: &[i16; 512])
     requires { ⌜ CostsTo (now s) (now c) 0 ⌝ }
     requires { ⌜ (length (now s) ≡ 512) × Within (now s) 128 ⌝ }
@@ -131,7 +131,7 @@ fn first_costs(c: &mut [u32; 64], s: &[i16; 512])
     put(c, 3, &cost(&cdef_lane_sums::lines(&h, 4, 2, 2), 1));
 }
 
-// Directions 4 to 7.
+// Directions 4 to 7: 4 from the rows, its lines in the opposite order, the others from sums of neighbours in a column.
 fn last_costs(c: &mut [u32; 64], s: &[i16; 512])
     requires { ⌜ CostsTo (now s) (now c) 32 ⌝ }
     requires { ⌜ (length (now s) ≡ 512) × Within (now s) 128 ⌝ }

@@ -1,11 +1,11 @@
-// Line sums of eight blocks: rows of eight groups of lanes are added up, each as many groups further on as its samples' lines are.
+// Line sums of eight blocks in lanes. A line sum is a group of lanes; the rows, of eight groups each, are added up, each from the line of its first sample on.
 ghost use mathlib.Core.Path.{_≡_};
 ghost use Prim.Native.Nat.{_+_, _-_, _*_, _≤_, _<_};
 ghost use lib.ListN.{length};
 ghost use Rattle.cdef_sample.specs.Bounds.{Within};
 ghost use Rattle.cdef_lane_sums.specs.Lines.{neighbourSums, addedOf, placeOf, laneLines};
 
-// Sums of neighbours: groups of lanes `on` apart, in four rows `down` apart, each group with the one `next` further on.
+// Sums of neighbours, in four rows: groups of lanes `on` apart, in rows `down` apart, each with the group `next` further on.
 pub fn pairs(s: &[i16; 512], down: usize, on: usize, next: usize) -> [i16; 256]
     requires { ⌜ (3 * down + 7 * on + next + 8 ≤ 512) × Within (now s) 128 ⌝ }
     ensures { λ r. ⌜ r ≡ neighbourSums (now (s .entry)) down on next ⌝ }
@@ -24,7 +24,7 @@ pub fn pairs(s: &[i16; 512], down: usize, on: usize, next: usize) -> [i16; 256]
     v
 }
 
-// Adds a row, 64 entries from `from` on, to p from `to` on.
+// Adds a row, the 64 entries of z from `from` on, to p from `to` on.
 fn added(p: &mut [i16; 128], z: &[i16], to: usize, from: usize)
     requires { ⌜ (length (now p) ≡ 128) × (to ≤ 64) × (from ≤ 448) × (from + 64 ≤ length (now z)) ⌝ }
     requires { ⌜ Within (now p) 2048 × Within (now z) 256 ⌝ }
@@ -36,7 +36,7 @@ fn added(p: &mut [i16; 128], z: &[i16], to: usize, from: usize)
     }
 }
 
-// The line at which row i starts: the first for all rows, one further from row to row, or one less.
+// The line at which row i starts: with way 0 the first for all rows, with 1 one further from row to row, with 2 one less.
 fn place(i: usize, rows: usize, first: usize, way: usize) -> usize
     requires { ⌜ (i < rows) × (first + rows ≤ 9) ⌝ }
     ensures { λ r. ⌜ r ≡ placeOf i rows first way ⌝ }
@@ -50,7 +50,7 @@ fn place(i: usize, rows: usize, first: usize, way: usize) -> usize
     first + (rows - 1 - i)
 }
 
-// Sixteen lines: the rows of z, each at its place.
+// Sixteen lines: the rows of z, each from its line on.
 pub fn lines(z: &[i16], rows: usize, first: usize, way: usize) -> [i16; 128]
     requires { ⌜ (rows ≤ 8) × (first + rows ≤ 9) × (rows * 64 ≤ length (now z)) × Within (now z) 256 ⌝ }
     ensures { λ r. ⌜ r ≡ laneLines (now (z .entry)) rows first way ⌝ }

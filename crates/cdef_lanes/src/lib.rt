@@ -1,4 +1,4 @@
-// The samples of eight blocks side by side, interleaved: in each group of eight, entry l is of block l. Such a group is called a group of lanes.
+// The samples of eight blocks side by side, interleaved into groups of eight lanes: in each group, lane l is of block l.
 ghost use mathlib.Core.Path.{_≡_};
 ghost use Prim.Native.Nat.{_+_, _*_, _≤_};
 ghost use lib.ListN.{length};
@@ -29,7 +29,7 @@ fn rows(
     }
 }
 
-// Each run of eight entries interleaved with the run `half` further on. Runs are `on` apart, groups of eight runs `row`.
+// Each run of eight entries interleaved with the run `half` further on. The runs are `on` apart, and groups of eight runs `row` apart.
 fn interleaved(out: &mut [i16; 512], a: &[i16; 512], row: usize, on: usize, half: usize)
     requires { ⌜ (length (now out) ≡ 512) × (3 * row + 7 * on + half + 8 ≤ 512) × Within (now a) 128 ⌝ }
     ensures { λ _. ⌜ now (out .exit) ≡ interleavedOf (now (a .entry)) row on half ⌝ }
@@ -47,7 +47,7 @@ fn interleaved(out: &mut [i16; 512], a: &[i16; 512], row: usize, on: usize, half
     }
 }
 
-// The lanes of the eight blocks at (x, y): sample (i, j) of block l at 64 i + 8 j + l. `a` is overwritten.
+// The lanes of the eight blocks at (x, y): sample (i, j) of block l at 64 i + 8 j + l. Blocks 0 to 3 are interleaved with blocks 4 to 7, then twice the halves. `a` is overwritten.
 pub fn lanes(
     s: &mut [i16; 512],
     a: &mut [i16; 512],

@@ -1,4 +1,4 @@
-// The cost of each direction of eight blocks in lanes. Lines n and 14 - n have the same number of samples, in every direction: the eleven lines of an odd one stand at 2 to 12.
+// The cost of each direction of eight blocks in lanes. Lines n and 14 - n weigh the same: the eleven lines of an odd direction stand at 2 to 12, and past eight straight lines there are zeros.
 ghost use mathlib.Core.Path.{_≡_};
 ghost use Prim.Native.Nat.{_+_, _*_, _/_, _≤_, _<_};
 ghost use lib.ListN.{length};

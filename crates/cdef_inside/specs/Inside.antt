@@ -24,7 +24,7 @@ paramsFrom pri sec dir damping depth = record { pri = pri; sec = sec; dir = dir;
 pub record Sided (n : ℕ) : Type 0 where
   pub side : (n ≡ 4) ⊎ (n ≡ 8)
 
--- two samples or more inside a plane w by h: as a test, and its parts
+-- two samples or more inside a plane w by h (x before y, as in Block): as a test, and its parts
 unfoldable pub innerBlock : ℕ → ℕ → ℕ → ℕ → ℕ → ℕ → Bool
 innerBlock w h x y bw bh = (leb 2 x && leb 2 y) && (leb (x + bw + 2) w && leb (y + bh + 2) h)
 
@@ -34,7 +34,7 @@ pub record Inner (w h x y bw bh : ℕ) : Type 0 where
   pub right : x + bw + 2 ≤ w
   pub bottom : y + bh + 2 ≤ h
 
--- depth 8, and both strengths and their shifts such that sums fit in bytes
+-- depth 8, both strengths in its range and not 0, and shifts by which a byte can be shifted
 pub record Bytes (depth s sh s2 sh2 : ℕ) : Type 0 where
   pub deep : depth ≡ 8
   pub pri : s ≤ 15
@@ -44,6 +44,6 @@ pub record Bytes (depth s sh s2 sh2 : ℕ) : Type 0 where
   pub some2 : 1 ≤ s2
   pub sec-shift : sh2 < 8
 
--- the filtered samples of cols by rows of a plane, from (y, x) on, stored in d, whose first row is the plane's row y0
+-- the block of cols by rows samples of a plane at row y and column x, filtered and stored in d, whose first row is the plane's row y0 (at most y)
 abbrev pub storedBlock : List ℕ → List ℕ → ℕ → ℕ → FilterParams → ℕ → ℕ → ℕ → ℕ → ℕ → List ℕ
 storedBlock d l w h q y0 y x cols rows = putBlock d w (λ r c. filtered (planeOf l w h) q (y0 + r) c) (y - y0) x cols rows

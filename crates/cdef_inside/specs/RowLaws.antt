@@ -8,7 +8,7 @@ use Rattle.cdef_rows.specs.declared.Taps.{Taps}
 use Rattle.cdef_rows.specs.declared.Strength.{Strength}
 use Rattle.cdef_kernel.specs.Kernel.{priOf}
 use Rattle.cdef_plane_rows.specs.Rows.{Along, Around, Strong, Stored}
-use Rattle.cdef_plane_bytes.specs.Eights.{Eighth}
+use Rattle.cdef_plane_bytes.specs.Eights.{Strong8}
 use Rattle.cdef_inside.specs.Inside.{Bytes}
 
 -- a row and the next one
@@ -41,7 +41,7 @@ two-rows len m w at to n t u e h i l =
 pub stored-as : (l d last : List ℕ) (w at to : ℕ) (t u : Taps) (f g : Strength) (m n : ℕ) → t ≡ u → m ≡ n → Stored l d last w at to t f g 8 m → Stored l d last w at to u f g 8 n
 stored-as l d last w at to t u f g m n e k h = rw (← e, ← k) h
 
-pub eighth-is : {depth s sh near s2 sh2 : ℕ} → Bytes depth s sh s2 sh2 → Strong s sh near s2 sh2 → 3 ≤ near → Eighth s sh near s2 sh2
+pub eighth-is : {depth s sh near s2 sh2 : ℕ} → Bytes depth s sh s2 sh2 → Strong s sh near s2 sh2 → 3 ≤ near → Strong8 s sh near s2 sh2
 eighth-is b g l = record { pri = b .pri; some = b .some; pri-shift = b .pri-shift; least = l; most = g .most; sec = b .sec; some2 = b .some2; sec-shift = b .sec-shift }
 
 -- the near weight of the primary taps

@@ -10,7 +10,7 @@ ghost use Rattle.cdef_plane_bytes.specs.Eights.{AllByte};
 ghost use Rattle.cdef_inside.specs.Inside.{Sided, Bytes};
 use cdef_plane_bytes::eights;
 
-// Whether the sums of both strengths fit in bytes. With one strength alone words are as fast.
+// Whether both strengths filter and their sums fit in bytes.
 fn in_bytes(depth: u8, s: u16, sh: u32, s2: u16, sh2: u32) -> bool
     ensures { λ r. ⌜ (r ≡ true → Bytes depth s sh s2 sh2) ⌝ }
 {

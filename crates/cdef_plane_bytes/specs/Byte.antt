@@ -3,11 +3,11 @@ use mathlib.Core.Path.{_≡_}
 use mathlib.Core.Logic.{_⊎_}
 use Prim.Native.Nat.{ℕ, _+_, _-_, _*_, _/_, _^_, min, max}
 
--- how far a is above b, constrained
+-- constrain(a - b) where a is above b, else 0; sh is constrain's shift
 unfoldable pub aboveOf : ℕ → ℕ → ℕ → ℕ → ℕ
 aboveOf a b s sh = min (a - b) (s - ((a - b) + (b - a)) / 2 ^ sh)
 
--- a pair of taps above the centre, and below it
+-- two opposite taps a and b: the sum of what is above the centre c, and of what is below it
 unfoldable pub upPair : ℕ → ℕ → ℕ → ℕ → ℕ → ℕ
 upPair a b c s sh = aboveOf a c s sh + aboveOf b c s sh
 
@@ -18,27 +18,27 @@ downPair a b c s sh = aboveOf c a s sh + aboveOf c b s sh
 pub record Mask (odd : ℕ) : Type 0 where
   pub is : (odd ≡ 0) ⊎ (odd ≡ 255)
 
--- 4 n + 2 f, or 3 n + 3 f where all bits of odd are set
-unfoldable pub weighOf : ℕ → ℕ → ℕ → ℕ
-weighOf n f odd = (n + f) + (n + f) + n + (min f odd + min n (255 - odd))
+-- the primary weights: 4 n + 2 f where odd is 0, 3 n + 3 f where it is 255
+unfoldable pub weighPri : ℕ → ℕ → ℕ → ℕ
+weighPri n f odd = (n + f) + (n + f) + n + (min f odd + min n (255 - odd))
 
--- two near pairs and two far ones
-unfoldable pub doubled : ℕ → ℕ → ℕ
-doubled n f = n + n + f
+-- the secondary weights: 2 n + f
+unfoldable pub weighSec : ℕ → ℕ → ℕ
+weighSec n f = n + n + f
 
 -- the primary taps
 unfoldable pub upPri : ℕ → ℕ → ℕ → ℕ → ℕ → ℕ → ℕ → ℕ → ℕ
-upPri a0 b0 a1 b1 c s sh odd = weighOf (upPair a0 b0 c s sh) (upPair a1 b1 c s sh) odd
+upPri a0 b0 a1 b1 c s sh odd = weighPri (upPair a0 b0 c s sh) (upPair a1 b1 c s sh) odd
 
 unfoldable pub downPri : ℕ → ℕ → ℕ → ℕ → ℕ → ℕ → ℕ → ℕ → ℕ
-downPri a0 b0 a1 b1 c s sh odd = weighOf (downPair a0 b0 c s sh) (downPair a1 b1 c s sh) odd
+downPri a0 b0 a1 b1 c s sh odd = weighPri (downPair a0 b0 c s sh) (downPair a1 b1 c s sh) odd
 
 -- the secondary taps
 unfoldable pub upSec : ℕ → ℕ → ℕ → ℕ → ℕ → ℕ → ℕ → ℕ → ℕ → ℕ → ℕ → ℕ
-upSec a0 b0 a1 b1 a2 b2 a3 b3 c s sh = doubled (upPair a0 b0 c s sh + upPair a2 b2 c s sh) (upPair a1 b1 c s sh + upPair a3 b3 c s sh)
+upSec a0 b0 a1 b1 a2 b2 a3 b3 c s sh = weighSec (upPair a0 b0 c s sh + upPair a2 b2 c s sh) (upPair a1 b1 c s sh + upPair a3 b3 c s sh)
 
 unfoldable pub downSec : ℕ → ℕ → ℕ → ℕ → ℕ → ℕ → ℕ → ℕ → ℕ → ℕ → ℕ → ℕ
-downSec a0 b0 a1 b1 a2 b2 a3 b3 c s sh = doubled (downPair a0 b0 c s sh + downPair a2 b2 c s sh) (downPair a1 b1 c s sh + downPair a3 b3 c s sh)
+downSec a0 b0 a1 b1 a2 b2 a3 b3 c s sh = weighSec (downPair a0 b0 c s sh + downPair a2 b2 c s sh) (downPair a1 b1 c s sh + downPair a3 b3 c s sh)
 
 -- the most that any of four taps is above the centre, and below it
 unfoldable pub highFour : ℕ → ℕ → ℕ → ℕ → ℕ → ℕ
@@ -47,15 +47,15 @@ highFour a0 b0 a1 b1 c = max (max (a0 - c) (b0 - c)) (max (a1 - c) (b1 - c))
 unfoldable pub lowFour : ℕ → ℕ → ℕ → ℕ → ℕ → ℕ
 lowFour a0 b0 a1 b1 c = max (max (c - a0) (c - b0)) (max (c - a1) (c - b1))
 
--- what is left of a sum over the opposite one, rounded
-unfoldable pub leftOf : ℕ → ℕ → ℕ
-leftOf a b = (a - b + 8) / 16
+-- a sum's excess over the opposite one, over 16, halves rounded up; 0 where there is none
+unfoldable pub excessOf : ℕ → ℕ → ℕ
+excessOf a b = (a - b + 8) / 16
 
--- the sample from its sums, clipped
+-- the sample from its sums, clipped; at most one of the two corrections is not 0
 unfoldable pub clippedOf : ℕ → ℕ → ℕ → ℕ → ℕ → ℕ
-clippedOf c up down high low = c + min (leftOf up down) high - min (leftOf down up) low
+clippedOf c up down high low = (c + min (excessOf up down) high) - min (excessOf down up) low
 
--- with both strengths
+-- filtered with both strengths: primary taps 0 near, 1 far; secondary taps 2 and 4 near, 3 and 5 far; b opposite a
 unfoldable pub bothOf : ℕ → ℕ → ℕ → ℕ → ℕ → ℕ → ℕ → ℕ → ℕ → ℕ → ℕ → ℕ → ℕ → ℕ → ℕ → ℕ → ℕ → ℕ → ℕ
 bothOf a0 b0 a1 b1 a2 b2 a3 b3 a4 b4 a5 b5 c s sh odd s2 sh2 =
     clippedOf c

@@ -17,7 +17,7 @@ use Rattle.cdef_rows.specs.declared.both.Pair.{Pair}
 use Rattle.cdef_rows.specs.declared.Strength.{Strength}
 use Rattle.cdef_plane_taps.specs.Plain.{pairPlain, priPlain, secPlain, lowTwo, highTwo, firstOf, lastOf}
 use Rattle.cdef_plane_rows.specs.Rows.{priIn, secIn}
-use Rattle.cdef_plane_bytes.specs.Byte.{aboveOf, upPair, downPair, Mask, weighOf, doubled, upPri, downPri, upSec, downSec, highFour, lowFour, leftOf, clippedOf, bothOf}
+use Rattle.cdef_plane_bytes.specs.Byte.{aboveOf, upPair, downPair, Mask, weighPri, weighSec, upPri, downPri, upSec, downSec, highFour, lowFour, excessOf, clippedOf, bothOf}
 
 -- ---- a difference of two numbers
 
@@ -96,19 +96,19 @@ down-le : (a b c s sh : ℕ) → downPair a b c s sh ≤ s + s
 unfolding downPair
 down-le a b c s sh = omega (arith, above-le c a s sh, above-le c b s sh)
 
-weigh-four : (n f : ℕ) → n ≤ 255 → weighOf n f 0 ≡ 4 * n + 2 * f
-unfolding weighOf
+weigh-four : (n f : ℕ) → n ≤ 255 → weighPri n f 0 ≡ 4 * n + 2 * f
+unfolding weighPri
 weigh-four n f h = omega arith
 
-weigh-three : (n f : ℕ) → f ≤ 255 → weighOf n f 255 ≡ 3 * n + 3 * f
-unfolding weighOf
+weigh-three : (n f : ℕ) → f ≤ 255 → weighPri n f 255 ≡ 3 * n + 3 * f
+unfolding weighPri
 weigh-three n f h = omega arith
 
-pub weigh-le : (n f odd : ℕ) → n ≤ 30 → f ≤ 30 → Mask odd → weighOf n f odd ≤ 180
+pub weigh-le : (n f odd : ℕ) → n ≤ 30 → f ≤ 30 → Mask odd → weighPri n f odd ≤ 180
 weigh-le n f odd hn hf m = ⊎-elim (λ e. rw e (omega (arith, weigh-four n f (omega arith)))) (λ e. rw e (omega (arith, weigh-three n f (omega arith)))) (m .is)
 
-pub weigh-ok : (n f odd x y : ℕ) → n ≤ 30 → f ≤ 30 → Mask odd → x ≡ min f odd → y ≡ min n (255 - odd) → ((n + f) + (n + f) + n + (x + y) ≡ weighOf n f odd) × ((n + f) + (n + f) + n + (x + y) ≤ 180)
-unfolding weighOf
+pub weigh-ok : (n f odd x y : ℕ) → n ≤ 30 → f ≤ 30 → Mask odd → x ≡ min f odd → y ≡ min n (255 - odd) → ((n + f) + (n + f) + n + (x + y) ≡ weighPri n f odd) × ((n + f) + (n + f) + n + (x + y) ≤ 180)
+unfolding weighPri
 weigh-ok n f odd x y hn hf m ex ey = (rw (ex, ey), rw (ex, ey) (weigh-le n f odd hn hf m))
 
 -- ---- the weighted sums
@@ -117,11 +117,11 @@ weighs : (k m n f o g : ℕ) → gap (suc k * n + suc m * f) (suc k * o + suc m 
 weighs k m n f o g = sym (gap-add (suc k * n) (suc k * o) (suc m * f) (suc m * g)) ∙ rw (gap-scale k n o, gap-scale m f g)
 
 module _ (n f o g s sh : ℕ) (hn : n ≤ 255) (hf : f ≤ 255) (ho : o ≤ 255) (hg : g ≤ 255) where
-  weigh-con : (near : ℕ) → 3 ≤ near → near ≤ 4 → gap (weighOf n f ((4 - near) * 255)) (weighOf o g ((4 - near) * 255)) ≡ weighed (gap n o) (gap f g) (priIn s sh near)
+  weigh-con : (near : ℕ) → 3 ≤ near → near ≤ 4 → gap (weighPri n f ((4 - near) * 255)) (weighPri o g ((4 - near) * 255)) ≡ weighed (gap n o) (gap f g) (priIn s sh near)
   unfolding weighed priIn
   weigh-con near lo hi = go (decLt near 4)
     where
-      go : Dec (near < 4) → gap (weighOf n f ((4 - near) * 255)) (weighOf o g ((4 - near) * 255)) ≡ pos near *ℤ gap n o +ℤ pos (6 - near) *ℤ gap f g
+      go : Dec (near < 4) → gap (weighPri n f ((4 - near) * 255)) (weighPri o g ((4 - near) * 255)) ≡ pos near *ℤ gap n o +ℤ pos (6 - near) *ℤ gap f g
       go (yes l) = let e : near ≡ 3 = omega arith in rw e (rw (weigh-three n f hf, weigh-three o g hg) (weighs 2 2 n f o g))
       go (no l) = let e : near ≡ 4 = omega arith in rw e (rw (weigh-four n f hn, weigh-four o g ho) (weighs 3 1 n f o g))
 
@@ -132,8 +132,8 @@ pri-con a0 b0 a1 b1 c s sh near hs lo hi =
     (omega (arith, up-le a0 b0 c s sh)) (omega (arith, up-le a1 b1 c s sh)) (omega (arith, down-le a0 b0 c s sh)) (omega (arith, down-le a1 b1 c s sh)) near lo hi
     ∙ unfold priIn in rw (pair-con a0 b0 c s sh, pair-con a1 b1 c s sh)
 
-double-con : (n f o g : ℕ) → gap (doubled n f) (doubled o g) ≡ pos 2 *ℤ gap n o +ℤ pos 1 *ℤ gap f g
-unfolding doubled
+double-con : (n f o g : ℕ) → gap (weighSec n f) (weighSec o g) ≡ pos 2 *ℤ gap n o +ℤ pos 1 *ℤ gap f g
+unfolding weighSec
 double-con n f o g =
     let a : n + n + f ≡ 2 * n + 1 * f = omega arith in
     let b : o + o + g ≡ 2 * o + 1 * g = omega arith in

@@ -25,11 +25,11 @@ use Rattle.cdef_plane_rows.specs.LaneLaws.{kernel-both}
 use Rattle.cdef_plane_rows.specs.StoreLaws.{row-inside}
 use Rattle.cdef_plane_bytes.specs.Byte.{Mask, bothOf}
 use Rattle.cdef_plane_bytes.specs.FinishLaws.{both-is}
-use Rattle.cdef_plane_bytes.specs.Eights.{AllByte, Eighth, eightAt, centreRun, onRun, backRun, placedRows}
+use Rattle.cdef_plane_bytes.specs.Eights.{AllByte, Strong8, eightAt, centreRun8, onRun8, backRun8, placedRows8}
 
 -- ---- strengths
 
-module _ {s sh near s2 sh2 : ℕ} (e : Eighth s sh near s2 sh2) where
+module _ {s sh near s2 sh2 : ℕ} (e : Strong8 s sh near s2 sh2) where
   pub pri-in : InRange (priIn s sh near)
   unfolding priIn
   pri-in = record { s = omega (arith, e .pri); sh = omega (arith, e .pri-shift); w0 = e .most; w1 = omega (arith, e .least) }
@@ -86,49 +86,49 @@ eight-place w k i j h =
 pub low-of : {l : List ℕ} → AllByte l → AllLow l
 low-of b = record { all = λ k. omega (arith, b .all k) }
 
-pub run-byte : (l : List ℕ) (w k n : ℕ) → AllByte l → n < 16 → getD (centreRun l w k) n 0 < 256
-unfolding centreRun
+pub run-byte : (l : List ℕ) (w k n : ℕ) → AllByte l → n < 16 → getD (centreRun8 l w k) n 0 < 256
+unfolding centreRun8
 run-byte l w k n b h = rw (getD-upto (λ (j : ℕ). getD l (eightAt w k j) 0) 16 n 0 h) (b .all (eightAt w k n))
 
 module _ (l : List ℕ) (w k n : ℕ) (h : n < 16) where
-  pub centre-is : getD (centreRun l w k) n 0 ≡ getD l (eightAt w k n) 0
-  unfolding centreRun
+  pub centre-is : getD (centreRun8 l w k) n 0 ≡ getD l (eightAt w k n) 0
+  unfolding centreRun8
   centre-is = getD-upto (λ (j : ℕ). getD l (eightAt w k j) 0) 16 n 0 h
 
-  on-is : (o : ℕ) → getD (onRun l w k o) n 0 ≡ getD l (onFrom (eightAt w k n) o) 0
-  unfolding onRun
+  on-is : (o : ℕ) → getD (onRun8 l w k o) n 0 ≡ getD l (onFrom (eightAt w k n) o) 0
+  unfolding onRun8
   on-is o = getD-upto (λ (j : ℕ). getD l (onFrom (eightAt w k j) o) 0) 16 n 0 h
 
-  back-is : (o : ℕ) → getD (backRun l w k o) n 0 ≡ getD l (backFrom (eightAt w k n) o) 0
-  unfolding backRun
+  back-is : (o : ℕ) → getD (backRun8 l w k o) n 0 ≡ getD l (backFrom (eightAt w k n) o) 0
+  unfolding backRun8
   back-is o = getD-upto (λ (j : ℕ). getD l (backFrom (eightAt w k j) o) 0) 16 n 0 h
 
-module _ (l : List ℕ) (b : AllByte l) (w k : ℕ) (t : Taps) (s sh near s2 sh2 : ℕ) (e : Eighth s sh near s2 sh2) where
+module _ (l : List ℕ) (b : AllByte l) (w k : ℕ) (t : Taps) (s sh near s2 sh2 : ℕ) (e : Strong8 s sh near s2 sh2) where
   lane : List ℕ → List ℕ → List ℕ → List ℕ → List ℕ → List ℕ → List ℕ → List ℕ → List ℕ → List ℕ → List ℕ → List ℕ → List ℕ → ℕ → ℕ
   lane c a0 b0 a1 b1 a2 b2 a3 b3 a4 b4 a5 b5 n = bothOf (getD a0 n 0) (getD b0 n 0) (getD a1 n 0) (getD b1 n 0) (getD a2 n 0) (getD b2 n 0) (getD a3 n 0) (getD b3 n 0) (getD a4 n 0) (getD b4 n 0) (getD a5 n 0) (getD b5 n 0) (getD c n 0) s sh ((4 - near) * 255) s2 sh2
 
-  one : (n : ℕ) → n < 16 → bothOf (getD (onRun l w k (t .p0)) n 0) (getD (backRun l w k (t .p0)) n 0) (getD (onRun l w k (t .p1)) n 0) (getD (backRun l w k (t .p1)) n 0) (getD (onRun l w k (t .q0)) n 0) (getD (backRun l w k (t .q0)) n 0) (getD (onRun l w k (t .q1)) n 0) (getD (backRun l w k (t .q1)) n 0) (getD (onRun l w k (t .r0)) n 0) (getD (backRun l w k (t .r0)) n 0) (getD (onRun l w k (t .r1)) n 0) (getD (backRun l w k (t .r1)) n 0) (getD (centreRun l w k) n 0) s sh ((4 - near) * 255) s2 sh2 ≡ filteredAt l (eightAt w k n) t (priIn s sh near) (secIn s2 sh2)
+  one : (n : ℕ) → n < 16 → bothOf (getD (onRun8 l w k (t .p0)) n 0) (getD (backRun8 l w k (t .p0)) n 0) (getD (onRun8 l w k (t .p1)) n 0) (getD (backRun8 l w k (t .p1)) n 0) (getD (onRun8 l w k (t .q0)) n 0) (getD (backRun8 l w k (t .q0)) n 0) (getD (onRun8 l w k (t .q1)) n 0) (getD (backRun8 l w k (t .q1)) n 0) (getD (onRun8 l w k (t .r0)) n 0) (getD (backRun8 l w k (t .r0)) n 0) (getD (onRun8 l w k (t .r1)) n 0) (getD (backRun8 l w k (t .r1)) n 0) (getD (centreRun8 l w k) n 0) s sh ((4 - near) * 255) s2 sh2 ≡ filteredAt l (eightAt w k n) t (priIn s sh near) (secIn s2 sh2)
   unfolding pairOf
   one n h = rw (centre-is l w k n h, on-is l w k n h (t .p0), back-is l w k n h (t .p0), on-is l w k n h (t .p1), back-is l w k n h (t .p1), on-is l w k n h (t .q0), back-is l w k n h (t .q0), on-is l w k n h (t .q1), back-is l w k n h (t .q1), on-is l w k n h (t .r0), back-is l w k n h (t .r0), on-is l w k n h (t .r1), back-is l w k n h (t .r1))
       (both-is _ _ _ _ _ _ _ _ _ _ _ _ _ s sh near s2 sh2 (e .pri) (e .least) (e .most) (b .all (eightAt w k n)) ∙ both-plain l (low-of b) (eightAt w k n) t (priIn s sh near) (secIn s2 sh2))
 
   -- the lists of taps, and what is computed of them
-  pub both-eight : {r c a0 b0 a1 b1 a2 b2 a3 b3 a4 b4 a5 b5 : List ℕ} {odd : ℕ} → c ≡ centreRun l w k → a0 ≡ onRun l w k (t .p0) → b0 ≡ backRun l w k (t .p0) → a1 ≡ onRun l w k (t .p1) → b1 ≡ backRun l w k (t .p1) → a2 ≡ onRun l w k (t .q0) → b2 ≡ backRun l w k (t .q0) → a3 ≡ onRun l w k (t .q1) → b3 ≡ backRun l w k (t .q1) → a4 ≡ onRun l w k (t .r0) → b4 ≡ backRun l w k (t .r0) → a5 ≡ onRun l w k (t .r1) → b5 ≡ backRun l w k (t .r1) → odd ≡ (4 - near) * 255 → r ≡ upto (λ n. bothOf (getD a0 n 0) (getD b0 n 0) (getD a1 n 0) (getD b1 n 0) (getD a2 n 0) (getD b2 n 0) (getD a3 n 0) (getD b3 n 0) (getD a4 n 0) (getD b4 n 0) (getD a5 n 0) (getD b5 n 0) (getD c n 0) s sh odd s2 sh2) 16 → r ≡ upto (λ n. filteredAt l (eightAt w k n) t (priIn s sh near) (secIn s2 sh2)) 16
+  pub both-eight : {r c a0 b0 a1 b1 a2 b2 a3 b3 a4 b4 a5 b5 : List ℕ} {odd : ℕ} → c ≡ centreRun8 l w k → a0 ≡ onRun8 l w k (t .p0) → b0 ≡ backRun8 l w k (t .p0) → a1 ≡ onRun8 l w k (t .p1) → b1 ≡ backRun8 l w k (t .p1) → a2 ≡ onRun8 l w k (t .q0) → b2 ≡ backRun8 l w k (t .q0) → a3 ≡ onRun8 l w k (t .q1) → b3 ≡ backRun8 l w k (t .q1) → a4 ≡ onRun8 l w k (t .r0) → b4 ≡ backRun8 l w k (t .r0) → a5 ≡ onRun8 l w k (t .r1) → b5 ≡ backRun8 l w k (t .r1) → odd ≡ (4 - near) * 255 → r ≡ upto (λ n. bothOf (getD a0 n 0) (getD b0 n 0) (getD a1 n 0) (getD b1 n 0) (getD a2 n 0) (getD b2 n 0) (getD a3 n 0) (getD b3 n 0) (getD a4 n 0) (getD b4 n 0) (getD a5 n 0) (getD b5 n 0) (getD c n 0) s sh odd s2 sh2) 16 → r ≡ upto (λ n. filteredAt l (eightAt w k n) t (priIn s sh near) (secIn s2 sh2)) 16
   both-eight e0 e1 e2 e3 e4 e5 e6 e7 e8 e9 e10 e11 e12 eo er = er ∙ rw (e0, e1, e2, e3, e4, e5, e6, e7, e8, e9, e10, e11, e12, eo) (upto-ext _ _ 16 one)
 
 -- ---- what is stored
 
 module _ (d : List ℕ) (w to : ℕ) (v : List ℕ) where
-  pub rows-none : placedRows d w to v 0 ≡ d
-  unfolding placedRows
+  pub rows-none : placedRows8 d w to v 0 ≡ d
+  unfolding placedRows8
   rows-none = refl
 
-  pub rows-more : (n : ℕ) → placedRows d w to v (n + 1) ≡ placed (placedRows d w to v n) (to + n * w) v (n * 8) 8
-  unfolding placedRows
+  pub rows-more : (n : ℕ) → placedRows8 d w to v (n + 1) ≡ placed (placedRows8 d w to v n) (to + n * w) v (n * 8) 8
+  unfolding placedRows8
   rows-more n = rw (add-one n)
 
-  rows-two : placedRows d w to v 2 ≡ placed (placed d to v 0 8) (to + w) v 8 8
-  unfolding placedRows
+  rows-two : placedRows8 d w to v 2 ≡ placed (placed d to v 0 8) (to + w) v 8 8
+  unfolding placedRows8
   rows-two =
       let a : to + 0 * w ≡ to = omega arith in
       let b : to + 1 * w ≡ to + w = omega arith in
@@ -154,7 +154,7 @@ module _ (l : List ℕ) (b : AllByte l) (w at : ℕ) (t : Taps) (f g : Strength)
       ∙ rw (block-more d₀ w (insideTap l w at t f g y x) y x 8 r, ed)
 
   -- two rows more
-  pub two-stored : (d₀ d last v : List ℕ) (to i : ℕ) → v ≡ upto (λ n. filteredAt l (eightAt w (at + 2 * i * w) n) t f g) 16 → ((y x : ℕ) → to ≡ y * w + x → d ≡ putBlock d₀ w (insideTap l w at t f g y x) y x 8 (2 * i)) → last ≡ placedRows d w (to + 2 * i * w) v 2 → (y x : ℕ) → to ≡ y * w + x → last ≡ putBlock d₀ w (insideTap l w at t f g y x) y x 8 (2 * (i + 1))
+  pub two-stored : (d₀ d last v : List ℕ) (to i : ℕ) → v ≡ upto (λ n. filteredAt l (eightAt w (at + 2 * i * w) n) t f g) 16 → ((y x : ℕ) → to ≡ y * w + x → d ≡ putBlock d₀ w (insideTap l w at t f g y x) y x 8 (2 * i)) → last ≡ placedRows8 d w (to + 2 * i * w) v 2 → (y x : ℕ) → to ≡ y * w + x → last ≡ putBlock d₀ w (insideTap l w at t f g y x) y x 8 (2 * (i + 1))
   two-stored d₀ d last v to i ev inv h y x e =
       let a : to + 2 * i * w + w ≡ to + (2 * i + 1) * w = omega arith in
       let n : 2 * i + 1 + 1 ≡ 2 * (i + 1) = omega arith in

@@ -1,4 +1,4 @@
--- Two rows of eight samples of a plane of at most 8 bits. Definitions only.
+-- Two rows of eight samples of a plane whose samples are bytes. Definitions only.
 use mathlib.Core.Path.{_≡_}
 use mathlib.Core.List.{List}
 use Prim.Native.Nat.{ℕ, zero, suc, _+_, _*_, _/_, _%_, _≤_, _<_}
@@ -7,12 +7,12 @@ use Rattle.cdef_sample.specs.Upto.{upto}
 use Rattle.cdef_rows.specs.Place.{onFrom, backFrom}
 use Rattle.cdef_plane_rows.specs.Rows.{placed}
 
--- samples of at most 8 bits
+-- every sample of l is below 256, so that none is marked
 pub record AllByte (l : List ℕ) : Type 0 where
   pub all : (k : ℕ) → getD l k 0 < 256
 
--- strengths of depth 8, neither of them 0, as they are passed
-pub record Eighth (s sh near s2 sh2 : ℕ) : Type 0 where
+-- strengths of depth 8, neither of them 0, shifts below 8; the primary taps are weighted near (3 or 4) and 6 - near
+pub record Strong8 (s sh near s2 sh2 : ℕ) : Type 0 where
   pub pri : s ≤ 15
   pub some : 1 ≤ s
   pub pri-shift : sh < 8
@@ -22,21 +22,21 @@ pub record Eighth (s sh near s2 sh2 : ℕ) : Type 0 where
   pub some2 : 1 ≤ s2
   pub sec-shift : sh2 < 8
 
--- the index of sample j, from k on, in a plane w wide
+-- the index of sample j (row j / 8, column j % 8) of two rows of eight whose first sample is at k, in a plane w wide
 unfoldable pub eightAt : ℕ → ℕ → ℕ → ℕ
 eightAt w k j = k + (j / 8 * w + j % 8)
 
 -- the samples, their taps at an offset, and the opposite ones
-unfoldable pub centreRun : List ℕ → ℕ → ℕ → List ℕ
-centreRun l w k = upto (λ j. getD l (eightAt w k j) 0) 16
+unfoldable pub centreRun8 : List ℕ → ℕ → ℕ → List ℕ
+centreRun8 l w k = upto (λ j. getD l (eightAt w k j) 0) 16
 
-unfoldable pub onRun : List ℕ → ℕ → ℕ → ℕ → List ℕ
-onRun l w k o = upto (λ j. getD l (onFrom (eightAt w k j) o) 0) 16
+unfoldable pub onRun8 : List ℕ → ℕ → ℕ → ℕ → List ℕ
+onRun8 l w k o = upto (λ j. getD l (onFrom (eightAt w k j) o) 0) 16
 
-unfoldable pub backRun : List ℕ → ℕ → ℕ → ℕ → List ℕ
-backRun l w k o = upto (λ j. getD l (backFrom (eightAt w k j) o) 0) 16
+unfoldable pub backRun8 : List ℕ → ℕ → ℕ → ℕ → List ℕ
+backRun8 l w k o = upto (λ j. getD l (backFrom (eightAt w k j) o) 0) 16
 
 -- n rows of eight entries of v, stored from index `to` on
-unfoldable pub placedRows : List ℕ → ℕ → ℕ → List ℕ → ℕ → List ℕ
-placedRows d w to v zero = d
-placedRows d w to v (suc n) = placed (placedRows d w to v n) (to + n * w) v (n * 8) 8
+unfoldable pub placedRows8 : List ℕ → ℕ → ℕ → List ℕ → ℕ → List ℕ
+placedRows8 d w to v zero = d
+placedRows8 d w to v (suc n) = placed (placedRows8 d w to v n) (to + n * w) v (n * 8) 8

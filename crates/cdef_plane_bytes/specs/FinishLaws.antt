@@ -13,17 +13,17 @@ use Rattle.cdef_sample.specs.SampleLaws.{finish-on, held-nat, moved-neg, moved-
 use Rattle.cdef_rows.specs.declared.both.Pair.{Pair}
 use Rattle.cdef_plane_taps.specs.Plain.{priPlain, secPlain, lowTwo, highTwo, firstOf, lastOf}
 use Rattle.cdef_plane_rows.specs.Rows.{priIn, secIn}
-use Rattle.cdef_plane_bytes.specs.Byte.{upPri, downPri, upSec, downSec, highFour, lowFour, leftOf, clippedOf, bothOf}
+use Rattle.cdef_plane_bytes.specs.Byte.{upPri, downPri, upSec, downSec, highFour, lowFour, excessOf, clippedOf, bothOf}
 use Rattle.cdef_plane_bytes.specs.ByteLaws.{gap, gap-add, gap-below, gap-above, pair, pri-con, sec-con}
 
 -- ---- moved by the rounded sum
 
-moved-up : (c u d : ℕ) → d ≤ u → movedOf c (gap u d) ≡ pos (c + leftOf u d)
-unfolding leftOf
+moved-up : (c u d : ℕ) → d ≤ u → movedOf c (gap u d) ≡ pos (c + excessOf u d)
+unfolding excessOf
 moved-up c u d h = ap (movedOf c) (gap-above u d h) ∙ moved-pos c (pos (u - d)) (le-ltb (u - d) 0 (omega arith))
 
-moved-down : (c u d : ℕ) → u < d → movedOf c (gap u d) ≡ gap c (leftOf d u)
-unfolding leftOf
+moved-down : (c u d : ℕ) → u < d → movedOf c (gap u d) ≡ gap c (excessOf d u)
+unfolding excessOf
 moved-down c u d h = ap (movedOf c) (gap-below u d h) ∙ moved-neg c (negsuc (d - suc u)) refl ∙ go (decLt 7 (suc (d - suc u)))
   where
     go : Dec (7 < suc (d - suc u)) → pos c +ℤ shrZ (negsuc (d - suc u) +ℤ pos 7) 16 ≡ gap c ((d - u + 8) / 16)
@@ -84,13 +84,13 @@ finish-gap : (c u d lo hi : ℕ) → lo ≤ c → c ≤ hi → c < 256 → clipp
 unfolding clippedOf
 finish-gap c u d lo hi a b k = go (decLt u d)
   where
-    go : Dec (u < d) → c + min (leftOf u d) (hi - c) - min (leftOf d u) (c - lo) ≡ finishOf c (gap u d) lo hi
+    go : Dec (u < d) → c + min (excessOf u d) (hi - c) - min (excessOf d u) (c - lo) ≡ finishOf c (gap u d) lo hi
     go (yes l) =
-        let e : leftOf u d ≡ 0 = unfold leftOf in omega arith in
-        rw e (sym (finish-is c (gap u d) lo hi (max (c - leftOf d u) lo) (λ x. omega (arith, x)) (ap (λ (z : ℤ). mag (overOf z lo)) (moved-down c u d l) ∙ over-gap c (leftOf d u) lo) ∙ clip-down c (leftOf d u) lo hi a b))
+        let e : excessOf u d ≡ 0 = unfold excessOf in omega arith in
+        rw e (sym (finish-is c (gap u d) lo hi (max (c - excessOf d u) lo) (λ x. omega (arith, x)) (ap (λ (z : ℤ). mag (overOf z lo)) (moved-down c u d l) ∙ over-gap c (excessOf d u) lo) ∙ clip-down c (excessOf d u) lo hi a b))
     go (no l) =
-        let e : leftOf d u ≡ 0 = unfold leftOf in omega arith in
-        rw e (sym (finish-is c (gap u d) lo hi (max (c + leftOf u d) lo) (λ x. omega (arith, x)) (ap (λ (z : ℤ). mag (overOf z lo)) (moved-up c u d (omega arith)) ∙ over-pos (c + leftOf u d) lo) ∙ clip-up c (leftOf u d) lo hi a b))
+        let e : excessOf d u ≡ 0 = unfold excessOf in omega arith in
+        rw e (sym (finish-is c (gap u d) lo hi (max (c + excessOf u d) lo) (λ x. omega (arith, x)) (ap (λ (z : ℤ). mag (overOf z lo)) (moved-up c u d (omega arith)) ∙ over-pos (c + excessOf u d) lo) ∙ clip-up c (excessOf u d) lo hi a b))
 
 -- ---- the limits
 

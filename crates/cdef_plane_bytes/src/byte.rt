@@ -2,7 +2,7 @@
 ghost use mathlib.Core.Path.{_≡_};
 ghost use Prim.Native.Nat.{_+_, _-_, _*_, _≤_, _<_, min, max};
 ghost use lib.IntN.{pos, natAbs};
-ghost use Rattle.cdef_plane_bytes.specs.Byte.{aboveOf, upPair, downPair, Mask, weighOf, doubled, upPri, downPri, upSec, downSec, highFour, lowFour, leftOf, clippedOf, bothOf};
+ghost use Rattle.cdef_plane_bytes.specs.Byte.{aboveOf, upPair, downPair, Mask, weighPri, weighSec, upPri, downPri, upSec, downSec, highFour, lowFour, excessOf, clippedOf, bothOf};
 
 // A number of 0..255 held to 0 and more, and to 255 and less: it stays as it is.
 fn held_low(v: i16) -> i16
@@ -74,7 +74,7 @@ fn pair_down(a: u8, b: u8, c: u8, s: u8, sh: u32) -> u8
 // 4 n + 2 f, or 3 n + 3 f where all bits of odd are set.
 fn weigh(n: u8, f: u8, odd: u8) -> u8
     requires { ⌜ (n ≤ 30) × (f ≤ 30) × Mask odd ⌝ }
-    ensures { λ r. ⌜ (r ≡ weighOf n f odd) × (r ≤ 180) ⌝ }
+    ensures { λ r. ⌜ (r ≡ weighPri n f odd) × (r ≤ 180) ⌝ }
 {
     let t = n + f;
     t + t + n + (least(f, odd) + least(n, 255 - odd))
@@ -83,7 +83,7 @@ fn weigh(n: u8, f: u8, odd: u8) -> u8
 // 2 n + f.
 fn double(n: u8, f: u8) -> u8
     requires { ⌜ (n ≤ 16) × (f ≤ 16) ⌝ }
-    ensures { λ r. ⌜ (r ≡ doubled n f) × (r ≤ 48) ⌝ }
+    ensures { λ r. ⌜ (r ≡ weighSec n f) × (r ≤ 48) ⌝ }
 {
     n + n + f
 }
@@ -190,7 +190,7 @@ fn low_four(a0: u8, b0: u8, a1: u8, b1: u8, c: u8) -> u8
 // What is left of a sum over the opposite one, rounded.
 fn left(a: u8, b: u8) -> u8
     requires { ⌜ a ≤ 228 ⌝ }
-    ensures { λ r. ⌜ r ≡ leftOf a b ⌝ }
+    ensures { λ r. ⌜ r ≡ excessOf a b ⌝ }
 {
     (less(a, b) + 8) >> 4
 }

@@ -5,7 +5,7 @@ ghost use lib.ListN.{getD, length};
 ghost use Rattle.cdef_sample.specs.Upto.{upto};
 ghost use Rattle.cdef_rows.specs.Sums.{filteredAt};
 ghost use Rattle.cdef_plane_rows.specs.Rows.{Along, Around, priIn, secIn, Stored};
-ghost use Rattle.cdef_plane_bytes.specs.Eights.{AllByte, Eighth, eightAt, centreRun, onRun, backRun, placedRows};
+ghost use Rattle.cdef_plane_bytes.specs.Eights.{AllByte, Strong8, eightAt, centreRun8, onRun8, backRun8, placedRows8};
 use crate::byte;
 use crate::lanes;
 use cdef_rows::Taps;
@@ -13,7 +13,7 @@ use cdef_rows::Taps;
 // Two rows of eight, from k on.
 fn gather(src: &[u16], w: usize, k: usize) -> [u16; 16]
     requires { ⌜ (k + (w + 8) ≤ length (now src)) × (w ≤ 4096) ⌝ }
-    ensures { λ r. ⌜ r ≡ centreRun (now (src .entry)) w k ⌝ }
+    ensures { λ r. ⌜ r ≡ centreRun8 (now (src .entry)) w k ⌝ }
 {
     let mut v = [0u16; 16];
     for i in 0..2usize {
@@ -29,7 +29,7 @@ fn gather(src: &[u16], w: usize, k: usize) -> [u16; 16]
 // In bytes.
 fn run(src: &[u16], w: usize, k: usize) -> [u8; 16]
     requires { ⌜ (k + (w + 8) ≤ length (now src)) × (w ≤ 4096) × AllByte (now src) ⌝ }
-    ensures { λ r. ⌜ r ≡ centreRun (now (src .entry)) w k ⌝ }
+    ensures { λ r. ⌜ r ≡ centreRun8 (now (src .entry)) w k ⌝ }
 {
     let v = gather(src, w, k);
     let mut b = [0u8; 16];
@@ -42,14 +42,14 @@ fn run(src: &[u16], w: usize, k: usize) -> [u8; 16]
 // Their taps at an offset, and the opposite ones.
 fn on(src: &[u16], w: usize, k: usize, o: usize) -> [u8; 16]
     requires { ⌜ (w ≤ 4096) × Along (length (now src)) k (w + 8) o × AllByte (now src) ⌝ }
-    ensures { λ r. ⌜ r ≡ onRun (now (src .entry)) w k o ⌝ }
+    ensures { λ r. ⌜ r ≡ onRun8 (now (src .entry)) w k o ⌝ }
 {
     run(src, w, std::num::wrapping_add_usize(k, o))
 }
 
 fn back(src: &[u16], w: usize, k: usize, o: usize) -> [u8; 16]
     requires { ⌜ (w ≤ 4096) × Along (length (now src)) k (w + 8) o × AllByte (now src) ⌝ }
-    ensures { λ r. ⌜ r ≡ backRun (now (src .entry)) w k o ⌝ }
+    ensures { λ r. ⌜ r ≡ backRun8 (now (src .entry)) w k o ⌝ }
 {
     run(src, w, std::num::wrapping_sub_usize(k, o))
 }
@@ -74,7 +74,7 @@ fn both(
     s2: u16,
     sh2: u32,
 ) -> [u8; 16]
-    requires { ⌜ Around (length (now src)) k (w + 8) t × AllByte (now src) × (w ≤ 4096) × Eighth s sh near s2 sh2 ⌝ }
+    requires { ⌜ Around (length (now src)) k (w + 8) t × AllByte (now src) × (w ≤ 4096) × Strong8 s sh near s2 sh2 ⌝ }
     ensures { λ r. ⌜ r ≡ upto (λ j. filteredAt (now (src .entry)) (eightAt w k j) t (priIn s sh near) (secIn s2 sh2)) 16 ⌝ }
 {
     let c = run(src, w, k);
@@ -115,7 +115,7 @@ fn both(
 // Stores them from index `to` on.
 fn store(dst: &mut [u16], w: usize, to: usize, v: [u8; 16])
     requires { ⌜ (to + (w + 8) ≤ length (now dst)) × (w ≤ 4096) ⌝ }
-    ensures { λ _. ⌜ now (dst .exit) ≡ placedRows (now (dst .entry)) w to v 2 ⌝ }
+    ensures { λ _. ⌜ now (dst .exit) ≡ placedRows8 (now (dst .entry)) w to v 2 ⌝ }
 {
     for i in 0..2usize {
         let at = to + i * w;
@@ -141,7 +141,7 @@ pub fn rows(
     s2: u16,
     sh2: u32,
 )
-    requires { ⌜ AllByte (now src) × (w ≤ 4096) × (n ≤ 4) × Eighth s sh near s2 sh2 ⌝ }
+    requires { ⌜ AllByte (now src) × (w ≤ 4096) × (n ≤ 4) × Strong8 s sh near s2 sh2 ⌝ }
     requires { ⌜ ((i : ℕ) → i < n → Around (length (now src)) (at + 2 * i * w) (w + 8) t × (to + 2 * i * w + (w + 8) ≤ length (now dst))) ⌝ }
     ensures { λ _. ⌜ Stored (now (src .entry)) (now (dst .entry)) (now (dst .exit)) w at to t (priIn s sh near) (secIn s2 sh2) 8 (2 * n) ⌝ }
 {

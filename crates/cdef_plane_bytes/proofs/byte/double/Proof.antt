@@ -1,7 +1,7 @@
 -- `cdef_plane_bytes::byte::double` meets its contract.
 use mathlib.Core.Path.{refl}
 use native.Mathlib.Omega.{arith}
-use Rattle.cdef_plane_bytes.specs.Byte.{doubled}
+use Rattle.cdef_plane_bytes.specs.Byte.{weighSec}
 use borrow.Author.Needs.{needs}
 use Rattle.cdef_plane_bytes.proofs.byte.double.Statement.{statement}
 use Rattle.cdef_plane_bytes.proofs.byte.double.Tie as tie
@@ -15,7 +15,7 @@ add-result-2 : tie.Need-add-result-2
 add-result-2 c = search needs
 
 returns : tie.Need-returns
-unfolding doubled
+unfolding weighSec
 returns c = (refl, omega (arith, c .pre .0, c .pre .1))
 
 pub double-spec : {M : Type 1} → statement M

@@ -1,5 +1,5 @@
 -- `cdef_plane_bytes::byte::left` meets its contract.
-use Rattle.cdef_plane_bytes.specs.Byte.{leftOf}
+use Rattle.cdef_plane_bytes.specs.Byte.{excessOf}
 use borrow.Author.Needs.{needs}
 use Rattle.cdef_plane_bytes.proofs.byte.left.Statement.{statement}
 use Rattle.cdef_plane_bytes.proofs.byte.left.Tie as tie
@@ -14,7 +14,7 @@ add-result : tie.Need-add-result
 add-result c = search needs
 
 returns : tie.Need-returns
-unfolding leftOf
+unfolding excessOf
 returns c = rw (c .less .ensures)
 
 pub left-spec : {M : Type 1} → statement M

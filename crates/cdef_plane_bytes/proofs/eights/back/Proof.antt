@@ -5,7 +5,7 @@ use lib.ListN.{getD}
 use Prim.Native.Nat.{ℕ}
 use Rattle.cdef_sample.specs.Upto.{upto-ext}
 use Rattle.cdef_rows.specs.Place.{backFrom}
-use Rattle.cdef_plane_bytes.specs.Eights.{centreRun, backRun}
+use Rattle.cdef_plane_bytes.specs.Eights.{centreRun8, backRun8}
 use Rattle.cdef_plane_rows.specs.ReachLaws.{back-any, back-run}
 use Rattle.cdef_plane_bytes.specs.EightLaws.{back-eight}
 use borrow.Author.Needs.{needs}
@@ -26,7 +26,7 @@ run-requires : tie.Need-run-requires
 run-requires c κs = let s = c .before .before in (omega (arith, back-is c, back-run (s .pre .1)), s .pre .0, s .pre .2)
 
 returns : tie.Need-returns
-unfolding backRun centreRun
+unfolding backRun8 centreRun8
 returns c = let s = c .before .before .before in
     let a = s .args in
     c .run .ensures ∙ upto-ext _ _ 16 (λ j l. rw (back-is (c .before), ← back-eight (a .w) (s .pre .1) j l))

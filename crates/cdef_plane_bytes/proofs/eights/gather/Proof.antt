@@ -6,7 +6,7 @@ use native.Mathlib.Nat.{mul-le-mul-right}
 use native.Mathlib.Omega.{arith}
 use lib.ListN.{length, take, getD, length-set}
 use Rattle.cdef_sample.specs.Upto.{upto, upto-none, upto-more, upto-at, upto-all}
-use Rattle.cdef_plane_bytes.specs.Eights.{eightAt, centreRun}
+use Rattle.cdef_plane_bytes.specs.Eights.{eightAt, centreRun8}
 use Rattle.cdef_plane_bytes.specs.EightLaws.{eight-place}
 use Rattle.cdef_plane_bytes.proofs.eights.gather.Statement.{statement}
 use Rattle.cdef_plane_bytes.proofs.eights.gather.Tie as tie
@@ -81,7 +81,7 @@ loop-again : tie.Need-loop-again Inv-loop2 μ-loop2 Inv-loop μ-loop
 loop-again c = let p = c .before .loop2 in (upto-at _ _ _ _ (omega arith) (p .inv .0), p .inv .1, omega arith)
 
 returns : tie.Need-returns Inv-loop2 μ-loop2 Inv-loop μ-loop
-unfolding centreRun
+unfolding centreRun8
 returns c = let p = c .before in upto-all _ _ 16 _ (p .loop .inv .0) (p .loop .inv .1) (omega arith)
 
 pub gather-spec : {M : Type 1} → statement M

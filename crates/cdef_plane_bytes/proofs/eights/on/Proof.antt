@@ -5,7 +5,7 @@ use lib.ListN.{getD}
 use Prim.Native.Nat.{ℕ}
 use Rattle.cdef_sample.specs.Upto.{upto-ext}
 use Rattle.cdef_rows.specs.Place.{onFrom}
-use Rattle.cdef_plane_bytes.specs.Eights.{centreRun, onRun}
+use Rattle.cdef_plane_bytes.specs.Eights.{centreRun8, onRun8}
 use Rattle.cdef_plane_rows.specs.ReachLaws.{on-run}
 use Rattle.cdef_plane_bytes.specs.EightLaws.{on-eight}
 use borrow.Author.Needs.{needs}
@@ -27,7 +27,7 @@ run-requires : tie.Need-run-requires
 run-requires c κs = let s = c .before .before in (omega (arith, on-is c, on-run (s .pre .1)), s .pre .0, s .pre .2)
 
 returns : tie.Need-returns
-unfolding onRun centreRun
+unfolding onRun8 centreRun8
 returns c = let s = c .before .before .before in
     let a = s .args in
     c .run .ensures ∙ upto-ext _ _ 16 (λ j l. rw (on-is (c .before), ← on-eight (a .w) (s .pre .1) j l))

@@ -5,7 +5,7 @@ use Prim.Native.Nat.{ℕ, _-_, _≤_}
 use native.Mathlib.Omega.{arith}
 use lib.ListN.{length, take, getD, length-set}
 use Rattle.cdef_sample.specs.Upto.{upto, upto-none, upto-more, upto-all}
-use Rattle.cdef_plane_bytes.specs.Eights.{eightAt, centreRun}
+use Rattle.cdef_plane_bytes.specs.Eights.{eightAt, centreRun8}
 use Rattle.cdef_plane_bytes.specs.EightLaws.{run-byte, centre-is}
 use Rattle.cdef_plane_bytes.proofs.eights.run.Statement.{statement}
 use Rattle.cdef_plane_bytes.proofs.eights.run.Tie as tie
@@ -50,7 +50,7 @@ loop-again c = let p = c .before .before .loop in
     (upto-more _ _ _ _ (p .inv .0) (omega arith) (c .narrow .ensures ∙ (ap (λ (l : List ℕ). getD l (p .j) 0) (c .before .before .before .gather .ensures) ∙ centre-is (a .src .now) (a .w) (a .k) (p .j) (omega arith))), simp length-set (p .inv .1), omega arith)
 
 returns : tie.Need-returns Inv-loop μ-loop
-unfolding centreRun
+unfolding centreRun8
 returns c = let p = c .before in upto-all _ _ 16 _ (p .loop .inv .0) (p .loop .inv .1) (omega arith)
 
 pub run-spec : {M : Type 1} → statement M

@@ -7,7 +7,7 @@ use native.Mathlib.Nat.{mul-le-mul-right}
 use native.Mathlib.Omega.{arith}
 use lib.ListN.{length, getD, set, length-set}
 use Rattle.cdef_plane_rows.specs.Rows.{placed}
-use Rattle.cdef_plane_bytes.specs.Eights.{placedRows}
+use Rattle.cdef_plane_bytes.specs.Eights.{placedRows8}
 use Rattle.cdef_plane_rows.specs.StoreLaws.{placed-none, placed-more}
 use Rattle.cdef_plane_bytes.specs.EightLaws.{rows-none, rows-more}
 use borrow.Author.Needs.{needs}
@@ -19,7 +19,7 @@ use Rattle.cdef_plane_bytes.proofs.eights.store.Lts as lts
 step : (d l v : List ℕ) (at from j : ℕ) → d ≡ placed l at v from j → set d (at + j) (getD v (from + j) 0) ≡ placed l at v from (j + 1)
 step d l v at from j e = rw (placed-more l at v from j, e)
 
-row : (l d last v : List ℕ) (w to i : ℕ) → d ≡ placedRows l w to v i → last ≡ placed d (to + i * w) v (i * 8) 8 → last ≡ placedRows l w to v (i + 1)
+row : (l d last v : List ℕ) (w to i : ℕ) → d ≡ placedRows8 l w to v i → last ≡ placed d (to + i * w) v (i * 8) 8 → last ≡ placedRows8 l w to v (i + 1)
 row l d last v w to i e h = h ∙ rw (rows-more l w to v i, e)
 
 abbrev Inv-loop2 : tie.InvT-loop2
@@ -29,7 +29,7 @@ abbrev μ-loop2 : tie.MeasureT-loop2
 μ-loop2 dst₀ w to v i at from j₀ dst j = 8 - j
 
 abbrev Inv-loop : tie.InvT-loop
-Inv-loop dst₀ w to v i₀ dst i = (dst ≡ placedRows dst₀ w to v i) × (length dst ≡ length dst₀) × (i ≤ 2)
+Inv-loop dst₀ w to v i₀ dst i = (dst ≡ placedRows8 dst₀ w to v i) × (length dst ≡ length dst₀) × (i ≤ 2)
 
 abbrev μ-loop : tie.MeasureT-loop
 μ-loop dst₀ w to v i₀ dst i = 2 - i

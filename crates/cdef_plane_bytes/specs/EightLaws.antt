@@ -1,4 +1,4 @@
--- Two rows of eight samples: where they lie, and what is stored of them.
+-- Two rows of eight samples: where they lie, and what is kept of them.
 use mathlib.Core.Path.{_≡_, refl, sym, ap, _∙_}
 use mathlib.Core.List.{List}
 use Prim.Native.Nat.{ℕ, zero, suc, _+_, _-_, _*_, _/_, _%_, _≤_, _<_}
@@ -7,9 +7,7 @@ use native.Mathlib.Numerals.{add-one}
 use native.Mathlib.Omega.{arith}
 use native.Mathlib.Decide.{decLe}
 use mathlib.Core.Logic.{inl, inr}
-use lib.ListN.{getD, set}
-use Rattle.cdef_spec.specs.LoopForm.{putBlock}
-use Rattle.cdef_spec.specs.PlaneLaws.{block-more}
+use lib.ListN.{getD, length}
 use Rattle.cdef_sample.specs.Upto.{upto, getD-upto, upto-ext}
 use Rattle.cdef_rows.specs.Place.{onFrom, backFrom}
 use Rattle.cdef_rows.specs.Pairs.{pairOf}
@@ -19,13 +17,13 @@ use Rattle.cdef_rows.specs.declared.Strength.{Strength}
 use Rattle.cdef_kernel.specs.Kernel.{kernelAt}
 use Rattle.cdef_plane_taps.specs.Plain.{AllLow}
 use Rattle.cdef_plane_taps.specs.PlainLaws.{both-plain}
-use Rattle.cdef_plane_rows.specs.Rows.{Along, priIn, secIn, placed, insideTap}
+use Rattle.cdef_plane_rows.specs.Rows.{Along, priIn, secIn, placed, KernelRows}
 use Rattle.cdef_plane_rows.specs.ReachLaws.{on-along, back-along}
 use Rattle.cdef_plane_rows.specs.LaneLaws.{kernel-both}
-use Rattle.cdef_plane_rows.specs.StoreLaws.{row-inside}
+use Rattle.cdef_plane_rows.specs.StoreLaws.{kept}
 use Rattle.cdef_plane_bytes.specs.Byte.{Mask, bothOf}
 use Rattle.cdef_plane_bytes.specs.FinishLaws.{both-is}
-use Rattle.cdef_plane_bytes.specs.Eights.{AllByte, Strong8, eightAt, centreRun8, onRun8, backRun8, placedRows8}
+use Rattle.cdef_plane_bytes.specs.Eights.{AllByte, Strong8, eightAt, centreRun8, onRun8, backRun8}
 
 -- ---- strengths
 
@@ -116,48 +114,18 @@ module _ (l : List ℕ) (b : AllByte l) (w k : ℕ) (t : Taps) (s sh near s2 sh2
   pub both-eight : {r c a0 b0 a1 b1 a2 b2 a3 b3 a4 b4 a5 b5 : List ℕ} {odd : ℕ} → c ≡ centreRun8 l w k → a0 ≡ onRun8 l w k (t .p0) → b0 ≡ backRun8 l w k (t .p0) → a1 ≡ onRun8 l w k (t .p1) → b1 ≡ backRun8 l w k (t .p1) → a2 ≡ onRun8 l w k (t .q0) → b2 ≡ backRun8 l w k (t .q0) → a3 ≡ onRun8 l w k (t .q1) → b3 ≡ backRun8 l w k (t .q1) → a4 ≡ onRun8 l w k (t .r0) → b4 ≡ backRun8 l w k (t .r0) → a5 ≡ onRun8 l w k (t .r1) → b5 ≡ backRun8 l w k (t .r1) → odd ≡ (4 - near) * 255 → r ≡ upto (λ n. bothOf (getD a0 n 0) (getD b0 n 0) (getD a1 n 0) (getD b1 n 0) (getD a2 n 0) (getD b2 n 0) (getD a3 n 0) (getD b3 n 0) (getD a4 n 0) (getD b4 n 0) (getD a5 n 0) (getD b5 n 0) (getD c n 0) s sh odd s2 sh2) 16 → r ≡ upto (λ n. filteredAt l (eightAt w k n) t (priIn s sh near) (secIn s2 sh2)) 16
   both-eight e0 e1 e2 e3 e4 e5 e6 e7 e8 e9 e10 e11 e12 eo er = er ∙ rw (e0, e1, e2, e3, e4, e5, e6, e7, e8, e9, e10, e11, e12, eo) (upto-ext _ _ 16 one)
 
--- ---- what is stored
+-- ---- what is kept
 
-module _ (d : List ℕ) (w to : ℕ) (v : List ℕ) where
-  pub rows-none : placedRows8 d w to v 0 ≡ d
-  unfolding placedRows8
-  rows-none = refl
-
-  pub rows-more : (n : ℕ) → placedRows8 d w to v (n + 1) ≡ placed (placedRows8 d w to v n) (to + n * w) v (n * 8) 8
-  unfolding placedRows8
-  rows-more n = rw (add-one n)
-
-  rows-two : placedRows8 d w to v 2 ≡ placed (placed d to v 0 8) (to + w) v 8 8
-  unfolding placedRows8
-  rows-two =
-      let a : to + 0 * w ≡ to = omega arith in
-      let b : to + 1 * w ≡ to + w = omega arith in
-      rw (a, b)
-
-placed-from : (d : List ℕ) (to : ℕ) (v u : List ℕ) (from n : ℕ) → ((j : ℕ) → j < n → getD v (from + j) 0 ≡ getD u (0 + j) 0) → placed d to v from n ≡ placed d to u 0 n
-unfolding placed
-placed-from d to v u from zero h = refl
-placed-from d to v u from (suc n) h = rw (placed-from d to v u from n (λ j l. h j (omega arith)), h n (omega arith))
-
-module _ (l : List ℕ) (b : AllByte l) (w at : ℕ) (t : Taps) (f g : Strength) (rf : InRange f) (rg : InRange g) (nf : f .s ≡ 0 → ⊥) (ng : g .s ≡ 0 → ⊥) where
+module _ (l : List ℕ) (w at : ℕ) (t : Taps) (f g : Strength) (nf : f .s ≡ 0 → ⊥) (ng : g .s ≡ 0 → ⊥) where
   -- row r of the block is row i of the sixteen
-  row-of : (v : List ℕ) (k r i j : ℕ) → v ≡ upto (λ n. filteredAt l (eightAt w k n) t f g) 16 → k + i * w ≡ at + r * w → i < 2 → j < 8 → getD v (i * 8 + j) 0 ≡ getD (upto (λ (j : ℕ). kernelAt l (at + r * w + j) t f g) 8) (0 + j) 0
+  row-of : (v : List ℕ) (k r i j : ℕ) → v ≡ upto (λ n. filteredAt l (eightAt w k n) t f g) 16 → k + i * w ≡ at + r * w → i < 2 → j < 8 → getD v (i * 8 + j) 0 ≡ kernelAt l (at + r * w + j) t f g
   row-of v k r i j e p hi hj =
-      let z : 0 + j ≡ j = omega arith in
       let q : k + i * w + j ≡ at + r * w + j = omega arith in
-      rw e (getD-upto (λ (n : ℕ). filteredAt l (eightAt w k n) t f g) 16 (i * 8 + j) 0 (omega arith) ∙ ap (λ (n : ℕ). filteredAt l n t f g) (eight-place w k i j hj ∙ q) ∙ kernel-both l (at + r * w + j) t f g nf ng ∙ sym (rw z (getD-upto (λ (j : ℕ). kernelAt l (at + r * w + j) t f g) 8 j 0 hj)))
-
-  row-stored : (d₀ d last v : List ℕ) (to k r i y x : ℕ) → to ≡ y * w + x → v ≡ upto (λ n. filteredAt l (eightAt w k n) t f g) 16 → k + i * w ≡ at + r * w → i < 2 → d ≡ putBlock d₀ w (insideTap l w at t f g y x) y x 8 r → last ≡ placed d (to + r * w) v (i * 8) 8 → last ≡ putBlock d₀ w (insideTap l w at t f g y x) y x 8 (r + 1)
-  row-stored d₀ d last v to k r i y x e ev p hi ed h =
-      h ∙ placed-from d (to + r * w) v (upto (λ (j : ℕ). kernelAt l (at + r * w + j) t f g) 8) (i * 8) 8 (λ j hj. row-of v k r i j ev p hi hj)
-      ∙ row-inside l (low-of b) w at t f g rf rg d (upto (λ (j : ℕ). kernelAt l (at + r * w + j) t f g) 8) to y x r e refl
-      ∙ rw (block-more d₀ w (insideTap l w at t f g y x) y x 8 r, ed)
+      rw e (getD-upto (λ (n : ℕ). filteredAt l (eightAt w k n) t f g) 16 (i * 8 + j) 0 (omega arith) ∙ ap (λ (n : ℕ). filteredAt l n t f g) (eight-place w k i j hj ∙ q) ∙ kernel-both l (at + r * w + j) t f g nf ng)
 
   -- two rows more
-  pub two-stored : (d₀ d last v : List ℕ) (to i : ℕ) → v ≡ upto (λ n. filteredAt l (eightAt w (at + 2 * i * w) n) t f g) 16 → ((y x : ℕ) → to ≡ y * w + x → d ≡ putBlock d₀ w (insideTap l w at t f g y x) y x 8 (2 * i)) → last ≡ placedRows8 d w (to + 2 * i * w) v 2 → (y x : ℕ) → to ≡ y * w + x → last ≡ putBlock d₀ w (insideTap l w at t f g y x) y x 8 (2 * (i + 1))
-  two-stored d₀ d last v to i ev inv h y x e =
-      let a : to + 2 * i * w + w ≡ to + (2 * i + 1) * w = omega arith in
-      let n : 2 * i + 1 + 1 ≡ 2 * (i + 1) = omega arith in
-      let m = row-stored d₀ d (placed d (to + 2 * i * w) v 0 8) v to (at + 2 * i * w) (2 * i) 0 y x e ev (omega arith) (omega arith) (inv y x e) refl in
-      row-stored d₀ (placed d (to + 2 * i * w) v 0 8) last v to (at + 2 * i * w) (2 * i + 1) 1 y x e ev (omega arith) (omega arith) m (h ∙ rows-two d w (to + 2 * i * w) v ∙ rw a)
-      ∙ rw n
+  pub two-kept : (all last v : List ℕ) (i : ℕ) → v ≡ upto (λ n. filteredAt l (eightAt w (at + 2 * i * w) n) t f g) 16 → length all ≡ 64 → i < 4 → KernelRows l all w at t f g 8 (2 * i) → last ≡ placed all (i * 16) v 0 16 → KernelRows l last w at t f g 8 (2 * (i + 1))
+  two-kept all last v i ev size hi old h =
+      let s : i * 16 ≡ 2 * i * 8 = omega arith in
+      let n : 2 * i + 2 ≡ 2 * (i + 1) = omega arith in
+      rw n at (kept l w at t f g all last v (2 * i) 2 old (λ r j hr hj. row-of v (at + 2 * i * w) (2 * i + r) r j ev (omega arith) hr hj) (omega arith) (h ∙ rw s))

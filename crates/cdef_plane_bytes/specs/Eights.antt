@@ -5,7 +5,6 @@ use Prim.Native.Nat.{ℕ, zero, suc, _+_, _*_, _/_, _%_, _≤_, _<_}
 use lib.ListN.{getD}
 use Rattle.cdef_sample.specs.Upto.{upto}
 use Rattle.cdef_rows.specs.Place.{onFrom, backFrom}
-use Rattle.cdef_plane_rows.specs.Rows.{placed}
 
 -- every sample of l is below 256, so that none is marked
 pub record AllByte (l : List ℕ) : Type 0 where
@@ -35,8 +34,3 @@ onRun8 l w k o = upto (λ j. getD l (onFrom (eightAt w k j) o) 0) 16
 
 unfoldable pub backRun8 : List ℕ → ℕ → ℕ → ℕ → List ℕ
 backRun8 l w k o = upto (λ j. getD l (backFrom (eightAt w k j) o) 0) 16
-
--- n rows of eight entries of v, stored from index `to` on
-unfoldable pub placedRows8 : List ℕ → ℕ → ℕ → List ℕ → ℕ → List ℕ
-placedRows8 d w to v zero = d
-placedRows8 d w to v (suc n) = placed (placedRows8 d w to v n) (to + n * w) v (n * 8) 8

@@ -4,8 +4,8 @@ ghost use Prim.Native.Nat.{ℕ, _+_, _-_, _*_, _≤_, _<_};
 ghost use lib.ListN.{getD, length};
 ghost use Rattle.cdef_sample.specs.Upto.{upto};
 ghost use Rattle.cdef_rows.specs.Sums.{filteredAt};
-ghost use Rattle.cdef_plane_rows.specs.Rows.{Along, Around, priIn, secIn, Stored};
-ghost use Rattle.cdef_plane_bytes.specs.Eights.{AllByte, Strong8, eightAt, centreRun8, onRun8, backRun8, placedRows8};
+ghost use Rattle.cdef_plane_rows.specs.Rows.{Along, Around, priIn, secIn, placed, Stored};
+ghost use Rattle.cdef_plane_bytes.specs.Eights.{AllByte, Strong8, eightAt, centreRun8, onRun8, backRun8};
 use crate::byte;
 use crate::lanes;
 use cdef_rows::Taps;
@@ -112,17 +112,13 @@ fn both(
     )
 }
 
-// Stores them from index `to` on.
-fn store(dst: &mut [u16], w: usize, to: usize, v: [u8; 16])
-    requires { ⌜ (to + (w + 8) ≤ length (now dst)) × (w ≤ 4096) ⌝ }
-    ensures { λ _. ⌜ now (dst .exit) ≡ placedRows8 (now (dst .entry)) w to v 2 ⌝ }
+// Keeps them among a block's samples, from index `to` on.
+fn keep(all: &mut [u16; 64], to: usize, v: [u8; 16])
+    requires { ⌜ to ≤ 48 ⌝ }
+    ensures { λ _. ⌜ now (all .exit) ≡ placed (now (all .entry)) to v 0 16 ⌝ }
 {
-    for i in 0..2usize {
-        let at = to + i * w;
-        let from = i * 8;
-        for j in 0..8usize {
-            dst[at + j] = v[from + j] as u16;
-        }
+    for j in 0..16usize {
+        all[to + j] = v[j] as u16;
     }
 }
 
@@ -145,8 +141,10 @@ pub fn rows(
     requires { ⌜ ((i : ℕ) → i < n → Around (length (now src)) (at + 2 * i * w) (w + 8) t × (to + 2 * i * w + (w + 8) ≤ length (now dst))) ⌝ }
     ensures { λ _. ⌜ Stored (now (src .entry)) (now (dst .entry)) (now (dst .exit)) w at to t (priIn s sh near) (secIn s2 sh2) 8 (2 * n) ⌝ }
 {
+    let mut all = [0u16; 64];
     for i in 0..n {
         let v = both(src, w, at + 2 * i * w, t, s, sh, near, s2, sh2);
-        store(dst, w, to + 2 * i * w, v);
+        keep(&mut all, i * 16, v);
     }
+    cdef_plane_rows::eights::store(dst, w, to, &all, 2 * n);
 }

@@ -134,10 +134,14 @@ unfoldable pub placed : List ℕ → ℕ → List ℕ → ℕ → ℕ → List �
 placed d to v from zero = d
 placed d to v from (suc n) = set (placed d to v from n) (to + n) (getD v (from + n) 0)
 
--- n rows of four
-unfoldable pub placedRows : List ℕ → ℕ → ℕ → List ℕ → ℕ → List ℕ
-placedRows d w to v zero = d
-placedRows d w to v (suc n) = placed (placedRows d w to v n) (to + n * w) v (n * 4) 4
+-- n rows of m
+unfoldable pub placedRows : List ℕ → ℕ → ℕ → List ℕ → ℕ → ℕ → List ℕ
+placedRows d w to v m zero = d
+placedRows d w to v m (suc n) = placed (placedRows d w to v m n) (to + n * w) v (n * m) m
+
+-- v has the kernel's samples of n rows of m, from index `at` of the plane on
+pub record KernelRows (l v : List ℕ) (w at : ℕ) (t : Taps) (f g : Strength) (m n : ℕ) : Type 0 where
+  pub all : (i j : ℕ) → i < n → j < m → getD v (i * m + j) 0 ≡ kernelAt l (at + i * w + j) t f g
 
 -- the kernel's samples from index `at` of the plane on, as the destination's from row y and column x on
 unfoldable pub insideTap : List ℕ → ℕ → ℕ → Taps → Strength → Strength → ℕ → ℕ → ℕ → ℕ → Tap

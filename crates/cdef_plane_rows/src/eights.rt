@@ -9,7 +9,7 @@ ghost use Rattle.cdef_rows.specs.Sums.{InRange, priAt, secAt, filteredAt};
 ghost use Rattle.cdef_kernel.specs.Kernel.{kernelAt};
 ghost use Rattle.cdef_plane_taps.specs.Plain.{AllLow};
 ghost use Rattle.cdef_plane_taps.specs.Steps.{tapsIn};
-ghost use Rattle.cdef_plane_rows.specs.Rows.{Reached, Reached6, Around, Strong, priIn, secIn, placed, Stored};
+ghost use Rattle.cdef_plane_rows.specs.Rows.{Reached, Reached6, Around, Strong, priIn, secIn, placed, placedRows, Stored};
 use cdef_plane_taps::plain;
 use cdef_rows::Strength;
 use cdef_rows::Taps;
@@ -127,13 +127,27 @@ fn row(src: &[u16], k: usize, t: Taps, f: Strength, g: Strength) -> [u16; 8]
     both_row(src, k, t, f, g)
 }
 
-// Stores a row from index `to` on.
-fn store(dst: &mut [u16], to: usize, row: [u16; 8])
-    requires { ⌜ to + 8 ≤ length (now dst) ⌝ }
-    ensures { λ _. ⌜ now (dst .exit) ≡ placed (now (dst .entry)) to row 0 8 ⌝ }
+// Keeps a row among a block's samples, from index `to` on.
+fn keep(all: &mut [u16; 64], to: usize, row: [u16; 8])
+    requires { ⌜ to ≤ 56 ⌝ }
+    ensures { λ _. ⌜ now (all .exit) ≡ placed (now (all .entry)) to row 0 8 ⌝ }
 {
     for j in 0..8usize {
-        dst[to + j] = row[j];
+        all[to + j] = row[j];
+    }
+}
+
+// Stores n rows of a block's samples from index `to` on. They are stored once all are computed: where a destination and its plane have the same address modulo 4,096, a load that follows a store to such an address waits for it.
+pub fn store(dst: &mut [u16], w: usize, to: usize, all: &[u16; 64], n: usize)
+    requires { ⌜ (n ≤ 8) × ((i : ℕ) → i < n → to + i * w + 8 ≤ length (now dst)) ⌝ }
+    ensures { λ _. ⌜ now (dst .exit) ≡ placedRows (now (dst .entry)) w to (now (all .entry)) 8 n ⌝ }
+{
+    for i in 0..n {
+        let at = to + i * w;
+        let from = i * 8;
+        for j in 0..8usize {
+            dst[at + j] = all[from + j];
+        }
     }
 }
 
@@ -169,8 +183,10 @@ pub fn rows(
         w0: 2,
         w1: 1,
     };
+    let mut all = [0u16; 64];
     for i in 0..n {
         let v = row(src, at + i * w, t, f, g);
-        store(dst, to + i * w, v);
+        keep(&mut all, i * 8, v);
     }
+    store(dst, w, to, &all, n);
 }

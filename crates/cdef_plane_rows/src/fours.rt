@@ -126,7 +126,7 @@ fn four(src: &[u16], w: usize, k: usize, t: Taps, f: Strength, g: Strength) -> [
 // Stores them from index `to` on.
 fn store(dst: &mut [u16], w: usize, to: usize, v: [u16; 16])
     requires { ⌜ (to + (3 * w + 4) ≤ length (now dst)) × (w ≤ 4096) ⌝ }
-    ensures { λ _. ⌜ now (dst .exit) ≡ placedRows (now (dst .entry)) w to v 4 ⌝ }
+    ensures { λ _. ⌜ now (dst .exit) ≡ placedRows (now (dst .entry)) w to v 4 4 ⌝ }
 {
     for i in 0..4usize {
         let at = to + i * w;

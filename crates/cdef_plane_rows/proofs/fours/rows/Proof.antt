@@ -23,7 +23,7 @@ use Rattle.cdef_plane_rows.proofs.fours.four.Reads as four-reads
 use Rattle.cdef_plane_rows.proofs.fours.store.Reads as store-reads
 use Rattle.cdef_plane_taps.proofs.steps.taps.Reads as taps-reads
 
-glue : (l d last v : List ℕ) (low : AllLow l) (w at to : ℕ) (t u : Taps) (f g : Strength) → InRange f → InRange g → t ≡ u → v ≡ upto (λ (j : ℕ). kernelAt l (fourAt w at j) t f g) 16 → last ≡ placedRows d w to v 4 → (y x : ℕ) → to ≡ y * w + x → last ≡ putBlock d w (insideTap l w at u f g y x) y x 4 4
+glue : (l d last v : List ℕ) (low : AllLow l) (w at to : ℕ) (t u : Taps) (f g : Strength) → InRange f → InRange g → t ≡ u → v ≡ upto (λ (j : ℕ). kernelAt l (fourAt w at j) t f g) 16 → last ≡ placedRows d w to v 4 4 → (y x : ℕ) → to ≡ y * w + x → last ≡ putBlock d w (insideTap l w at u f g y x) y x 4 4
 glue l d last v low w at to t u f g rf rg et ev h y x e = h ∙ four-inside l low w at u f g rf rg d v to y x e (ev ∙ rw et)
 
 taps-requires : tie.Need-taps-requires

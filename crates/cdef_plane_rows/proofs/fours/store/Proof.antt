@@ -16,8 +16,8 @@ use Rattle.cdef_plane_rows.proofs.fours.store.Lts as lts
 step : (d l v : List ℕ) (at from j : ℕ) → d ≡ placed l at v from j → set d (at + j) (getD v (from + j) 0) ≡ placed l at v from (j + 1)
 step d l v at from j e = rw (placed-more l at v from j, e)
 
-row : (l d last v : List ℕ) (w to i : ℕ) → d ≡ placedRows l w to v i → last ≡ placed d (to + i * w) v (i * 4) 4 → last ≡ placedRows l w to v (i + 1)
-row l d last v w to i e h = h ∙ rw (rows-more l w to v i, e)
+row : (l d last v : List ℕ) (w to i : ℕ) → d ≡ placedRows l w to v 4 i → last ≡ placed d (to + i * w) v (i * 4) 4 → last ≡ placedRows l w to v 4 (i + 1)
+row l d last v w to i e h = h ∙ rw (rows-more l w to v 4 i, e)
 
 abbrev Inv-loop2 : tie.InvT-loop2
 Inv-loop2 dst₀ w to v i at from j₀ dst j = (dst ≡ placed dst₀ at v from j) × (length dst ≡ length dst₀) × (j ≤ 4)
@@ -26,13 +26,13 @@ abbrev μ-loop2 : tie.MeasureT-loop2
 μ-loop2 dst₀ w to v i at from j₀ dst j = 4 - j
 
 abbrev Inv-loop : tie.InvT-loop
-Inv-loop dst₀ w to v i₀ dst i = (dst ≡ placedRows dst₀ w to v i) × (length dst ≡ length dst₀) × (i ≤ 4)
+Inv-loop dst₀ w to v i₀ dst i = (dst ≡ placedRows dst₀ w to v 4 i) × (length dst ≡ length dst₀) × (i ≤ 4)
 
 abbrev μ-loop : tie.MeasureT-loop
 μ-loop dst₀ w to v i₀ dst i = 4 - i
 
 loop-holds : tie.Need-loop-holds Inv-loop2 μ-loop2 Inv-loop μ-loop
-loop-holds c = (sym (rows-none _ _ _ _), refl, omega arith)
+loop-holds c = (sym (rows-none _ _ _ _ _), refl, omega arith)
 
 mul-at : tie.Need-mul-at Inv-loop2 μ-loop2 Inv-loop μ-loop
 mul-at c = omega (arith, row-low (c .before .before .args .w) (c .before .loop .i) (omega arith), c .before .before .pre .0)

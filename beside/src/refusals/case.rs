@@ -108,6 +108,14 @@ impl Call {
     pub fn lent(self) -> impl Iterator<Item = Slot> {
         self.written().iter().chain(self.shared()).copied()
     }
+
+    /// Those that are passed with a length; the others are single numbers.
+    pub fn slices(self) -> impl Iterator<Item = Slot> {
+        let has_length = move |slot: &Slot| {
+            self.is_frame() || matches!(slot, Slot::Plane | Slot::Other | Slot::Dst)
+        };
+        self.lent().filter(has_length)
+    }
 }
 
 /// Every number of every call, in the entries' names; a call is passed its own.

@@ -9,18 +9,18 @@ use crate::{entry, model, stopped};
 /// How many differences of a call are printed.
 const SHOWN: u64 = 5;
 
-/// Makes the call, and compares its error code and the lists passed to it. The sides of the guards
-/// are drawn.
+/// Makes the call, and compares its error code and the lists passed to it, and counts the pages of
+/// overlong lists that it touched. The sides of the guards are drawn.
 pub fn run(c: &mut Case, number: u64, drawn: u64, options: &Options, counts: &mut Counts) {
-    let call = c.call;
+    let (call, overlong) = (c.call, counts.overlong);
     let right = model::first_no(c);
-    let plant = acting(options, call, number, right);
+    let plant = acting(options, call, number, right, overlong);
     let due = match plant {
         Some(Plant::Model(_)) => 0,
         _ => right,
     };
     lend(c, drawn, plant);
-    let got = stopped::during(call, number, || entry::answer(c));
+    let got = stopped::during(call, number, overlong, || entry::answer(c));
     let altered = match plant {
         // Not every element is there to compare.
         Some(Plant::Read | Plant::Before) => None,
@@ -30,26 +30,33 @@ pub fn run(c: &mut Case, number: u64, drawn: u64, options: &Options, counts: &mu
         }
         _ => altered(c, got),
     };
-    call.lent().for_each(|slot| c.list(slot).give_back());
+    if plant == Some(Plant::Touch) {
+        counts.planted += 1;
+        touch(c, right, drawn);
+    }
+    let touched = touched(c, right, overlong);
     counts.due[right as usize] += 1;
     counts.planted += u64::from(due != right);
-    if got != due || altered.is_some() {
+    counts.touched += touched.iter().map(|(_, pages)| *pages as u64).sum::<u64>();
+    if got != due || altered.is_some() || !touched.is_empty() {
         counts.different += 1;
         if counts.different <= SHOWN {
-            let (name, seed) = (call.name(), options.seed);
-            print!("DIFFERENT {name}:{number}, seed {seed}: got {got}, expected {due}, ");
-            println!("altered {altered:?}, {c:?}");
+            let (of, name, seed) = (stopped::kind(overlong), call.name(), options.seed);
+            print!("DIFFERENT {of}{name}:{number}, seed {seed}: got {got}, expected {due}, ");
+            println!("altered {altered:?}, pages touched {touched:?}, {c:?}");
         }
     }
+    call.lent().for_each(|slot| c.list(slot).give_back());
 }
 
 /// The plant, where it acts in this case.
-fn acting(options: &Options, call: Call, number: u64, right: u32) -> Option<Plant> {
+fn acting(options: &Options, call: Call, number: u64, right: u32, overlong: bool) -> Option<Plant> {
     let (plant, of) = options.plant?;
     let acts = match plant {
         Plant::Model(question) => right == question && number.is_multiple_of(3),
-        Plant::Read | Plant::Before => right == 0,
-        Plant::Write => number.is_multiple_of(3),
+        Plant::Read | Plant::Before => right == 0 && !overlong,
+        Plant::Write => number.is_multiple_of(3) && !overlong,
+        Plant::Touch => overlong,
     };
     (of == call && acts).then_some(plant)
 }
@@ -84,4 +91,32 @@ fn spoil(c: &mut Case, got: u32, drawn: u64) -> bool {
     slots.retain(|slot| c.list(*slot).len() > 0);
     let chosen = slots.get(drawn as usize % slots.len().max(1));
     chosen.inspect(|slot| c.list(**slot).spoil()).is_some()
+}
+
+/// Touches one page of an overlong list; in a call that is accepted none that may be touched.
+fn touch(c: &mut Case, right: u32, drawn: u64) {
+    let mut slots: Vec<Slot> = c.call.slices().collect();
+    slots.retain(|slot| c.list(*slot).is_overlong());
+    let list = c.list(slots[drawn as usize % slots.len()]);
+    let first = if right == 0 { list.len() / 2 } else { 0 };
+    list.touch(first + (drawn >> 8) as usize % (list.len() - first));
+}
+
+/// Which overlong lists were touched, and how many pages of each. A call that is accepted may touch
+/// the block's rows of the destination.
+fn touched(c: &mut Case, right: u32, overlong: bool) -> Vec<(Slot, usize)> {
+    let mut touched = Vec::new();
+    if overlong {
+        let n = &c.n;
+        let rows = match right {
+            0 => n.y - n.y0..(n.y + n.bh).min(n.height) - n.y0,
+            _ => 0..0,
+        };
+        let but = rows.start * n.width..rows.end * n.width;
+        for slot in c.call.slices() {
+            touched.push((slot, c.list(slot).touched(but.clone())));
+        }
+        touched.retain(|(_, pages)| *pages > 0);
+    }
+    touched
 }

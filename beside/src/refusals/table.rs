@@ -12,6 +12,10 @@ pub struct Counts {
     pub planted: u64,
     pub different: u64,
     pub seconds: f64,
+    /// Whether these are the calls with overlong lists, and how many pages of such lists were
+    /// touched.
+    pub overlong: bool,
+    pub touched: u64,
 }
 
 impl Counts {
@@ -22,10 +26,12 @@ impl Counts {
             planted: 0,
             different: 0,
             seconds: 0.0,
+            overlong: false,
+            touched: 0,
         }
     }
 
-    fn calls(&self) -> u64 {
+    pub fn calls(&self) -> u64 {
         self.due.iter().sum()
     }
 
@@ -54,6 +60,39 @@ pub fn print_head() {
     let counts = ["calls", "accepted"].map(String::from);
     print_row("call", counts, (1..10).map(|q| format!("error {q}")));
     println!(" {:>9} {:>6}", "different", "s");
+}
+
+/// Prints the sums of the calls with overlong lists and what did not occur; whether all is the same
+/// and occurred.
+pub fn print_overlong(counts: &[Counts], options: &Options) -> bool {
+    let sum = |of: fn(&Counts) -> u64| counts.iter().map(of).sum::<u64>();
+    let (calls, different) = (sum(Counts::calls), sum(|c| c.different));
+    print!("overlong lists: {calls} calls, {different} different, ");
+    print!("{} pages touched", sum(|c| c.touched));
+    if options.plant.is_some() {
+        print!(", {} planted", sum(|c| c.planted));
+    }
+    println!();
+    let mut all_occurred = true;
+    for c in counts {
+        for code in overlong_codes(c.call) {
+            if c.due[code as usize] == 0 {
+                println!("TOO FEW overlong {}, error code {code}", c.call.name());
+                all_occurred = false;
+            }
+        }
+    }
+    different == 0 && all_occurred
+}
+
+/// Up to its last check of a length a call has every error code; and the block filter accepts
+/// overlong destinations.
+fn overlong_codes(call: Call) -> Vec<u32> {
+    let questions = asked(call);
+    let last = questions.iter().rposition(|q| [4, 6, 7].contains(q));
+    let mut codes = questions[..=last.expect("a length is checked")].to_vec();
+    codes.extend((call == Call::FilterBlock).then_some(0));
+    codes
 }
 
 /// Prints the sums and what occurred too seldom; whether all is the same and occurred.

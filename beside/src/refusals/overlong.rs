@@ -1,0 +1,87 @@
+//! Calls with overlong lists, which lie in pages that nothing has touched. Lengths are checked
+//! before contents, so that a rejected call touches none of these pages. The block filter accepts
+//! a longer destination of whole rows, and touches the block's rows alone.
+
+use crate::case::{CALLS, Call, Case, Slot};
+use crate::draw::{Sides, draw};
+use crate::faults::damage;
+use crate::lent::OVERLONG;
+use crate::model::{asked, first_no};
+use crate::options::Options;
+use crate::random::Random;
+use crate::table::Counts;
+use crate::{pages, run};
+
+/// Makes the calls of every entry that is passed a list.
+pub fn run_calls(c: &mut Case, options: &Options) -> Vec<Counts> {
+    assert!(pages::are_counted(), "touched pages cannot be counted here");
+    let is_run = |call: &Call| {
+        let named = options.only.is_none_or(|only| only == *call);
+        named && call.slices().next().is_some()
+    };
+    let calls = CALLS.iter().map(|(call, _)| *call).filter(is_run);
+    calls.map(|call| run_call(c, call, options)).collect()
+}
+
+fn run_call(c: &mut Case, call: Call, options: &Options) -> Counts {
+    let mut counts = Counts::new(call);
+    counts.overlong = true;
+    let mut r = Random::new(!Random::new(options.seed).next() ^ (call as u64) << 48);
+    for round in 0..options.measure.rounds {
+        for slots in sets(call) {
+            for question in damaged(call, &slots) {
+                let width = draw_case(c, call, question, &mut r);
+                lengthen(c, &slots, width, round);
+                let number = counts.calls();
+                run::run(c, number, r.next(), options, &mut counts);
+            }
+        }
+    }
+    counts
+}
+
+/// Which lists are overlong: all, each, and each two.
+fn sets(call: Call) -> Vec<Vec<Slot>> {
+    let all: Vec<Slot> = call.slices().collect();
+    let mut sets = vec![all.clone()];
+    for (k, one) in all.iter().enumerate() {
+        sets.push(vec![*one]);
+        sets.extend(all[..k].iter().map(|other| vec![*other, *one]));
+    }
+    sets
+}
+
+/// What is wrong besides: nothing, 0, and with one list or all of them also what each question
+/// checks.
+fn damaged(call: Call, slots: &[Slot]) -> Vec<u32> {
+    let one_or_all = slots.len() == 1 || slots.len() == call.slices().count();
+    let questions = if one_or_all { asked(call) } else { &[] };
+    [&[0], questions].concat()
+}
+
+/// Draws a case in which the check of this question is the first that fails, or with 0 none does.
+/// The plane's width, before it was damaged.
+fn draw_case(c: &mut Case, call: Call, question: u32, r: &mut Random) -> usize {
+    loop {
+        draw(c, call, Sides::Usual, r);
+        let width = c.n.width;
+        if question != 0 {
+            damage(c, question, r);
+        }
+        if width > 1 && first_no(c) == question {
+            return width;
+        }
+    }
+}
+
+/// Makes these lists overlong. The block filter's destination has whole rows, and in every second
+/// round one element more.
+fn lengthen(c: &mut Case, slots: &[Slot], width: usize, round: usize) {
+    for &slot in slots {
+        let length = match (c.call, slot) {
+            (Call::FilterBlock, Slot::Dst) => OVERLONG.next_multiple_of(width) + round % 2,
+            _ => OVERLONG,
+        };
+        c.list(slot).set_overlong(length);
+    }
+}

@@ -116,6 +116,15 @@ impl Call {
         };
         self.lent().filter(has_length)
     }
+
+    /// The question that examines what a list holds; 10, none, where it is only written.
+    pub fn examined(self, slot: Slot) -> u32 {
+        match slot {
+            _ if self.written().contains(&slot) => 10,
+            Slot::Plane | Slot::Other => 9,
+            _ => 8,
+        }
+    }
 }
 
 /// Every number of every call, in the entries' names; a call is passed its own.

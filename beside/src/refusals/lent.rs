@@ -60,9 +60,9 @@ pub struct List<T> {
     source: Source,
     memory: *mut T,
     at: *mut T,
-    /// The length of an overlong list, of which nothing is held.
-    overlong: Option<usize>,
-    /// Where overlong lists lie; mapped for the first of them.
+    /// The length of a list that lies in pages that nothing has touched.
+    untouched: Option<usize>,
+    /// These pages; mapped for the first such list.
     pages: Option<Pages>,
 }
 
@@ -73,7 +73,7 @@ impl<T: Copy + Default + Eq> List<T> {
             source,
             memory: std::ptr::null_mut(),
             at: std::ptr::null_mut(),
-            overlong: None,
+            untouched: None,
             pages: None,
         }
     }
@@ -95,9 +95,15 @@ pub trait Lend {
     /// Elements are removed or added.
     fn set_len(&mut self, length: usize);
 
-    /// In place of what is held the next call is passed so many zeros, in pages that nothing has
-    /// touched.
-    fn set_overlong(&mut self, length: usize);
+    fn set_zero(&mut self);
+
+    fn is_zero(&self) -> bool;
+
+    /// The next call is passed so many zeros, in pages that nothing has touched. Of an overlong
+    /// list nothing is held.
+    fn set_untouched(&mut self, length: usize);
+
+    fn is_untouched(&self) -> bool;
 
     fn is_overlong(&self) -> bool;
 
@@ -105,17 +111,16 @@ pub trait Lend {
     /// are left out, though the call is given a length that includes them.
     fn lend(&mut self, guard: Guard, left_out: usize);
 
-    /// Whether every element is what it was, bit by bit. Of an overlong list the touched pages are
-    /// counted instead.
+    /// Whether every element is what it was, bit by bit. An overlong list is not compared.
     fn same(&self) -> bool;
 
     /// Alters one element of what is passed.
     fn spoil(&mut self);
 
-    /// How many pages of an overlong list have been touched; those of some elements do not count.
+    /// How many pages of it have been touched; those of some elements do not count.
     fn touched(&self, but: Range<usize>) -> usize;
 
-    /// Reads one element of an overlong list.
+    /// Reads one element of what is passed.
     fn touch(&self, element: usize);
 
     fn give_back(&mut self);
@@ -123,25 +128,40 @@ pub trait Lend {
 
 impl<T: Copy + Default + Eq> Lend for List<T> {
     fn len(&self) -> usize {
-        self.overlong.unwrap_or(self.held.len())
+        self.untouched.unwrap_or(self.held.len())
     }
 
     fn set_len(&mut self, length: usize) {
         self.held.resize(length, T::default());
     }
 
-    fn set_overlong(&mut self, length: usize) {
-        assert!((OVERLONG..=LONGEST).contains(&length));
+    fn set_zero(&mut self) {
+        self.held.fill(T::default());
+    }
+
+    fn is_zero(&self) -> bool {
+        self.held.iter().all(|v| *v == T::default())
+    }
+
+    fn set_untouched(&mut self, length: usize) {
+        assert!(length <= LONGEST, "no memory is that long");
         self.held.clear();
-        self.overlong = Some(length);
+        if length < OVERLONG {
+            self.set_len(length);
+        }
+        self.untouched = Some(length);
+    }
+
+    fn is_untouched(&self) -> bool {
+        self.untouched.is_some()
     }
 
     fn is_overlong(&self) -> bool {
-        self.overlong.is_some()
+        self.len() >= OVERLONG
     }
 
     fn lend(&mut self, guard: Guard, left_out: usize) {
-        if self.is_overlong() {
+        if self.is_untouched() {
             let whole = || Pages::new(LONGEST * size_of::<T>());
             self.at = self.pages.get_or_insert_with(whole).at().cast();
             return;
@@ -183,13 +203,9 @@ impl<T: Copy + Default + Eq> Lend for List<T> {
     fn touched(&self, but: Range<usize>) -> usize {
         let page = |elements: usize| elements * size_of::<T>() / PAGE;
         let next = |elements: usize| (elements * size_of::<T>()).div_ceil(PAGE);
-        match (self.overlong, &self.pages) {
-            (Some(length), Some(pages)) => [0..page(but.start), next(but.end)..next(length)]
-                .map(|some| pages.touched(some))
-                .iter()
-                .sum(),
-            _ => 0,
-        }
+        let counted = [0..page(but.start), next(but.end)..next(self.len())];
+        let pages = self.pages.as_ref().expect("they are mapped");
+        counted.map(|some| pages.touched(some)).iter().sum()
     }
 
     fn touch(&self, element: usize) {
@@ -199,7 +215,7 @@ impl<T: Copy + Default + Eq> Lend for List<T> {
     }
 
     fn give_back(&mut self) {
-        if self.overlong.take().is_some() {
+        if self.untouched.take().is_some() {
             self.pages.iter().for_each(Pages::renew);
         } else if self.source == Source::Exact {
             // SAFETY: from malloc, once per call.
@@ -211,7 +227,7 @@ impl<T: Copy + Default + Eq> Lend for List<T> {
 /// Its length alone.
 impl<T> Debug for List<T> {
     fn fmt(&self, f: &mut Formatter) -> Result {
-        let length = self.overlong.unwrap_or(self.held.len());
+        let length = self.untouched.unwrap_or(self.held.len());
         write!(f, "{length} elements")
     }
 }

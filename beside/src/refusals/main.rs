@@ -1,7 +1,7 @@
 //! Random and damaged calls of every C entry that can reject a call: each error code is compared
 //! with a model of RULES, Questions, and every list with what it was; and calls with overlong
-//! lists, of which no page may be touched. `quern_log2_floor` and `quern_root` reject nothing and
-//! are left out.
+//! lists, which touch no list before it is to be examined. `quern_log2_floor` and `quern_root`
+//! reject nothing and are left out.
 
 mod case;
 mod draw;

@@ -30,7 +30,7 @@ pub enum Plant {
     Before,
     /// After every third call one element that it may not alter is altered.
     Write,
-    /// After each call with overlong lists one page of one of them is touched.
+    /// After each call with overlong lists one page is touched that may not be.
     Touch,
 }
 

@@ -1,6 +1,7 @@
-//! Calls with overlong lists, which lie in pages that nothing has touched. Lengths are checked
-//! before contents, so that a rejected call touches none of these pages. The block filter accepts
-//! a longer destination of whole rows, and touches the block's rows alone.
+//! Calls with lists in pages that nothing has touched, some of them overlong. What a list holds is
+//! examined only after every earlier question has passed: a rejected call touches no list that a
+//! later question examines, and none that it would write. The block filter accepts a longer
+//! destination of whole rows, and touches the block's rows alone.
 
 use crate::case::{CALLS, Call, Case, Slot};
 use crate::draw::{Sides, draw};
@@ -31,7 +32,7 @@ fn run_call(c: &mut Case, call: Call, options: &Options) -> Counts {
         for slots in sets(call) {
             for question in damaged(call, &slots) {
                 let width = draw_case(c, call, question, &mut r);
-                lengthen(c, &slots, width, round);
+                place(c, &slots, width, round);
                 let number = counts.calls();
                 run::run(c, number, r.next(), options, &mut counts);
             }
@@ -40,10 +41,10 @@ fn run_call(c: &mut Case, call: Call, options: &Options) -> Counts {
     counts
 }
 
-/// Which lists are overlong: all, each, and each two.
+/// Which lists are overlong: none, all, each, and each two.
 fn sets(call: Call) -> Vec<Vec<Slot>> {
     let all: Vec<Slot> = call.slices().collect();
-    let mut sets = vec![all.clone()];
+    let mut sets = vec![Vec::new(), all.clone()];
     for (k, one) in all.iter().enumerate() {
         sets.push(vec![*one]);
         sets.extend(all[..k].iter().map(|other| vec![*other, *one]));
@@ -51,19 +52,23 @@ fn sets(call: Call) -> Vec<Vec<Slot>> {
     sets
 }
 
-/// What is wrong besides: nothing, 0, and with one list or all of them also what each question
+/// What is wrong besides overlong lists: nothing, 0, and except with two of them what each question
 /// checks.
 fn damaged(call: Call, slots: &[Slot]) -> Vec<u32> {
-    let one_or_all = slots.len() == 1 || slots.len() == call.slices().count();
-    let questions = if one_or_all { asked(call) } else { &[] };
-    [&[0], questions].concat()
+    let all = slots.len() == call.slices().count();
+    match slots.len() {
+        0 => asked(call).to_vec(),
+        2 if !all => vec![0],
+        _ => [&[0], asked(call)].concat(),
+    }
 }
 
 /// Draws a case in which the check of this question is the first that fails, or with 0 none does.
-/// The plane's width, before it was damaged.
+/// All lists hold zeros but for the damage. The plane's width, before it was damaged.
 fn draw_case(c: &mut Case, call: Call, question: u32, r: &mut Random) -> usize {
     loop {
         draw(c, call, Sides::Usual, r);
+        call.slices().for_each(|slot| c.list(slot).set_zero());
         let width = c.n.width;
         if question != 0 {
             damage(c, question, r);
@@ -74,14 +79,17 @@ fn draw_case(c: &mut Case, call: Call, question: u32, r: &mut Random) -> usize {
     }
 }
 
-/// Makes these lists overlong. The block filter's destination has whole rows, and in every second
-/// round one element more.
-fn lengthen(c: &mut Case, slots: &[Slot], width: usize, round: usize) {
-    for &slot in slots {
+/// Makes these lists overlong, and leaves them and all others that hold zeros in untouched pages.
+/// The block filter's destination has whole rows, and in every second round one element more.
+fn place(c: &mut Case, overlong: &[Slot], width: usize, round: usize) {
+    for slot in c.call.slices() {
         let length = match (c.call, slot) {
+            _ if !overlong.contains(&slot) => c.list(slot).len(),
             (Call::FilterBlock, Slot::Dst) => OVERLONG.next_multiple_of(width) + round % 2,
             _ => OVERLONG,
         };
-        c.list(slot).set_overlong(length);
+        if overlong.contains(&slot) || c.list(slot).is_zero() {
+            c.list(slot).set_untouched(length);
+        }
     }
 }

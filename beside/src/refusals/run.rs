@@ -9,8 +9,8 @@ use crate::{entry, model, stopped};
 /// How many differences of a call are printed.
 const SHOWN: u64 = 5;
 
-/// Makes the call, and compares its error code and the lists passed to it, and counts the pages of
-/// overlong lists that it touched. The sides of the guards are drawn.
+/// Makes the call, and compares its error code and the lists passed to it, and counts the pages that
+/// it touched and may not. The sides of the guards are drawn.
 pub fn run(c: &mut Case, number: u64, drawn: u64, options: &Options, counts: &mut Counts) {
     let (call, overlong) = (c.call, counts.overlong);
     let right = model::first_no(c);
@@ -21,22 +21,23 @@ pub fn run(c: &mut Case, number: u64, drawn: u64, options: &Options, counts: &mu
     };
     lend(c, drawn, plant);
     let got = stopped::during(call, number, overlong, || entry::answer(c));
+    counts.planted += u64::from(match plant {
+        Some(Plant::Model(_)) => true,
+        Some(Plant::Write) => spoil(c, got, drawn),
+        Some(Plant::Touch) => touch(c, right, drawn),
+        _ => false,
+    });
+    // Before the lists are read to be compared.
+    let touched = match overlong {
+        true => touched(c, right),
+        false => Vec::new(),
+    };
     let altered = match plant {
         // Not every element is there to compare.
         Some(Plant::Read | Plant::Before) => None,
-        Some(Plant::Write) => {
-            counts.planted += u64::from(spoil(c, got, drawn));
-            altered(c, got)
-        }
         _ => altered(c, got),
     };
-    if plant == Some(Plant::Touch) {
-        counts.planted += 1;
-        touch(c, right, drawn);
-    }
-    let touched = touched(c, right, overlong);
     counts.due[right as usize] += 1;
-    counts.planted += u64::from(due != right);
     counts.touched += touched.iter().map(|(_, pages)| *pages as u64).sum::<u64>();
     if got != due || altered.is_some() || !touched.is_empty() {
         counts.different += 1;
@@ -93,30 +94,48 @@ fn spoil(c: &mut Case, got: u32, drawn: u64) -> bool {
     chosen.inspect(|slot| c.list(**slot).spoil()).is_some()
 }
 
-/// Touches one page of an overlong list; in a call that is accepted none that may be touched.
-fn touch(c: &mut Case, right: u32, drawn: u64) {
-    let mut slots: Vec<Slot> = c.call.slices().collect();
-    slots.retain(|slot| c.list(*slot).is_overlong());
-    let list = c.list(slots[drawn as usize % slots.len()]);
-    let first = if right == 0 { list.len() / 2 } else { 0 };
-    list.touch(first + (drawn >> 8) as usize % (list.len() - first));
+/// The lists of which no page may be touched: with an error code those that a later question
+/// examines, or none does; in a call that is accepted the overlong ones.
+fn watched(c: &mut Case, right: u32) -> Vec<Slot> {
+    let call = c.call;
+    let mut slots: Vec<Slot> = call.slices().collect();
+    slots.retain(|slot| c.list(*slot).is_untouched());
+    match right {
+        0 => slots.retain(|slot| c.list(*slot).is_overlong()),
+        _ => slots.retain(|slot| call.examined(*slot) > right),
+    }
+    slots
 }
 
-/// Which overlong lists were touched, and how many pages of each. A call that is accepted may touch
+/// Touches one page of these lists; whether there is one. In a call that is accepted it is none
+/// that may be touched.
+fn touch(c: &mut Case, right: u32, drawn: u64) -> bool {
+    let mut slots = watched(c, right);
+    slots.retain(|slot| c.list(*slot).len() > 0);
+    let Some(slot) = slots.get(drawn as usize % slots.len().max(1)) else {
+        return false;
+    };
+    let list = c.list(*slot);
+    list.touch(match right {
+        0 => list.len() - 1,
+        _ => (drawn >> 8) as usize % list.len(),
+    });
+    true
+}
+
+/// Which of these lists were touched, and how many pages of each. A call that is accepted may touch
 /// the block's rows of the destination.
-fn touched(c: &mut Case, right: u32, overlong: bool) -> Vec<(Slot, usize)> {
+fn touched(c: &mut Case, right: u32) -> Vec<(Slot, usize)> {
+    let n = &c.n;
+    let rows = match right {
+        0 => n.y - n.y0..(n.y + n.bh).min(n.height) - n.y0,
+        _ => 0..0,
+    };
+    let but = rows.start * n.width..rows.end * n.width;
     let mut touched = Vec::new();
-    if overlong {
-        let n = &c.n;
-        let rows = match right {
-            0 => n.y - n.y0..(n.y + n.bh).min(n.height) - n.y0,
-            _ => 0..0,
-        };
-        let but = rows.start * n.width..rows.end * n.width;
-        for slot in c.call.slices() {
-            touched.push((slot, c.list(slot).touched(but.clone())));
-        }
-        touched.retain(|(_, pages)| *pages > 0);
+    for slot in watched(c, right) {
+        let pages = c.list(slot).touched(but.clone());
+        touched.extend((pages > 0).then_some((slot, pages)));
     }
     touched
 }

@@ -12,8 +12,8 @@ pub struct Counts {
     pub planted: u64,
     pub different: u64,
     pub seconds: f64,
-    /// Whether these are the calls with overlong lists, and how many pages of such lists were
-    /// touched.
+    /// Whether these are the calls with overlong lists, and how many pages were touched that may
+    /// not be.
     pub overlong: bool,
     pub touched: u64,
 }
@@ -85,14 +85,10 @@ pub fn print_overlong(counts: &[Counts], options: &Options) -> bool {
     different == 0 && all_occurred
 }
 
-/// Up to its last check of a length a call has every error code; and the block filter accepts
-/// overlong destinations.
+/// Every error code of the call; and the block filter accepts overlong destinations.
 fn overlong_codes(call: Call) -> Vec<u32> {
-    let questions = asked(call);
-    let last = questions.iter().rposition(|q| [4, 6, 7].contains(q));
-    let mut codes = questions[..=last.expect("a length is checked")].to_vec();
-    codes.extend((call == Call::FilterBlock).then_some(0));
-    codes
+    let accepted = (call == Call::FilterBlock).then_some(0);
+    asked(call).iter().copied().chain(accepted).collect()
 }
 
 /// Prints the sums and what occurred too seldom; whether all is the same and occurred.

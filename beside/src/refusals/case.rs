@@ -108,6 +108,23 @@ impl Call {
     pub fn lent(self) -> impl Iterator<Item = Slot> {
         self.written().iter().chain(self.shared()).copied()
     }
+
+    /// Those that are passed with a length; the others are single numbers.
+    pub fn slices(self) -> impl Iterator<Item = Slot> {
+        let has_length = move |slot: &Slot| {
+            self.is_frame() || matches!(slot, Slot::Plane | Slot::Other | Slot::Dst)
+        };
+        self.lent().filter(has_length)
+    }
+
+    /// The question that examines what a list holds; 10, none, where it is only written.
+    pub fn examined(self, slot: Slot) -> u32 {
+        match slot {
+            _ if self.written().contains(&slot) => 10,
+            Slot::Plane | Slot::Other => 9,
+            _ => 8,
+        }
+    }
 }
 
 /// Every number of every call, in the entries' names; a call is passed its own.

@@ -31,7 +31,7 @@ pub fn case(c: &mut Case, call: Call, largest: bool, r: &mut Random) {
 }
 
 /// Damages what the question of that number checks.
-fn damage(c: &mut Case, question: u32, r: &mut Random) {
+pub fn damage(c: &mut Case, question: u32, r: &mut Random) {
     match question {
         1 => {
             let (near, any) = (beyond_u8(12, r), r.next() as u8);

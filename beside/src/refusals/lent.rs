@@ -1,31 +1,27 @@
-//! Memory passed to a call: next to an unreadable page, or from malloc and exactly as long.
+//! Memory passed to a call: next to an unreadable page, from malloc and exactly as long, or in
+//! pages that nothing has touched.
 
+use crate::pages::{PAGE, Pages, mapped};
 use std::ffi::c_void;
 use std::fmt::{Debug, Formatter, Result};
+use std::ops::Range;
 
 unsafe extern "C" {
-    fn mmap(
-        at: *mut c_void,
-        bytes: usize,
-        access: i32,
-        kind: i32,
-        file: i32,
-        offset: i64,
-    ) -> *mut c_void;
     fn mprotect(at: *mut c_void, bytes: usize, access: i32) -> i32;
     fn malloc(bytes: usize) -> *mut c_void;
     fn free(at: *mut c_void);
 }
 
 const NO_ACCESS: i32 = 0;
-const READ_WRITE: i32 = 3;
-/// Private, anonymous, and not reserved before it is used.
-const KIND: i32 = 0x2 | 0x20 | 0x4000;
 
 /// Unreadable on each side: whole pages, of whatever size.
 const GUARD: usize = 1 << 16;
 /// A plane of 4,096 by 4,096 samples, and more.
 const READABLE: usize = 33 << 20;
+
+/// Elements of an overlong list, or a few more.
+pub const OVERLONG: usize = 1 << 26;
+const LONGEST: usize = OVERLONG + 8192;
 
 /// On which side of what is passed the unreadable page lies.
 #[derive(Clone, Copy, PartialEq)]
@@ -46,11 +42,9 @@ pub enum Source {
 impl Source {
     /// Readable memory between two unreadable stretches.
     pub fn guarded() -> Self {
-        let bytes = READABLE + 2 * GUARD;
-        // SAFETY: a new mapping, and the two ends of it.
+        let at = mapped(READABLE + 2 * GUARD);
+        // SAFETY: the two ends of the mapping.
         unsafe {
-            let at = mmap(std::ptr::null_mut(), bytes, READ_WRITE, KIND, -1, 0);
-            assert!(at as isize != -1, "no memory was mapped");
             let start = at.byte_add(GUARD);
             let ends = [at, start.byte_add(READABLE)];
             let closed = ends.iter().all(|&end| mprotect(end, GUARD, NO_ACCESS) == 0);
@@ -66,21 +60,27 @@ pub struct List<T> {
     source: Source,
     memory: *mut T,
     at: *mut T,
+    /// The length of a list that lies in pages that nothing has touched.
+    untouched: Option<usize>,
+    /// These pages; mapped for the first such list.
+    pages: Option<Pages>,
 }
 
-impl<T: Copy> List<T> {
+impl<T: Copy + Default + Eq> List<T> {
     pub fn new(source: Source) -> Self {
         List {
             held: Vec::new(),
             source,
             memory: std::ptr::null_mut(),
             at: std::ptr::null_mut(),
+            untouched: None,
+            pages: None,
         }
     }
 
     /// Its address in the call, and its length.
     pub fn lent(&self) -> (*mut T, usize) {
-        (self.at, self.held.len())
+        (self.at, self.len())
     }
 
     pub fn at(&self) -> *mut T {
@@ -95,29 +95,77 @@ pub trait Lend {
     /// Elements are removed or added.
     fn set_len(&mut self, length: usize);
 
+    fn set_zero(&mut self);
+
+    fn is_zero(&self) -> bool;
+
+    /// The next call is passed so many zeros, in pages that nothing has touched. Of an overlong
+    /// list nothing is held.
+    fn set_untouched(&mut self, length: usize);
+
+    fn is_untouched(&self) -> bool;
+
+    fn is_overlong(&self) -> bool;
+
     /// Copies what is held to where the call finds it. So many elements next to the guard
     /// are left out, though the call is given a length that includes them.
     fn lend(&mut self, guard: Guard, left_out: usize);
 
-    /// Whether every element is what it was, bit by bit.
+    /// Whether every element is what it was, bit by bit. An overlong list is not compared.
     fn same(&self) -> bool;
 
     /// Alters one element of what is passed.
     fn spoil(&mut self);
+
+    /// How many pages of it have been touched; those of some elements do not count.
+    fn touched(&self, but: Range<usize>) -> usize;
+
+    /// Reads one element of what is passed.
+    fn touch(&self, element: usize);
 
     fn give_back(&mut self);
 }
 
 impl<T: Copy + Default + Eq> Lend for List<T> {
     fn len(&self) -> usize {
-        self.held.len()
+        self.untouched.unwrap_or(self.held.len())
     }
 
     fn set_len(&mut self, length: usize) {
         self.held.resize(length, T::default());
     }
 
+    fn set_zero(&mut self) {
+        self.held.fill(T::default());
+    }
+
+    fn is_zero(&self) -> bool {
+        self.held.iter().all(|v| *v == T::default())
+    }
+
+    fn set_untouched(&mut self, length: usize) {
+        assert!(length <= LONGEST, "no memory is that long");
+        self.held.clear();
+        if length < OVERLONG {
+            self.set_len(length);
+        }
+        self.untouched = Some(length);
+    }
+
+    fn is_untouched(&self) -> bool {
+        self.untouched.is_some()
+    }
+
+    fn is_overlong(&self) -> bool {
+        self.len() >= OVERLONG
+    }
+
     fn lend(&mut self, guard: Guard, left_out: usize) {
+        if self.is_untouched() {
+            let whole = || Pages::new(LONGEST * size_of::<T>());
+            self.at = self.pages.get_or_insert_with(whole).at().cast();
+            return;
+        }
         let there = self.held.len() - left_out;
         let bytes = there * size_of::<T>();
         assert!(bytes <= READABLE, "no memory is that long");
@@ -140,7 +188,8 @@ impl<T: Copy + Default + Eq> Lend for List<T> {
 
     fn same(&self) -> bool {
         // SAFETY: passed whole, and freed later.
-        self.held == unsafe { std::slice::from_raw_parts(self.at, self.held.len()) }
+        let passed = || unsafe { std::slice::from_raw_parts(self.at, self.held.len()) };
+        self.is_overlong() || self.held == passed()
     }
 
     fn spoil(&mut self) {
@@ -151,8 +200,24 @@ impl<T: Copy + Default + Eq> Lend for List<T> {
         }
     }
 
+    fn touched(&self, but: Range<usize>) -> usize {
+        let page = |elements: usize| elements * size_of::<T>() / PAGE;
+        let next = |elements: usize| (elements * size_of::<T>()).div_ceil(PAGE);
+        let counted = [0..page(but.start), next(but.end)..next(self.len())];
+        let pages = self.pages.as_ref().expect("they are mapped");
+        counted.map(|some| pages.touched(some)).iter().sum()
+    }
+
+    fn touch(&self, element: usize) {
+        assert!(element < self.len());
+        // SAFETY: the element is there.
+        unsafe { self.at.add(element).read_volatile() };
+    }
+
     fn give_back(&mut self) {
-        if self.source == Source::Exact {
+        if self.untouched.take().is_some() {
+            self.pages.iter().for_each(Pages::renew);
+        } else if self.source == Source::Exact {
             // SAFETY: from malloc, once per call.
             unsafe { free(self.memory.cast()) };
         }
@@ -162,6 +227,7 @@ impl<T: Copy + Default + Eq> Lend for List<T> {
 /// Its length alone.
 impl<T> Debug for List<T> {
     fn fmt(&self, f: &mut Formatter) -> Result {
-        write!(f, "{} elements", self.held.len())
+        let length = self.untouched.unwrap_or(self.held.len());
+        write!(f, "{length} elements")
     }
 }

@@ -1,6 +1,7 @@
 //! Random and damaged calls of every C entry that can reject a call: each error code is compared
-//! with a model of RULES, Questions, and every list with what it was. `quern_log2_floor`
-//! and `quern_root` reject nothing and are left out.
+//! with a model of RULES, Questions, and every list with what it was; and calls with overlong
+//! lists, which touch no list before it is to be examined. `quern_log2_floor` and `quern_root`
+//! reject nothing and are left out.
 
 mod case;
 mod draw;
@@ -14,6 +15,8 @@ mod frame_entries;
 mod lent;
 mod model;
 mod options;
+mod overlong;
+mod pages;
 #[allow(dead_code)] // The generator's pictures are not drawn here.
 #[path = "../support/random.rs"]
 mod random;
@@ -57,7 +60,13 @@ fn main() -> ExitCode {
             counts.push(of_call);
         }
     }
-    ExitCode::from(u8::from(!table::print_end(&counts, &options)))
+    let mut all_same = true;
+    if options.case.is_none() {
+        let overlong = overlong::run_calls(&mut case, &options);
+        all_same = table::print_overlong(&overlong, &options);
+    }
+    all_same &= table::print_end(&counts, &options);
+    ExitCode::from(u8::from(!all_same))
 }
 
 fn run_call(c: &mut Case, call: Call, options: &Options) -> Counts {

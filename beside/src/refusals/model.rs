@@ -3,6 +3,7 @@
 
 use crate::case::Call::{self, *};
 use crate::case::Case;
+use crate::lent::{Lend, List};
 
 /// The questions that concern a call, in order.
 pub fn asked(call: Call) -> &'static [u32] {
@@ -64,13 +65,13 @@ fn plane_sides(c: &Case) -> (u128, u128) {
 /// 4: each plane holds exactly width × height samples.
 fn planes(c: &Case) -> bool {
     let (width, height) = plane_sides(c);
-    let full = |plane: &[u16]| wide(plane.len()) == width * height;
+    let full = |plane: &List<u16>| wide(plane.len()) == width * height;
     let second = match c.call {
         Distance | Squares | TryLuma | TryChroma | MeasureLuma | MeasureChroma => &c.other,
         ApplyLuma | ApplyChroma => &c.dst,
         _ => &c.plane,
     };
-    full(&c.plane.held) && full(&second.held)
+    full(&c.plane) && full(second)
 }
 
 /// 5: x is below the width and y below the height, and each block side is 1 to 8.
@@ -86,7 +87,7 @@ fn block(c: &Case) -> bool {
 /// 6: the destination holds whole rows, starts at or above y and reaches the smaller of
 /// y + block height and the plane height.
 fn destination(c: &Case) -> bool {
-    let (length, width) = (wide(c.dst.held.len()), wide(c.n.width));
+    let (length, width) = (wide(c.dst.len()), wide(c.n.width));
     let end = (wide(c.n.y) + wide(c.n.bh)).min(wide(c.n.height));
     length % width == 0 && c.n.y0 <= c.n.y && wide(c.n.y0) + length / width >= end
 }
@@ -97,21 +98,21 @@ fn lists(c: &Case) -> bool {
     let blocks = (width / 8) * (height / 8);
     let units = width.div_ceil(64) * height.div_ceil(64);
     let scratch = plane_sides(c).0 * (8 >> c.n.sy);
-    let totals = wide(c.totals.held.len());
-    let dirs = wide(c.dirs.held.len()) == blocks;
-    let vars = wide(c.vars.held.len()) == blocks;
-    let a_block = wide(c.skip.held.len()) == blocks && dirs && (vars || c.call.is_chroma_frame());
-    let a_unit = |list: &[u8]| wide(list.len()) == units;
+    let totals = wide(c.totals.len());
+    let dirs = wide(c.dirs.len()) == blocks;
+    let vars = wide(c.vars.len()) == blocks;
+    let a_block = wide(c.skip.len()) == blocks && dirs && (vars || c.call.is_chroma_frame());
+    let a_unit = |list: &List<u8>| wide(list.len()) == units;
     let visible = (1..=c.n.width).contains(&c.n.visible_width)
         && (1..=c.n.height).contains(&c.n.visible_height);
     match c.call {
         DirectionPass => dirs && vars,
         TryLuma | TryChroma => a_block && totals == 12 * units && visible,
         MeasureLuma | MeasureChroma => {
-            a_block && totals == units && wide(c.dst.held.len()) == scratch && visible
+            a_block && totals == units && wide(c.dst.len()) == scratch && visible
         }
-        ApplyLuma | ApplyChroma => a_block && a_unit(&c.pris.held) && a_unit(&c.secs.held),
-        _ => c.dst.held.len() == 768,
+        ApplyLuma | ApplyChroma => a_block && a_unit(&c.pris) && a_unit(&c.secs),
+        _ => c.dst.len() == 768,
     }
 }
 

@@ -4,7 +4,8 @@ use crate::case::{CALLS, Call};
 use crate::model::asked;
 
 pub const WORDS: &str = "refusals short|long|exact [--seed N] [--only CALL] [--case N] \
-     [--calls N] [--plant model:CALL[:QUESTION] | read:CALL | before:CALL | write:CALL]";
+     [--calls N] [--rounds N] [--plant model:CALL[:QUESTION] | read:CALL | before:CALL | write:CALL \
+     | touch:CALL]";
 
 /// How much is run, and how often at least each thing must occur.
 pub struct Measure {
@@ -12,6 +13,8 @@ pub struct Measure {
     pub exact: bool,
     /// Cases of each call.
     pub cases: u64,
+    /// How often each call with overlong lists is made, of other sizes and contents.
+    pub rounds: usize,
     pub calls: u64,
     pub taken: u64,
     pub each_question: u64,
@@ -27,6 +30,8 @@ pub enum Plant {
     Before,
     /// After every third call one element that it may not alter is altered.
     Write,
+    /// After each call with overlong lists one page is touched that may not be.
+    Touch,
 }
 
 pub struct Options {
@@ -38,15 +43,16 @@ pub struct Options {
 }
 
 fn measure(word: &str) -> Option<Measure> {
-    let (exact, cases, scale) = match word {
-        "long" => (false, 6_300_000, 100_000),
-        "short" => (false, 63_000, 1_000),
-        "exact" => (true, 1_250, 20),
+    let (exact, cases, rounds, scale) = match word {
+        "long" => (false, 6_300_000, 20, 100_000),
+        "short" => (false, 63_000, 2, 1_000),
+        "exact" => (true, 1_250, 2, 20),
         _ => return None,
     };
     Some(Measure {
         exact,
         cases,
+        rounds,
         calls: 1_000 * scale,
         taken: 10 * scale,
         each_question: scale,
@@ -76,6 +82,7 @@ fn plant(word: &str) -> Option<(Plant, Call)> {
         "read" => Plant::Read,
         "before" => Plant::Before,
         "write" => Plant::Write,
+        "touch" if call.slices().next().is_some() => Plant::Touch,
         _ => return None,
     };
     Some((plant, call))
@@ -97,6 +104,7 @@ pub fn options() -> Option<Options> {
             "--only" => options.only = Some(call(&value)?),
             "--case" => options.case = Some(value.parse().ok()?),
             "--calls" => options.measure.cases = value.parse().ok()?,
+            "--rounds" => options.measure.rounds = value.parse().ok()?,
             "--plant" => options.plant = Some(plant(&value)?),
             _ => return None,
         }

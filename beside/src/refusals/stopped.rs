@@ -17,6 +17,7 @@ const SIGNALS: [i32; 5] = [4, 6, 7, 8, 11];
 static SEED: AtomicU64 = AtomicU64::new(0);
 static CALL: AtomicU64 = AtomicU64::new(0);
 static CASE: AtomicU64 = AtomicU64::new(0);
+static OVERLONG: AtomicBool = AtomicBool::new(false);
 static INSIDE: AtomicBool = AtomicBool::new(false);
 
 /// From now on a signal ends the program: with status 1 in a call, else with 2.
@@ -29,13 +30,19 @@ pub fn watch(seed: u64) {
 }
 
 /// Makes a call. A signal during it is a difference.
-pub fn during(call: Call, case: u64, make: impl FnOnce() -> u32) -> u32 {
+pub fn during(call: Call, case: u64, overlong: bool, make: impl FnOnce() -> u32) -> u32 {
     CALL.store(call as u64, Relaxed);
     CASE.store(case, Relaxed);
+    OVERLONG.store(overlong, Relaxed);
     INSIDE.store(true, SeqCst);
     let number = make();
     INSIDE.store(false, SeqCst);
     number
+}
+
+/// Goes before the name of a call.
+pub fn kind(overlong: bool) -> &'static str {
+    if overlong { "overlong " } else { "" }
 }
 
 extern "C" fn stopped(number: i32) {
@@ -45,9 +52,13 @@ extern "C" fn stopped(number: i32) {
         true => ("FAULT", 1),
         false => ("stopped outside the library, near", 2),
     };
+    let of = kind(OVERLONG.load(Relaxed));
     let mut line = [0; 160];
     let mut rest = &mut line[..];
-    let _ = writeln!(rest, "{what} {name}:{case}, seed {seed}: signal {number}");
+    let _ = writeln!(
+        rest,
+        "{what} {of}{name}:{case}, seed {seed}: signal {number}"
+    );
     let length = 160 - rest.len();
     // SAFETY: the bytes are there; nothing runs after it.
     unsafe {

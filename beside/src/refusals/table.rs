@@ -12,6 +12,10 @@ pub struct Counts {
     pub planted: u64,
     pub different: u64,
     pub seconds: f64,
+    /// Whether these are the calls with overlong lists, and how many pages were touched that may
+    /// not be.
+    pub overlong: bool,
+    pub touched: u64,
 }
 
 impl Counts {
@@ -22,10 +26,12 @@ impl Counts {
             planted: 0,
             different: 0,
             seconds: 0.0,
+            overlong: false,
+            touched: 0,
         }
     }
 
-    fn calls(&self) -> u64 {
+    pub fn calls(&self) -> u64 {
         self.due.iter().sum()
     }
 
@@ -54,6 +60,35 @@ pub fn print_head() {
     let counts = ["calls", "accepted"].map(String::from);
     print_row("call", counts, (1..10).map(|q| format!("error {q}")));
     println!(" {:>9} {:>6}", "different", "s");
+}
+
+/// Prints the sums of the calls with overlong lists and what did not occur; whether all is the same
+/// and occurred.
+pub fn print_overlong(counts: &[Counts], options: &Options) -> bool {
+    let sum = |of: fn(&Counts) -> u64| counts.iter().map(of).sum::<u64>();
+    let (calls, different) = (sum(Counts::calls), sum(|c| c.different));
+    print!("overlong lists: {calls} calls, {different} different, ");
+    print!("{} pages touched", sum(|c| c.touched));
+    if options.plant.is_some() {
+        print!(", {} planted", sum(|c| c.planted));
+    }
+    println!();
+    let mut all_occurred = true;
+    for c in counts {
+        for code in overlong_codes(c.call) {
+            if c.due[code as usize] == 0 {
+                println!("TOO FEW overlong {}, error code {code}", c.call.name());
+                all_occurred = false;
+            }
+        }
+    }
+    different == 0 && all_occurred
+}
+
+/// Every error code of the call; and the block filter accepts overlong destinations.
+fn overlong_codes(call: Call) -> Vec<u32> {
+    let accepted = (call == Call::FilterBlock).then_some(0);
+    asked(call).iter().copied().chain(accepted).collect()
 }
 
 /// Prints the sums and what occurred too seldom; whether all is the same and occurred.

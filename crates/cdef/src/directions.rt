@@ -17,7 +17,7 @@ pub fn direction_pass(
     ensures { λ _. ⌜ now (dirs .exit) ≡ (directionPassOutcome (record { samples = now (plane .entry); width = width; height = height }) depth (now (dirs .entry)) (now (vars .entry))) .dirs ⌝ }
     ensures { λ _. ⌜ now (vars .exit) ≡ (directionPassOutcome (record { samples = now (plane .entry); width = width; height = height }) depth (now (dirs .entry)) (now (vars .entry))) .vars ⌝ }
 {
-    let no = cdef_frame_asked::calls::direction_pass_no(plane, width, height, depth, dirs, vars);
+    let no = check_pass::direction_pass_no(plane, width, height, depth, dirs, vars);
     if no != 0 {
         return Answer::Refused(no);
     }

@@ -2,7 +2,6 @@
 ghost use mathlib.Core.Path.{_≡_};
 ghost use Rattle.cdef_spec.specs.Answers.{readDistance};
 ghost use Rattle.cdef_spec.specs.BlockCalls.{distanceOutcome, squaresOutcome};
-use cdef_asked::distance_questions;
 use cdef_spec::DistanceAnswer;
 
 // The weighted distance of the 8 by 8 blocks at (x, y); plain squares where they cross the right or bottom edge.
@@ -17,7 +16,7 @@ pub fn distance(
 ) -> DistanceAnswer
     ensures { λ r. ⌜ readDistance r ≡ distanceOutcome (record { samples = now (orig .entry); width = width; height = height }) (now (other .entry)) depth y x ⌝ }
 {
-    let no = distance_questions::distance_no(orig, other, width, height, x, y, depth);
+    let no = check_block::distance::distance_no(orig, other, width, height, x, y, depth);
     if no != 0 {
         return DistanceAnswer::NoDistance(no);
     }
@@ -38,7 +37,7 @@ pub fn squares(
 ) -> DistanceAnswer
     ensures { λ r. ⌜ readDistance r ≡ squaresOutcome (record { samples = now (orig .entry); width = width; height = height }) (now (other .entry)) depth y x ⌝ }
 {
-    let no = distance_questions::distance_no(orig, other, width, height, x, y, depth);
+    let no = check_block::distance::distance_no(orig, other, width, height, x, y, depth);
     if no != 0 {
         return DistanceAnswer::NoDistance(no);
     }

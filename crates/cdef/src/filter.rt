@@ -2,7 +2,6 @@
 ghost use mathlib.Core.Path.{_≡_};
 ghost use Rattle.cdef_spec.specs.Answers.{readAnswer};
 ghost use Rattle.cdef_spec.specs.BlockCalls.{filterOutcome};
-use cdef_asked::block_questions;
 use cdef_spec::Answer;
 use cdef_spec::Block;
 use cdef_spec::FilterParams;
@@ -21,13 +20,14 @@ pub fn filter_block(
     ensures { λ r. ⌜ readAnswer r ≡ (filterOutcome (record { samples = now (plane .entry); width = width; height = height }) block params y0 (now (dst .entry))) .answer ⌝ }
     ensures { λ _. ⌜ now (dst .exit) ≡ (filterOutcome (record { samples = now (plane .entry); width = width; height = height }) block params y0 (now (dst .entry))) .dst ⌝ }
 {
-    let no = block_questions::filter_no(dst, y0, plane, width, height, block, params);
+    let no = check_block::filter::filter_no(dst, y0, plane, width, height, block, params);
     if no != 0 {
         return Answer::Refused(no);
     }
     let win = cdef_window::window(plane, width, height, block);
-    if !cdef_window::window_taken(&win, params.depth) {
-        return Answer::Refused(9);
+    let no9 = check_block::window_no(&win, params.depth);
+    if no9 != 0 {
+        return Answer::Refused(no9);
     }
     cdef_filter::filter_window(dst, y0, &win, width, height, block, params);
     Answer::Done

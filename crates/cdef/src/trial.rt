@@ -2,7 +2,6 @@
 ghost use mathlib.Core.Path.{_≡_};
 ghost use Rattle.cdef_spec.specs.Answers.{readAnswer};
 ghost use Rattle.cdef_spec.specs.BlockCalls.{trialOutcome};
-use cdef_asked::trial_questions;
 use cdef_spec::Answer;
 use cdef_spec::Block;
 use cdef_spec::TrialWay;
@@ -24,13 +23,14 @@ pub fn trial(
     ensures { λ r. ⌜ readAnswer r ≡ (trialOutcome (record { samples = now (plane .entry); width = width; height = height }) block way dir damping depth (now (out .entry))) .answer ⌝ }
     ensures { λ _. ⌜ now (out .exit) ≡ (trialOutcome (record { samples = now (plane .entry); width = width; height = height }) block way dir damping depth (now (out .entry))) .out ⌝ }
 {
-    let no = trial_questions::trial_no(out, plane, width, height, block, way, dir, damping, depth);
+    let no = check_block::trial::trial_no(out, plane, width, height, block, way, dir, damping, depth);
     if no != 0 {
         return Answer::Refused(no);
     }
     let win = cdef_window::window(plane, width, height, block);
-    if !cdef_window::window_taken(&win, depth) {
-        return Answer::Refused(9);
+    let no9 = check_block::window_no(&win, depth);
+    if no9 != 0 {
+        return Answer::Refused(no9);
     }
     cdef_trial::block::trial_window(out, &win, block, way, dir, damping, depth);
     Answer::Done

@@ -3,7 +3,7 @@ ghost use mathlib.Core.Path.{_≡_};
 ghost use Rattle.cdef_spec.specs.Answers.{numberOf};
 ghost use Rattle.cdef_spec.specs.Picture.{lumaPicture, chromaPicture};
 ghost use Rattle.cdef_spec.specs.FrameCalls.{applyingListsOutcome};
-ghost use Rattle.cdef_leaf.specs.Choice.{choiceOf};
+ghost use Rattle.arith_damping.specs.Choice.{choiceOf};
 use crate::answer;
 
 // Applying in luma: a primary and a secondary strength per unit.
@@ -25,7 +25,7 @@ pub extern "C" fn quern_apply_luma(
     ensures { λ r. ⌜ r ≡ numberOf ((applyingListsOutcome (lumaPicture depth width height (now (skip .entry)) (now (dirs .entry)) (now (vars .entry))) (choiceOf damping unstated) (now (snapshot .entry)) (now (pris .entry)) (now (secs .entry)) (now (dst .entry))) .answer) ⌝ }
     ensures { λ _. ⌜ now (dst .exit) ≡ (applyingListsOutcome (lumaPicture depth width height (now (skip .entry)) (now (dirs .entry)) (now (vars .entry))) (choiceOf damping unstated) (now (snapshot .entry)) (now (pris .entry)) (now (secs .entry)) (now (dst .entry))) .plane ⌝ }
 {
-    let d = cdef_leaf::damping::choice_of(damping, unstated);
+    let d = arith_damping::choice_of(damping, unstated);
     answer::number(cdef::applying_lists::apply_luma(
         dst,
         snapshot,
@@ -61,7 +61,7 @@ pub extern "C" fn quern_apply_chroma(
     ensures { λ r. ⌜ r ≡ numberOf ((applyingListsOutcome (chromaPicture depth width height sx sy (now (skip .entry)) (now (dirs .entry))) (choiceOf damping unstated) (now (snapshot .entry)) (now (pris .entry)) (now (secs .entry)) (now (dst .entry))) .answer) ⌝ }
     ensures { λ _. ⌜ now (dst .exit) ≡ (applyingListsOutcome (chromaPicture depth width height sx sy (now (skip .entry)) (now (dirs .entry))) (choiceOf damping unstated) (now (snapshot .entry)) (now (pris .entry)) (now (secs .entry)) (now (dst .entry))) .plane ⌝ }
 {
-    let d = cdef_leaf::damping::choice_of(damping, unstated);
+    let d = arith_damping::choice_of(damping, unstated);
     answer::number(cdef::applying_lists::apply_chroma(
         dst,
         snapshot,

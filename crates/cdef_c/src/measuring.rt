@@ -3,7 +3,7 @@ ghost use mathlib.Core.Path.{_≡_};
 ghost use Rattle.cdef_spec.specs.Answers.{numberOf};
 ghost use Rattle.cdef_spec.specs.Picture.{lumaPicture, chromaPicture};
 ghost use Rattle.cdef_spec.specs.FrameCalls.{measuringOutcome};
-ghost use Rattle.cdef_leaf.specs.Choice.{choiceOf};
+ghost use Rattle.arith_damping.specs.Choice.{choiceOf};
 use crate::answer;
 use cdef_spec::UnitPair;
 use cdef_spec::Visible;
@@ -40,7 +40,7 @@ pub extern "C" fn quern_measure_luma(
         primary: primary,
         secondary: secondary,
     };
-    let d = cdef_leaf::damping::choice_of(damping, unstated);
+    let d = arith_damping::choice_of(damping, unstated);
     answer::number(cdef::measuring::measure_luma(
         totals,
         scratch,
@@ -91,7 +91,7 @@ pub extern "C" fn quern_measure_chroma(
         primary: primary,
         secondary: secondary,
     };
-    let d = cdef_leaf::damping::choice_of(damping, unstated);
+    let d = arith_damping::choice_of(damping, unstated);
     answer::number(cdef::measuring::measure_chroma(
         totals,
         scratch,

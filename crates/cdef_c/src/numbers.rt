@@ -91,5 +91,5 @@ pub extern "C" fn quern_chroma_damping(signalled: u8, depth: u8, out: &mut u8) -
 pub extern "C" fn quern_log2_floor(v: u32) -> u32
     ensures { λ r. ⌜ r ≡ FloorLog2 v ⌝ }
 {
-    cdef_leaf::log2_floor(v)
+    arith_strength::log2_floor(v)
 }

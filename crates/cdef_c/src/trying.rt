@@ -3,7 +3,7 @@ ghost use mathlib.Core.Path.{_≡_};
 ghost use Rattle.cdef_spec.specs.Answers.{numberOf};
 ghost use Rattle.cdef_spec.specs.Picture.{lumaPicture, chromaPicture};
 ghost use Rattle.cdef_spec.specs.FrameCalls.{tryingOutcome};
-ghost use Rattle.cdef_leaf.specs.Choice.{choiceOf};
+ghost use Rattle.arith_damping.specs.Choice.{choiceOf};
 use crate::answer;
 use cdef_spec::Visible;
 
@@ -31,7 +31,7 @@ pub extern "C" fn quern_try_luma(
         width: visible_width,
         height: visible_height,
     };
-    let d = cdef_leaf::damping::choice_of(damping, unstated);
+    let d = arith_damping::choice_of(damping, unstated);
     answer::number(cdef::trying::try_luma(
         totals,
         snapshot,
@@ -72,7 +72,7 @@ pub extern "C" fn quern_try_chroma(
         width: visible_width,
         height: visible_height,
     };
-    let d = cdef_leaf::damping::choice_of(damping, unstated);
+    let d = arith_damping::choice_of(damping, unstated);
     answer::number(cdef::trying::try_chroma(
         totals,
         snapshot,

@@ -5,7 +5,6 @@ ghost use Rattle.cdef_spec.specs.Standard.{square, divBy, costStraight, costDia
 ghost use Rattle.cdef_direction.specs.Costs.{entry, costList, CostsFit, bestOf};
 use crate::Found;
 use crate::Partials;
-use cdef_leaf::tables;
 
 // The square of a line sum.
 pub fn square_of(v: i16) -> u32
@@ -20,7 +19,7 @@ fn one(l: &[i16; 16], a: usize, n: u32) -> u32
     requires { ⌜ (a < 16) × (1 ≤ n) × (n ≤ 8) × (square (entry (now l) a) * divBy n ≤ 880803840) ⌝ }
     ensures { λ r. ⌜ r ≡ square (entry (now (l .entry)) a) * divBy n ⌝ }
 {
-    square_of(l[a]) * tables::divisor(n)
+    square_of(l[a]) * arith_tables::divisor(n)
 }
 
 // Two lines of n samples.
@@ -28,7 +27,7 @@ fn two(l: &[i16; 16], a: usize, b: usize, n: u32) -> u32
     requires { ⌜ (a < 16) × (b < 16) × (1 ≤ n) × (n ≤ 8) × ((square (entry (now l) a) + square (entry (now l) b)) * divBy n ≤ 880803840) ⌝ }
     ensures { λ r. ⌜ r ≡ (square (entry (now (l .entry)) a) + square (entry (now (l .entry)) b)) * divBy n ⌝ }
 {
-    (square_of(l[a]) + square_of(l[b])) * tables::divisor(n)
+    (square_of(l[a]) + square_of(l[b])) * arith_tables::divisor(n)
 }
 
 // Directions 2 and 6: eight lines of 8 samples.

@@ -1,5 +1,4 @@
 // The block filter: a block of a plane filtered into rows of a destination.
-pub mod asked; // asked.rt: the checks of the block filter alone
 
 ghost use mathlib.Core.Path.{_≡_};
 ghost use Prim.Native.Nat.{ℕ, _+_, _-_, _*_, _≤_, _<_, min};

@@ -14,7 +14,7 @@ use Rattle.cdef_spec.specs.ChromaLaws.{chroma-low}
 use Rattle.cdef_spec.specs.Standard.{chromaDirection}
 use Rattle.cdef_spec.specs.Document01.{lumaDamping, chromaDamping, lumaParams, chromaParams}
 use Rattle.cdef_spec.specs.Picture.{PlaneKind, luma, chroma, paramsFor}
-use Rattle.cdef_kernel.specs.ShapeLaws.{limit-low, adjust-low}
+use Rattle.arith_strength.specs.StrengthLaws.{limit-low, adjust-low}
 use Rattle.cdef_filter.specs.Store.{Usable}
 use Rattle.cdef_frame.specs.Lent.{InForce}
 

@@ -20,9 +20,9 @@ pub fn damping_of(f: Frame, d: SignalledDamping) -> WorkingDamping
     ensures { λ r. ⌜ ((vs : List ℕ) → r ≡ dampingOf (kindOf f vs) d (f .depth)) ⌝ }
 {
     if f.luma {
-        return cdef_leaf::damping::luma_damping(d, f.depth);
+        return arith_damping::luma_damping(d, f.depth);
     }
-    cdef_leaf::damping::chroma_damping(d, f.depth)
+    arith_damping::chroma_damping(d, f.depth)
 }
 
 // The block's direction in the plane.
@@ -33,7 +33,7 @@ pub fn dir_of(f: Frame, dirs: &[u8], b: usize) -> u8
     if f.luma {
         return dirs[b];
     }
-    cdef_leaf::tables::chroma_direction(f.sx, f.sy, dirs[b])
+    arith_tables::chroma_direction(f.sx, f.sy, dirs[b])
 }
 
 // The kind of the block's trial.
@@ -54,7 +54,7 @@ fn primary_of(f: Frame, vars: &[u32], b: usize, s: u8) -> u32
 {
     let p = (s as u32) << ((f.depth - 8) as u32);
     if f.luma {
-        return cdef_leaf::adjust_pri(p, vars[b]);
+        return arith_strength::adjust_pri(p, vars[b]);
     }
     p
 }

@@ -24,7 +24,7 @@ pub fn try_frame(
     ensures { λ r. ⌜ r ≡ tryingNo (pictureOf f (now (skip .entry)) (now (dirs .entry)) (now (vars .entry))) damping v (now (snapshot .entry)) (now (original .entry)) (now (totals .entry)) ⌝ }
     ensures { λ _. ⌜ now (totals .exit) ≡ (tryingOutcome (pictureOf f (now (skip .entry)) (now (dirs .entry)) (now (vars .entry))) damping v (now (snapshot .entry)) (now (original .entry)) (now (totals .entry))) .totals ⌝ }
 {
-    let no = cdef_frame_asked::calls::trying_no(
+    let no = check_frame::trying_no(
         f,
         damping,
         v,
@@ -38,7 +38,7 @@ pub fn try_frame(
     if no != 0 {
         return no;
     }
-    let d = cdef_leaf::damping::in_force(damping);
+    let d = arith_damping::in_force(damping);
     cdef_try::try_plane(totals, snapshot, original, f, v, skip, dirs, vars, d);
     0
 }
@@ -62,7 +62,7 @@ pub fn measure_frame(
     ensures { λ _. ⌜ now (totals .exit) ≡ (measuringOutcome (pictureOf f (now (skip .entry)) (now (dirs .entry)) (now (vars .entry))) damping v (now (plane .entry)) (now (original .entry)) p (now (totals .entry)) (now (scratch .entry))) .totals ⌝ }
     ensures { λ _. ⌜ now (scratch .exit) ≡ (measuringOutcome (pictureOf f (now (skip .entry)) (now (dirs .entry)) (now (vars .entry))) damping v (now (plane .entry)) (now (original .entry)) p (now (totals .entry)) (now (scratch .entry))) .scratch ⌝ }
 {
-    let no = cdef_frame_asked::calls::measuring_no(
+    let no = check_frame::measuring_no(
         f,
         damping,
         v,
@@ -78,7 +78,7 @@ pub fn measure_frame(
     if no != 0 {
         return no;
     }
-    let d = cdef_leaf::damping::in_force(damping);
+    let d = arith_damping::in_force(damping);
     cdef_measure::measure_plane(
         totals,
         scratch,
@@ -111,7 +111,7 @@ pub fn apply_frame(
     ensures { λ r. ⌜ r ≡ applyingListsNo (pictureOf f (now (skip .entry)) (now (dirs .entry)) (now (vars .entry))) damping (now (snapshot .entry)) (now (pris .entry)) (now (secs .entry)) (now (dst .entry)) ⌝ }
     ensures { λ _. ⌜ now (dst .exit) ≡ (applyingListsOutcome (pictureOf f (now (skip .entry)) (now (dirs .entry)) (now (vars .entry))) damping (now (snapshot .entry)) (now (pris .entry)) (now (secs .entry)) (now (dst .entry))) .plane ⌝ }
 {
-    let no = cdef_frame_asked::calls::applying_no(
+    let no = check_frame::applying_no(
         f,
         damping,
         snapshot,
@@ -125,7 +125,7 @@ pub fn apply_frame(
     if no != 0 {
         return no;
     }
-    let d = cdef_leaf::damping::in_force(damping);
+    let d = arith_damping::in_force(damping);
     cdef_apply::apply_plane(dst, snapshot, f, skip, dirs, vars, pris, secs, d);
     0
 }

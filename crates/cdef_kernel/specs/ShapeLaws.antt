@@ -1,17 +1,12 @@
 -- Forms of the sums, and ranges of strengths and samples.
 use mathlib.Core.Path.{_≡_, refl, sym}
-use mathlib.Core.Bool.{Bool, true, false, cond}
 use mathlib.Core.List.{[]}
-use Prim.Native.Nat.{ℕ, zero, suc, _+_, _-_, _*_, _/_, _%_, _^_, _≤_, _<_, min, max}
+use Prim.Native.Nat.{ℕ, zero, suc, _+_, _-_, _≤_, _<_, max}
 use native.Mathlib.Decide.{ℕ-discrete}
-use native.Mathlib.Nat.{mul-le-mul}
 use native.Mathlib.Omega.{arith}
-use lib.Dec.{eqb}
 use lib.ListN.{getD}
-use lib.Pow.{pow-mono}
 use lib.IntN.{ℤ, pos, _+ℤ_, _*ℤ_}
-use Rattle.cdef_spec.specs.Words.{_>>_}
-use Rattle.cdef_spec.specs.Standard.{FloorLog2, adjustPri, Cdef-Pri-Taps}
+use Rattle.cdef_spec.specs.Standard.{Cdef-Pri-Taps}
 use Rattle.cdef_rows.specs.Sums.{InRange}
 use Rattle.cdef_kernel.specs.Kernel.{shiftOf, priOf, secOf}
 use Rattle.cdef_kernel.specs.ScaleLaws.{scale-add, four, eight}
@@ -50,30 +45,3 @@ pri-in s d depth h = record { s = h; sh = omega arith; w0 = omega arith; w1 = om
 pub sec-in : (s d : ℕ) → s ≤ 240 → InRange (secOf s d)
 unfolding secOf shiftOf
 sec-in s d h = record { s = h; sh = omega arith; w0 = omega arith; w1 = omega arith }
-
--- a strength up to 15, shifted by depth - 8, is at most 240 and fits
-pub limit-low : (n d : ℕ) → n ≤ 15 → d ≤ 12 → n * 2 ^ (d - 8) ≤ 240
-limit-low n d hn hd =
-    let k : d - 8 ≤ 4 = omega arith in
-    let l : 2 ^ (d - 8) ≤ 2 ^ 4 = pow-mono {i = d - 8} {j = 4} k in
-    let m : n * 2 ^ (d - 8) ≤ 15 * 2 ^ 4 = mul-le-mul hn l in
-    omega arith
-
-pub limit : (n d : ℕ) → n ≤ 15 → d ≤ 12 → (n * 2 ^ (d - 8)) % 2 ^ 32 ≡ n * 2 ^ (d - 8)
-limit n d hn hd = omega (arith, limit-low n d hn hd)
-
--- adjusting never raises a strength
-weighed : (s l : ℕ) → l ≤ 12 → (s * (4 + l) + 8) / 2 ^ 4 ≤ s
-weighed s l h = let k : 4 + l ≤ 16 = omega arith in let r : s ≤ s = omega arith in omega (arith, mul-le-mul r k)
-
-capped : (b : Bool) (n : ℕ) → cond b 0 (min n 12) ≤ 12
-capped true n = omega arith
-capped false n = omega arith
-
-pub adjust-low : (s v : ℕ) → adjustPri s v ≤ s
-unfolding adjustPri
-adjust-low s v = go (eqb v 0)
-  where
-    go : (b : Bool) → cond b 0 ((s * (4 + cond (eqb (v >> 6) 0) 0 (min (FloorLog2 (v >> 6)) 12)) + 8) >> 4) ≤ s
-    go true = omega arith
-    go false = weighed s (cond (eqb (v >> 6) 0) 0 (min (FloorLog2 (v >> 6)) 12)) (capped (eqb (v >> 6) 0) (FloorLog2 (v >> 6)))

@@ -15,8 +15,8 @@ fn offset(dir: usize, k: usize) -> usize
     requires { ⌜ (dir < 8) × (k < 2) ⌝ }
     ensures { λ r. ⌜ r ≡ offAt dir k ⌝ }
 {
-    let row = cdef_leaf::tables::direction_row(dir, k);
-    let col = cdef_leaf::tables::direction_col(dir, k);
+    let row = arith_tables::direction_row(dir, k);
+    let col = arith_tables::direction_col(dir, k);
     std::num::wrapping_add_usize(row * 12 + col, usize::MAX - 25)
 }
 
@@ -52,7 +52,7 @@ fn shift_of(s: u16, damping: u32) -> u32
     requires { ⌜ damping ≤ 31 ⌝ }
     ensures { λ r. ⌜ r ≡ shiftOf s damping ⌝ }
 {
-    let l = cdef_leaf::log2_floor(s as u32);
+    let l = arith_strength::log2_floor(s as u32);
     if damping <= l {
         return 0;
     }

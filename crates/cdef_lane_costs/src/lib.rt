@@ -5,7 +5,6 @@ ghost use lib.ListN.{length};
 ghost use Rattle.cdef_sample.specs.Bounds.{Within};
 ghost use Rattle.cdef_sample.specs.Upto.{upto};
 ghost use Rattle.cdef_lane_costs.specs.Costs.{endsOf, squaresOf, straightOf, betweenOf, diagonalOf, weighedOf, LaneCostsFit, costOf, written, CostsTo, costsOf};
-use cdef_leaf::tables;
 
 // Lines n and 14 - n of each lane side by side, for n below 8, so that one instruction squares and adds both.
 fn ends(p: &[i16; 128]) -> [i16; 128]
@@ -45,7 +44,7 @@ fn times(x: u32, n: u32) -> u32
     requires { ⌜ (1 ≤ n) × (n ≤ 8) × (x * (840 / n) ≤ 880803840) ⌝ }
     ensures { λ r. ⌜ r ≡ x * (840 / n) ⌝ }
 {
-    x * tables::divisor(n)
+    x * arith_tables::divisor(n)
 }
 
 // The cost of eight lines of 8 samples.

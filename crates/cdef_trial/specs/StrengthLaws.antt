@@ -10,7 +10,8 @@ use Rattle.cdef_rows.specs.declared.Taps.{Taps}
 use Rattle.cdef_rows.specs.declared.Strength.{Strength}
 use Rattle.cdef_kernel.specs.Kernel.{tapsOf, priOf, secOf}
 use Rattle.cdef_kernel.specs.PlaceLaws.{taps-near}
-use Rattle.cdef_kernel.specs.ShapeLaws.{pri-in, sec-in, limit-low, adjust-low}
+use Rattle.cdef_kernel.specs.ShapeLaws.{pri-in, sec-in}
+use Rattle.arith_strength.specs.StrengthLaws.{limit-low, adjust-low}
 use Rattle.cdef_trial.specs.declared.Twelve.{Twelve}
 use Rattle.cdef_trial.specs.Trial.{Ready}
 use Rattle.cdef_trial.specs.Strengths.{adjustedBy, twelveOf}

@@ -12,7 +12,7 @@ fn adjusted(way: TrialWay, s: u32) -> u32
     ensures { λ r. ⌜ r ≡ adjustedBy way s ⌝ }
 {
     match way {
-        TrialWay::Luma(var) => cdef_leaf::adjust_pri(s, var),
+        TrialWay::Luma(var) => arith_strength::adjust_pri(s, var),
         TrialWay::Chroma => s,
     }
 }

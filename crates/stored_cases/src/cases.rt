@@ -72,5 +72,5 @@ fn same_damping(l: Line) -> bool {
 // v code answer: nothing is rejected
 fn same_log2(l: Line) -> bool {
     let size = l.size;
-    size[1] == 0 && (cdef_leaf::log2_floor(case_text::as_u32(size[0])) as u64) == size[2]
+    size[1] == 0 && (arith_strength::log2_floor(case_text::as_u32(size[0])) as u64) == size[2]
 }

@@ -4,8 +4,8 @@ use native.Mathlib.Omega.{arith}
 use borrow.Author.Needs.{needs}
 use Rattle.cdef_spec.specs.FrameCalls.{applyingListsNo}
 use Rattle.cdef_frame.specs.Frame.{pictureOf}
-use Rattle.cdef_frame_asked.specs.Facts.{ApplyingFacts}
-use Rattle.cdef_frame_asked.specs.YesLaws.{applying-facts}
+use Rattle.check_frame.specs.Facts.{ApplyingFacts}
+use Rattle.check_frame.specs.YesLaws.{applying-facts}
 use Rattle.cdef_frame_calls.specs.OutcomeLaws.{applied-not, applied-done}
 use borrow.Author.Needs.{needs}
 use Rattle.cdef_frame_calls.proofs.apply_frame.Statement.{statement}
@@ -13,8 +13,8 @@ use Rattle.cdef_frame_calls.proofs.apply_frame.Tie as tie
 use Rattle.cdef_frame_calls.proofs.apply_frame.Reads as reads
 use Rattle.cdef_frame_calls.proofs.apply_frame.Lts as lts
 use Rattle.cdef_apply.proofs.apply_plane.Reads as apply-plane-reads
-use Rattle.cdef_frame_asked.proofs.calls.applying_no.Reads as applying-no-reads
-use Rattle.cdef_leaf.proofs.damping.in_force.Reads as in-force-reads
+use Rattle.check_frame.proofs.applying_no.Reads as applying-no-reads
+use Rattle.arith_damping.proofs.in_force.Reads as in-force-reads
 
 taken : (c : tie.Else1) → let a = c .before .before .before .before .before .before .before .before .before .before .args in applyingListsNo (pictureOf (a .f) (a .skip .now) (a .dirs .now) (a .vars .now)) (a .damping) (a .snapshot .now) (a .pris .now) (a .secs .now) (a .dst .now) ≡ 0
 taken c = sym (c .before .applying-no .ensures) ∙ c .if1 .left

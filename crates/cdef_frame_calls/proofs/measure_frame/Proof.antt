@@ -5,16 +5,16 @@ use borrow.Author.Needs.{needs}
 use Rattle.cdef_spec.specs.FrameCalls.{measuringNo}
 use Rattle.cdef_spec.specs.OutcomeLaws.{measuring-refused}
 use Rattle.cdef_frame.specs.Frame.{pictureOf}
-use Rattle.cdef_frame_asked.specs.Facts.{MeasuringFacts}
-use Rattle.cdef_frame_asked.specs.YesLaws.{measuring-facts}
+use Rattle.check_frame.specs.Facts.{MeasuringFacts}
+use Rattle.check_frame.specs.YesLaws.{measuring-facts}
 use Rattle.cdef_frame_calls.specs.OutcomeLaws.{measured-done}
 use borrow.Author.Needs.{needs}
 use Rattle.cdef_frame_calls.proofs.measure_frame.Statement.{statement}
 use Rattle.cdef_frame_calls.proofs.measure_frame.Tie as tie
 use Rattle.cdef_frame_calls.proofs.measure_frame.Reads as reads
 use Rattle.cdef_frame_calls.proofs.measure_frame.Lts as lts
-use Rattle.cdef_frame_asked.proofs.calls.measuring_no.Reads as measuring-no-reads
-use Rattle.cdef_leaf.proofs.damping.in_force.Reads as in-force-reads
+use Rattle.check_frame.proofs.measuring_no.Reads as measuring-no-reads
+use Rattle.arith_damping.proofs.in_force.Reads as in-force-reads
 use Rattle.cdef_measure.proofs.measure_plane.Reads as measure-plane-reads
 
 taken : (c : tie.Else1) → let a = c .before .before .before .before .before .before .before .before .before .before .args in measuringNo (pictureOf (a .f) (a .skip .now) (a .dirs .now) (a .vars .now)) (a .damping) (a .v) (a .plane .now) (a .original .now) (a .p) (a .totals .now) (a .scratch .now) ≡ 0

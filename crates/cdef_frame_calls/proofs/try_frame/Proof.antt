@@ -5,16 +5,16 @@ use borrow.Author.Needs.{needs}
 use Rattle.cdef_spec.specs.FrameCalls.{tryingNo}
 use Rattle.cdef_spec.specs.OutcomeLaws.{trying-refused}
 use Rattle.cdef_frame.specs.Frame.{pictureOf}
-use Rattle.cdef_frame_asked.specs.Facts.{TryingFacts}
-use Rattle.cdef_frame_asked.specs.YesLaws.{trying-facts}
+use Rattle.check_frame.specs.Facts.{TryingFacts}
+use Rattle.check_frame.specs.YesLaws.{trying-facts}
 use Rattle.cdef_frame_calls.specs.OutcomeLaws.{tried-done}
 use borrow.Author.Needs.{needs}
 use Rattle.cdef_frame_calls.proofs.try_frame.Statement.{statement}
 use Rattle.cdef_frame_calls.proofs.try_frame.Tie as tie
 use Rattle.cdef_frame_calls.proofs.try_frame.Reads as reads
 use Rattle.cdef_frame_calls.proofs.try_frame.Lts as lts
-use Rattle.cdef_frame_asked.proofs.calls.trying_no.Reads as trying-no-reads
-use Rattle.cdef_leaf.proofs.damping.in_force.Reads as in-force-reads
+use Rattle.check_frame.proofs.trying_no.Reads as trying-no-reads
+use Rattle.arith_damping.proofs.in_force.Reads as in-force-reads
 use Rattle.cdef_try.proofs.try_plane.Reads as try-plane-reads
 
 taken : (c : tie.Else1) → let a = c .before .before .before .before .before .before .before .before .args in tryingNo (pictureOf (a .f) (a .skip .now) (a .dirs .now) (a .vars .now)) (a .damping) (a .v) (a .snapshot .now) (a .original .now) (a .totals .now) ≡ 0

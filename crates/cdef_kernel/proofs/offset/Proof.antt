@@ -10,8 +10,8 @@ use Rattle.cdef_kernel.proofs.offset.Statement.{statement}
 use Rattle.cdef_kernel.proofs.offset.Tie as tie
 use Rattle.cdef_kernel.proofs.offset.Reads as reads
 use Rattle.cdef_kernel.proofs.offset.Lts as lts
-use Rattle.cdef_leaf.proofs.tables.direction_col.Reads as direction-col-reads
-use Rattle.cdef_leaf.proofs.tables.direction_row.Reads as direction-row-reads
+use Rattle.arith_tables.proofs.direction_col.Reads as direction-col-reads
+use Rattle.arith_tables.proofs.direction_row.Reads as direction-row-reads
 use Rattle.std.proofs.num.wrapping_add_usize.Reads as wrapping-add-usize-reads
 
 small : (c : tie.After-direction-col) → (c .before .direction-row .result ≤ 4) × (c .direction-col .result ≤ 4)

@@ -6,7 +6,7 @@ use Rattle.cdef_kernel.proofs.shift_of.Statement.{statement}
 use Rattle.cdef_kernel.proofs.shift_of.Tie as tie
 use Rattle.cdef_kernel.proofs.shift_of.Reads as reads
 use Rattle.cdef_kernel.proofs.shift_of.Lts as lts
-use Rattle.cdef_leaf.proofs.log2_floor.Reads as log2-floor-reads
+use Rattle.arith_strength.proofs.log2_floor.Reads as log2-floor-reads
 
 log2-floor-requires : tie.Need-log2-floor-requires
 log2-floor-requires c κs = search needs

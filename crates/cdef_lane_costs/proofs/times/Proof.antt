@@ -5,7 +5,7 @@ use Rattle.cdef_lane_costs.proofs.times.Statement.{statement}
 use Rattle.cdef_lane_costs.proofs.times.Tie as tie
 use Rattle.cdef_lane_costs.proofs.times.Reads as reads
 use Rattle.cdef_lane_costs.proofs.times.Lts as lts
-use Rattle.cdef_leaf.proofs.tables.divisor.Reads as divisor-reads
+use Rattle.arith_tables.proofs.divisor.Reads as divisor-reads
 
 divisor-requires : tie.Need-divisor-requires
 divisor-requires c κs = search needs

@@ -3,11 +3,11 @@ use mathlib.Core.Path.{_≡_, sym, _∙_}
 use mathlib.Core.Bool.{true}
 use Rattle.cdef_spec.specs.Document01.{Plane}
 use Rattle.cdef_spec.specs.Questions.{firstNo, cornerTaken, cutTaken}
-use Rattle.cdef_asked.specs.Parts.{planeFirst}
-use Rattle.cdef_asked.specs.PartLaws.{plane-yes}
-use Rattle.cdef_asked.specs.YesLaws.{corner-low}
-use Rattle.cdef_asked.specs.DirectionLaws.{no-plane, no-corner, no-cut, found}
-use Rattle.cdef_asked.proofs.Asked.{no-so, yes-so}
+use Rattle.check_block.specs.Parts.{planeFirst}
+use Rattle.check_block.specs.PartLaws.{plane-yes}
+use Rattle.check_sides.specs.SideLaws.{corner-low}
+use Rattle.check_block.specs.DirectionLaws.{no-plane, no-corner, no-cut, found}
+use Rattle.check_sides.specs.Said.{no-so, yes-so}
 use borrow.Author.Needs.{needs}
 use Rattle.cdef.proofs.direction.direction.Statement.{statement}
 use Rattle.cdef.proofs.direction.direction.Tie as tie

@@ -5,15 +5,15 @@ use borrow.Author.Needs.{needs}
 use Rattle.cdef_spec.specs.Answers.{readAnswer}
 use Rattle.cdef_spec.specs.Document01.{Plane}
 use Rattle.cdef_spec.specs.FrameCalls.{directionPassNo}
-use Rattle.cdef_frame_asked.specs.Facts.{PassFacts}
-use Rattle.cdef_frame_asked.specs.PassLaws.{pass-facts}
+use Rattle.check_pass.specs.PassLaws.{PassFacts}
+use Rattle.check_pass.specs.PassLaws.{pass-facts}
 use Rattle.cdef_frame_calls.specs.OutcomeLaws.{pass-refused, pass-done}
 use borrow.Author.Needs.{needs}
 use Rattle.cdef.proofs.directions.direction_pass.Statement.{statement}
 use Rattle.cdef.proofs.directions.direction_pass.Tie as tie
 use Rattle.cdef.proofs.directions.direction_pass.Reads as reads
 use Rattle.cdef.proofs.directions.direction_pass.Lts as lts
-use Rattle.cdef_frame_asked.proofs.calls.direction_pass_no.Reads as direction-pass-no-reads
+use Rattle.check_pass.proofs.direction_pass_no.Reads as direction-pass-no-reads
 use Rattle.cdef_pass.proofs.direction_pass.Reads as direction-pass-reads
 
 abbrev planeOf : tie.Start → Plane

@@ -8,7 +8,7 @@ use mir.ValLaws.{toZ-pos}
 use Rattle.cdef_spec.specs.Document01.{Plane}
 use Rattle.cdef_spec.specs.BlockCalls.{planeDistance}
 use Rattle.cdef_distance.specs.PlaneLaws.{distance-low}
-use Rattle.cdef_asked.specs.DistanceLaws.{DistanceFacts, distance-facts, distance-refused, distance-done}
+use Rattle.check_block.specs.DistanceLaws.{DistanceFacts, distance-facts, distance-refused, distance-done}
 use Rattle.cdef.proofs.distance.distance.Statement.{statement}
 use Rattle.cdef.proofs.distance.distance.Tie as tie
 

@@ -7,7 +7,7 @@ use mir.Syntax.{w64}
 use mir.ValLaws.{toZ-pos}
 use Rattle.cdef_spec.specs.Document01.{Plane}
 use Rattle.cdef_distance.specs.PlaneLaws.{plain-low}
-use Rattle.cdef_asked.specs.DistanceLaws.{DistanceFacts, distance-facts, squares-refused, squares-done}
+use Rattle.check_block.specs.DistanceLaws.{DistanceFacts, distance-facts, squares-refused, squares-done}
 use Rattle.cdef.proofs.distance.squares.Statement.{statement}
 use Rattle.cdef.proofs.distance.squares.Tie as tie
 

@@ -6,16 +6,16 @@ use Rattle.cdef_spec.specs.Answers.{readAnswer}
 use Rattle.cdef_spec.specs.Document01.{Plane}
 use Rattle.cdef_spec.specs.Questions.{firstNo, widenedTaken}
 use Rattle.cdef_filter.specs.StoreLaws.{stored-block}
-use Rattle.cdef_asked.specs.WindowLaws.{in-plane, window-asked, held-so}
-use Rattle.cdef_asked.specs.Parts.{filterFirst}
-use Rattle.cdef_asked.specs.PartLaws.{FilterFacts, filter-facts, filter-refused, filter-samples, filter-done}
-use Rattle.cdef_asked.proofs.Asked.{no-so, yes-so}
+use Rattle.check_block.specs.WindowLaws.{in-plane, window-asked, held-so}
+use Rattle.check_block.specs.Parts.{filterFirst}
+use Rattle.check_block.specs.PartLaws.{FilterFacts, filter-facts, filter-refused, filter-samples, filter-done}
+use Rattle.check_sides.specs.Said.{no-so, yes-so}
 use borrow.Author.Needs.{needs}
 use Rattle.cdef.proofs.filter.filter_block.Statement.{statement}
 use Rattle.cdef.proofs.filter.filter_block.Tie as tie
 use Rattle.cdef.proofs.filter.filter_block.Reads as reads
 use Rattle.cdef.proofs.filter.filter_block.Lts as lts
-use Rattle.cdef_asked.proofs.block_questions.filter_no.Reads as filter-no-reads
+use Rattle.check_block.proofs.filter.filter_no.Reads as filter-no-reads
 use Rattle.cdef_filter.proofs.filter_window.Reads as filter-window-reads
 use Rattle.cdef_window.proofs.window.Reads as window-reads
 use Rattle.cdef_window.proofs.window_taken.Reads as window-taken-reads

@@ -8,8 +8,8 @@ use Rattle.cdef_spec.specs.Standard.{adjustPri}
 use Rattle.cdef_spec.specs.Answers.{resultOf, readStrength}
 use Rattle.cdef_spec.specs.Questions.{firstNo, strengthTaken, varianceTaken}
 use Rattle.cdef_spec.specs.BlockCalls.{adjustNo, adjustOutcome}
-use Rattle.cdef_asked.specs.YesLaws.{strength-le}
-use Rattle.cdef_asked.proofs.Asked.{no-so, yes-so}
+use Rattle.check_values.specs.YesLaws.{strength-le}
+use Rattle.check_sides.specs.Said.{no-so, yes-so}
 use borrow.Author.Needs.{needs}
 use Rattle.cdef.proofs.numbers.adjust.Statement.{statement}
 use Rattle.cdef.proofs.numbers.adjust.Tie as tie

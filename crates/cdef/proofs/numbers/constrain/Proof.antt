@@ -15,8 +15,8 @@ use Rattle.cdef_spec.specs.Answers.{resultOf, readDifference}
 use Rattle.cdef_spec.specs.Questions.{firstNo, strengthTaken, workingTaken, differenceTaken}
 use Rattle.cdef_spec.specs.BlockCalls.{constrainNo, constrainOutcome}
 use Rattle.cdef_spec.specs.SignedLaws.{back}
-use Rattle.cdef_asked.specs.YesLaws.{strength-le, working-le, difference-le}
-use Rattle.cdef_asked.proofs.Asked.{no-so, yes-so}
+use Rattle.check_values.specs.YesLaws.{strength-le, working-le, difference-le}
+use Rattle.check_sides.specs.Said.{no-so, yes-so}
 use borrow.Author.Needs.{needs}
 use Rattle.cdef.proofs.numbers.constrain.Statement.{statement}
 use Rattle.cdef.proofs.numbers.constrain.Tie as tie

@@ -2,7 +2,7 @@
 use Rattle.cdef_spec.specs.Answers.{resultOf, readDamping}
 use Rattle.cdef_spec.specs.Questions.{firstNo}
 use Rattle.cdef_spec.specs.BlockCalls.{dampingNo, dampingOutcome}
-use Rattle.cdef_asked.proofs.Asked.{no-so, yes-so}
+use Rattle.check_sides.specs.Said.{no-so, yes-so}
 use borrow.Author.Needs.{needs}
 use Rattle.cdef.proofs.numbers.damping.Statement.{statement}
 use Rattle.cdef.proofs.numbers.damping.Tie as tie

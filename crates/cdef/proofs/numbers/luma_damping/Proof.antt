@@ -4,7 +4,7 @@ use native.Mathlib.Omega.{arith}
 use borrow.Author.Tests.{ne-eqb}
 use Rattle.cdef_spec.specs.Answers.{resultOf, readWorking}
 use Rattle.cdef_spec.specs.BlockCalls.{lumaDampingOutcome}
-use Rattle.cdef_asked.specs.YesLaws.{working-damping-yes}
+use Rattle.check_numbers.specs.NumberLaws.{working-damping-yes}
 use borrow.Author.Needs.{needs}
 use Rattle.cdef.proofs.numbers.luma_damping.Statement.{statement}
 use Rattle.cdef.proofs.numbers.luma_damping.Tie as tie

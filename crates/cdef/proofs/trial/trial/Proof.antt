@@ -5,16 +5,16 @@ use Rattle.cdef_spec.specs.Answers.{readAnswer}
 use Rattle.cdef_spec.specs.Document01.{Plane}
 use Rattle.cdef_spec.specs.Questions.{firstNo, widenedTaken}
 use Rattle.cdef_trial.specs.TableLaws.{trial-table}
-use Rattle.cdef_asked.specs.TrialParts.{trialFirst}
-use Rattle.cdef_asked.specs.TrialPartLaws.{TrialFacts, trial-facts, trial-refused, trial-samples, trial-done}
-use Rattle.cdef_asked.specs.WindowLaws.{in-plane, window-asked, held-so}
-use Rattle.cdef_asked.proofs.Asked.{no-so, yes-so}
+use Rattle.check_block.specs.TrialParts.{trialFirst}
+use Rattle.check_block.specs.TrialPartLaws.{TrialFacts, trial-facts, trial-refused, trial-samples, trial-done}
+use Rattle.check_block.specs.WindowLaws.{in-plane, window-asked, held-so}
+use Rattle.check_sides.specs.Said.{no-so, yes-so}
 use borrow.Author.Needs.{needs}
 use Rattle.cdef.proofs.trial.trial.Statement.{statement}
 use Rattle.cdef.proofs.trial.trial.Tie as tie
 use Rattle.cdef.proofs.trial.trial.Reads as reads
 use Rattle.cdef.proofs.trial.trial.Lts as lts
-use Rattle.cdef_asked.proofs.trial_questions.trial_no.Reads as trial-no-reads
+use Rattle.check_block.proofs.trial.trial_no.Reads as trial-no-reads
 use Rattle.cdef_trial.proofs.block.trial_window.Reads as trial-window-reads
 use Rattle.cdef_window.proofs.window.Reads as window-reads
 use Rattle.cdef_window.proofs.window_taken.Reads as window-taken-reads

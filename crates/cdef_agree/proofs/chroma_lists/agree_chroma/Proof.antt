@@ -6,7 +6,7 @@ use mathlib.Core.List.{List}
 use Rattle.cdef_spec.specs.Picture.{chromaPicture}
 use Rattle.cdef_spec.specs.FrameCalls.{applyingListsOutcome}
 use Rattle.cdef_agree.specs.WayLaws.{trying-stops, pairs-stop, applying-stops, measuring-stops, all-agree}
-use Rattle.cdef_asked.proofs.Asked.{no-so, yes-so}
+use Rattle.check_sides.specs.Said.{no-so, yes-so}
 use Rattle.cdef_agree.proofs.chroma_lists.agree_chroma.Statement.{statement}
 use Rattle.cdef_agree.proofs.chroma_lists.agree_chroma.Tie as tie
 use Rattle.cdef_agree.proofs.chroma_lists.agree_chroma.Reads as reads

@@ -6,7 +6,7 @@ use mathlib.Core.List.{List}
 use Rattle.cdef_spec.specs.Picture.{lumaPicture}
 use Rattle.cdef_spec.specs.FrameCalls.{applyingListsOutcome}
 use Rattle.cdef_agree.specs.WayLaws.{trying-stops, pairs-stop, applying-stops, measuring-stops, all-agree}
-use Rattle.cdef_asked.proofs.Asked.{no-so, yes-so}
+use Rattle.check_sides.specs.Said.{no-so, yes-so}
 use Rattle.cdef_agree.proofs.luma_lists.agree_luma.Statement.{statement}
 use Rattle.cdef_agree.proofs.luma_lists.agree_luma.Tie as tie
 use Rattle.cdef_agree.proofs.luma_lists.agree_luma.Reads as reads

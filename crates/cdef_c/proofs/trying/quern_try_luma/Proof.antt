@@ -10,7 +10,7 @@ use Rattle.cdef_c.proofs.trying.quern_try_luma.Reads as reads
 use Rattle.cdef_c.proofs.trying.quern_try_luma.Lts as lts
 use Rattle.cdef.proofs.trying.try_luma.Reads as try-luma-reads
 use Rattle.cdef_c.proofs.answer.number.Reads as number-reads
-use Rattle.cdef_leaf.proofs.damping.choice_of.Reads as choice-of-reads
+use Rattle.arith_damping.proofs.choice_of.Reads as choice-of-reads
 
 choice-of-requires : tie.Need-choice-of-requires
 choice-of-requires c κs = search needs

@@ -5,7 +5,7 @@ use native.Mathlib.Omega.{arith}
 use mir.Syntax.{w16}
 use mir.ValLaws.{toZ-ofZ}
 use Rattle.cdef_spec.specs.Standard.{square, divBy}
-use Rattle.cdef_leaf.specs.DivisorLaws.{divisor-is-standard}
+use Rattle.arith_tables.specs.DivisorLaws.{divisor-is-standard}
 use Rattle.cdef_direction.specs.Costs.{entry}
 use borrow.Author.Needs.{needs}
 use Rattle.cdef_direction.proofs.costs.one.Statement.{statement}

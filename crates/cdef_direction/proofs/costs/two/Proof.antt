@@ -7,7 +7,7 @@ use lib.IntN.{pos}
 use mir.Syntax.{w16}
 use mir.ValLaws.{toZ-ofZ}
 use Rattle.cdef_spec.specs.Standard.{square, divBy}
-use Rattle.cdef_leaf.specs.DivisorLaws.{divisor-is-standard}
+use Rattle.arith_tables.specs.DivisorLaws.{divisor-is-standard}
 use Rattle.cdef_direction.specs.Costs.{entry}
 use Rattle.cdef_direction.proofs.Squares.{square-low}
 use borrow.Author.Needs.{needs}

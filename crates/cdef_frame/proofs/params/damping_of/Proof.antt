@@ -8,8 +8,8 @@ use Rattle.cdef_frame.proofs.params.damping_of.Statement.{statement}
 use Rattle.cdef_frame.proofs.params.damping_of.Tie as tie
 use Rattle.cdef_frame.proofs.params.damping_of.Reads as reads
 use Rattle.cdef_frame.proofs.params.damping_of.Lts as lts
-use Rattle.cdef_leaf.proofs.damping.chroma_damping.Reads as chroma-damping-reads
-use Rattle.cdef_leaf.proofs.damping.luma_damping.Reads as luma-damping-reads
+use Rattle.arith_damping.proofs.chroma_damping.Reads as chroma-damping-reads
+use Rattle.arith_damping.proofs.luma_damping.Reads as luma-damping-reads
 
 luma-damping-requires : tie.Need-luma-damping-requires
 luma-damping-requires c κs = search needs

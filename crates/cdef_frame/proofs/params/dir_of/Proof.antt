@@ -8,7 +8,7 @@ use Rattle.cdef_frame.proofs.params.dir_of.Statement.{statement}
 use Rattle.cdef_frame.proofs.params.dir_of.Tie as tie
 use Rattle.cdef_frame.proofs.params.dir_of.Reads as reads
 use Rattle.cdef_frame.proofs.params.dir_of.Lts as lts
-use Rattle.cdef_leaf.proofs.tables.chroma_direction.Reads as chroma-direction-reads
+use Rattle.arith_tables.proofs.chroma_direction.Reads as chroma-direction-reads
 
 shared-slice-read-result : tie.Need-shared-slice-read-result
 shared-slice-read-result c = search needs

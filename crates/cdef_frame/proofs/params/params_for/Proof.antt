@@ -1,7 +1,7 @@
 -- `cdef_frame::params_for` meets its contract.
 use native.Mathlib.Omega.{arith}
 use borrow.Author.Needs.{needs}
-use Rattle.cdef_kernel.specs.ShapeLaws.{limit}
+use Rattle.arith_strength.specs.StrengthLaws.{limit}
 use Rattle.cdef_frame.specs.FrameLaws.{params-are}
 use borrow.Author.Needs.{needs}
 use Rattle.cdef_frame.proofs.params.params_for.Statement.{statement}

@@ -2,7 +2,7 @@
 use mathlib.Core.Path.{_∙_}
 use native.Mathlib.Omega.{arith}
 use borrow.Author.Needs.{needs}
-use Rattle.cdef_kernel.specs.ShapeLaws.{limit, limit-low}
+use Rattle.arith_strength.specs.StrengthLaws.{limit, limit-low}
 use Rattle.cdef_frame.specs.Frame.{primaryOf}
 use Rattle.cdef_frame.specs.FrameLaws.{kind-luma, kind-chroma}
 use borrow.Author.Needs.{needs}
@@ -10,7 +10,7 @@ use Rattle.cdef_frame.proofs.params.primary_of.Statement.{statement}
 use Rattle.cdef_frame.proofs.params.primary_of.Tie as tie
 use Rattle.cdef_frame.proofs.params.primary_of.Reads as reads
 use Rattle.cdef_frame.proofs.params.primary_of.Lts as lts
-use Rattle.cdef_leaf.proofs.adjust_pri.Reads as adjust-pri-reads
+use Rattle.arith_strength.proofs.adjust_pri.Reads as adjust-pri-reads
 
 sub-p : tie.Need-sub-p
 sub-p c = search needs

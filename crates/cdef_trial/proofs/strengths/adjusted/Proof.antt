@@ -7,7 +7,7 @@ use Rattle.cdef_trial.proofs.strengths.adjusted.Statement.{statement}
 use Rattle.cdef_trial.proofs.strengths.adjusted.Tie as tie
 use Rattle.cdef_trial.proofs.strengths.adjusted.Reads as reads
 use Rattle.cdef_trial.proofs.strengths.adjusted.Lts as lts
-use Rattle.cdef_leaf.proofs.adjust_pri.Reads as adjust-pri-reads
+use Rattle.arith_strength.proofs.adjust_pri.Reads as adjust-pri-reads
 
 enum-known-way : tie.Need-enum-known-way
 enum-known-way c = search needs

@@ -1,7 +1,7 @@
 -- `cdef_trial::strengths` meets its contract.
 use Prim.Native.Nat.{_-_, _*_, _%_, _^_}
 use native.Mathlib.Omega.{arith}
-use Rattle.cdef_kernel.specs.ShapeLaws.{limit, limit-low}
+use Rattle.arith_strength.specs.StrengthLaws.{limit, limit-low}
 use Rattle.cdef_trial.specs.StrengthLaws.{adjusted-low, strengths-is}
 use borrow.Author.Needs.{needs}
 use Rattle.cdef_trial.proofs.strengths.strengths.Statement.{statement}

@@ -1,0 +1,2 @@
+-- Laws of strengths.
+pub mod StrengthLaws

@@ -1,0 +1,3 @@
+-- A statement that a reader must trust (Divisor), and its proof (DivisorLaws).
+pub mod Divisor
+pub mod DivisorLaws

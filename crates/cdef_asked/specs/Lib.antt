@@ -1,9 +1,0 @@
--- The questions in the parts that the code checks them in, and their laws.
-pub mod YesLaws
-pub mod Parts
-pub mod PartLaws
-pub mod WindowLaws
-pub mod DirectionLaws
-pub mod DistanceLaws
-pub mod TrialParts
-pub mod TrialPartLaws

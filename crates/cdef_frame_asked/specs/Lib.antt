@@ -1,4 +1,0 @@
--- What follows, as facts, where all checks pass.
-pub mod Facts
-pub mod YesLaws
-pub mod PassLaws

@@ -1,0 +1,2 @@
+-- Laws of whole lists.
+pub mod ListLaws

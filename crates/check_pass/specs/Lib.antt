@@ -1,0 +1,2 @@
+-- What follows, as facts, where all checks of the direction pass pass.
+pub mod PassLaws

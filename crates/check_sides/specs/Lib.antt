@@ -1,0 +1,3 @@
+-- What the results of the tests say.
+pub mod Said
+pub mod SideLaws

@@ -1,0 +1,2 @@
+-- What the results of the tests say.
+pub mod YesLaws

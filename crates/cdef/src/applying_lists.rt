@@ -3,7 +3,6 @@ ghost use mathlib.Core.Path.{_≡_};
 ghost use Rattle.cdef_spec.specs.Answers.{readAnswer};
 ghost use Rattle.cdef_spec.specs.Picture.{lumaPicture, chromaPicture};
 ghost use Rattle.cdef_spec.specs.FrameCalls.{applyingListsOutcome};
-use crate::answer;
 use cdef_frame::Frame;
 use cdef_spec::Answer;
 use cdef_spec::DampingChoice;
@@ -34,7 +33,7 @@ pub fn apply_luma(
         height: height,
     };
     let no = cdef_frame_calls::apply_frame(dst, snapshot, f, skip, dirs, vars, pris, secs, damping);
-    answer::answer_of(no)
+    cdef_answer::answer_of(no)
 }
 
 // Applying in a chroma plane. Sizes are luma's; sx and sy are the subsampling flags.
@@ -75,5 +74,5 @@ pub fn apply_chroma(
         secs,
         damping,
     );
-    answer::answer_of(no)
+    cdef_answer::answer_of(no)
 }

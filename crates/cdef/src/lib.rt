@@ -1,5 +1,4 @@
 // The public calls. Each validates its input by RULES, Questions, in order, then works; no function here requires anything.
-mod answer; // answer.rt: an answer from an error code
 pub mod applying; // applying.rt: a plane filtered
 pub mod applying_lists; // applying_lists.rt: a plane filtered, the pairs as two lists
 pub mod direction; // direction.rt: the direction of a block

@@ -3,7 +3,6 @@ ghost use mathlib.Core.Path.{_≡_};
 ghost use Rattle.cdef_spec.specs.Answers.{readAnswer};
 ghost use Rattle.cdef_spec.specs.Picture.{lumaPicture, chromaPicture};
 ghost use Rattle.cdef_spec.specs.FrameCalls.{measuringOutcome};
-use crate::answer;
 use cdef_frame::Frame;
 use cdef_spec::Answer;
 use cdef_spec::DampingChoice;
@@ -51,7 +50,7 @@ pub fn measure_luma(
         pair,
         damping,
     );
-    answer::answer_of(no)
+    cdef_answer::answer_of(no)
 }
 
 // Measuring in a chroma plane. Sizes are luma's; sx and sy are the subsampling flags.
@@ -97,5 +96,5 @@ pub fn measure_chroma(
         pair,
         damping,
     );
-    answer::answer_of(no)
+    cdef_answer::answer_of(no)
 }

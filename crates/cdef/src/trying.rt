@@ -3,7 +3,6 @@ ghost use mathlib.Core.Path.{_≡_};
 ghost use Rattle.cdef_spec.specs.Answers.{readAnswer};
 ghost use Rattle.cdef_spec.specs.Picture.{lumaPicture, chromaPicture};
 ghost use Rattle.cdef_spec.specs.FrameCalls.{tryingOutcome};
-use crate::answer;
 use cdef_frame::Frame;
 use cdef_spec::Answer;
 use cdef_spec::DampingChoice;
@@ -45,7 +44,7 @@ pub fn try_luma(
         vars,
         damping,
     );
-    answer::answer_of(no)
+    cdef_answer::answer_of(no)
 }
 
 // Trying in a chroma plane: plain squares over the visible part. Sizes are luma's; sx and sy are the subsampling flags.
@@ -86,5 +85,5 @@ pub fn try_chroma(
         &none,
         damping,
     );
-    answer::answer_of(no)
+    cdef_answer::answer_of(no)
 }

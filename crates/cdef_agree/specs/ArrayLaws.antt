@@ -19,10 +19,11 @@ use Rattle.cdef_spec.specs.OutcomeLaws.{length-pairs}
 use Rattle.cdef_pairs.specs.Gather.{gathered, listed, primaries, secondaries}
 use Rattle.cdef_pairs.specs.PairLaws.{length-listed, length-primaries, pairs-listed, same-gathered, gathered-no, gathered-outcome, lists-no, lists-outcome}
 use Rattle.cdef_pairs.specs.LentLaws.{first-primaries, first-secondaries}
-use Rattle.cdef_agree.specs.declared.Agreement.{Agreement}
-use Rattle.cdef_agree.specs.Agree.{isAgreed, trialPairs, copied, AgreeOutcome, agreeOutcome, agreeListsOutcome}
-use Rattle.cdef_agree.specs.AgreeLaws.{with-same, agreed}
-use Rattle.cdef_agree.specs.WayLaws.{Whole}
+use Rattle.agree_lists.specs.declared.Agreement.{Agreement}
+use Rattle.agree_lists.specs.Agree.{isAgreed, AgreeOutcome, agreeOutcome, agreeListsOutcome}
+use Rattle.agree_parts.specs.Parts.{trialPairs, copied}
+use Rattle.agree_lists.specs.AgreeLaws.{with-same, agreed}
+use Rattle.agree_lists.specs.WayLaws.{Whole}
 
 -- ---- the test of the pairs
 

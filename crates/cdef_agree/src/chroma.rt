@@ -4,9 +4,8 @@ ghost use mathlib.Core.Bool.{true};
 ghost use Rattle.cdef_spec.specs.Picture.{chromaPicture};
 ghost use Rattle.cdef_pairs.specs.Gather.{listed};
 ghost use Rattle.cdef_spec.specs.Demand3.{Agrees};
-ghost use Rattle.cdef_agree.specs.Agree.{isAgreed, agreeOutcome};
-use crate::Agreement;
-use crate::chroma_lists;
+ghost use Rattle.agree_lists.specs.Agree.{isAgreed, agreeOutcome};
+use agree_lists::Agreement;
 use cdef_spec::DampingChoice;
 use cdef_spec::UnitPair;
 use cdef_spec::Visible;
@@ -38,7 +37,7 @@ fn agree_chroma_of(
     let secs = lists.secs;
     let m = cdef_pairs::or_none(n);
     let k = cdef_pairs::at_most(n);
-    chroma_lists::agree_chroma(
+    agree_lists::chroma::agree_chroma(
         tried,
         dst,
         measured,

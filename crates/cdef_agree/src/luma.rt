@@ -4,9 +4,8 @@ ghost use mathlib.Core.Bool.{true};
 ghost use Rattle.cdef_spec.specs.Picture.{lumaPicture};
 ghost use Rattle.cdef_pairs.specs.Gather.{listed};
 ghost use Rattle.cdef_spec.specs.Demand3.{Agrees};
-ghost use Rattle.cdef_agree.specs.Agree.{isAgreed, agreeOutcome};
-use crate::Agreement;
-use crate::luma_lists;
+ghost use Rattle.agree_lists.specs.Agree.{isAgreed, agreeOutcome};
+use agree_lists::Agreement;
 use cdef_spec::DampingChoice;
 use cdef_spec::UnitPair;
 use cdef_spec::Visible;
@@ -37,7 +36,7 @@ fn agree_luma_of(
     let secs = lists.secs;
     let m = cdef_pairs::or_none(n);
     let k = cdef_pairs::at_most(n);
-    luma_lists::agree_luma(
+    agree_lists::luma::agree_luma(
         tried,
         dst,
         measured,

@@ -64,7 +64,7 @@ pub fn direction_no(
     if !check_sides::corner_taken(width, height, x, y) {
         return 5;
     }
-    if !cdef_direction::looked::cut_taken(plane, width, height, x, y, depth) {
+    if !check_samples::cut_taken(plane, width, height, x, y, depth) {
         return 9;
     }
     0

@@ -1,6 +1,6 @@
 // Trying, applying and measuring with six pairs, passed as one slice of structs or as two lists.
 use crate::lists;
-use cdef_agree::Agreement;
+use agree_lists::Agreement;
 use cdef_spec::DampingChoice;
 use cdef_spec::Visible;
 
@@ -43,7 +43,7 @@ pub fn agree_luma(
             damping,
         );
     }
-    cdef_agree::luma_lists::agree_luma(
+    agree_lists::luma::agree_luma(
         tried,
         dst,
         measured,
@@ -104,7 +104,7 @@ pub fn agree_chroma(
             damping,
         );
     }
-    cdef_agree::chroma_lists::agree_chroma(
+    agree_lists::chroma::agree_chroma(
         tried,
         dst,
         measured,

@@ -1,7 +1,7 @@
 // What is printed of a picture.
 ghost use Prim.Native.Nat.{_≤_, _<_};
 use crate::lists;
-use cdef_agree::Agreement;
+use agree_lists::Agreement;
 
 pub fn heading(layout: &[u8], depth: u8) {
     print::text(layout);

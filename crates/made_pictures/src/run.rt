@@ -6,7 +6,7 @@ use crate::agreed;
 use crate::lists;
 use crate::picture;
 use crate::report;
-use cdef_agree::Agreement;
+use agree_lists::Agreement;
 use cdef_spec::DampingAnswer;
 use cdef_spec::DampingChoice;
 use cdef_spec::SignalledDamping;

@@ -9,7 +9,7 @@ use borrow.Author.Tests.{le-leb, lt-leb, eq-eqb, ne-eqb}
 use lib.ListN.{getD}
 use lib.IntN.{ℤ, pos, negsuc}
 use Rattle.cdef_spec.specs.Document01.{primaries, secondaries, indexOf, isTrialPair, trialNumber}
-use Rattle.cdef_agree.specs.PartLaws.{no-secondary, primary-four, primary-low}
+use Rattle.agree_parts.specs.PartLaws.{no-secondary, primary-four, primary-low}
 use Rattle.still_steps.specs.Lists.{sameTotal, differ}
 
 -- ---- the trial number

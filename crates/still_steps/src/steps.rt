@@ -138,7 +138,7 @@ fn apply(
     let n = job.counts;
     let units = n.units;
     let damping = job.damping;
-    cdef_agree::parts::copy(filtered, still);
+    agree_parts::copy(filtered, still);
     let answer = cdef::applying_lists::apply_luma(
         filtered,
         still,

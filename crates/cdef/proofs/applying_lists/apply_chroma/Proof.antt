@@ -11,7 +11,7 @@ use Rattle.cdef.proofs.applying_lists.apply_chroma.Statement.{statement
 use Rattle.cdef.proofs.applying_lists.apply_chroma.Tie as tie
 use Rattle.cdef.proofs.applying_lists.apply_chroma.Reads as reads
 use Rattle.cdef.proofs.applying_lists.apply_chroma.Lts as lts
-use Rattle.cdef.proofs.answer.answer_of.Reads as answer-of-reads
+use Rattle.cdef_answer.proofs.answer_of.Reads as answer-of-reads
 use Rattle.cdef_frame_calls.proofs.apply_frame.Reads as apply-frame-reads
 use Rattle.cdef.proofs.Chroma.{chroma-off}
 

@@ -1,13 +1,8 @@
 -- `cdef::direction::direction` meets its contract.
 use mathlib.Core.Path.{_≡_, sym, _∙_}
-use mathlib.Core.Bool.{true}
 use Rattle.cdef_spec.specs.Document01.{Plane}
-use Rattle.cdef_spec.specs.Questions.{firstNo, cornerTaken, cutTaken}
-use Rattle.check_block.specs.Parts.{planeFirst}
-use Rattle.check_block.specs.PartLaws.{plane-yes}
-use Rattle.check_sides.specs.SideLaws.{corner-low}
-use Rattle.check_block.specs.DirectionLaws.{no-plane, no-corner, no-cut, found}
-use Rattle.check_sides.specs.Said.{no-so, yes-so}
+use Rattle.cdef_spec.specs.BlockCalls.{directionNo}
+use Rattle.check_block.specs.DirectionLaws.{direction-facts, direction-refused, direction-done}
 use borrow.Author.Needs.{needs}
 use Rattle.cdef.proofs.direction.direction.Statement.{statement}
 use Rattle.cdef.proofs.direction.direction.Tie as tie
@@ -15,54 +10,23 @@ use Rattle.cdef.proofs.direction.direction.Tie as tie
 abbrev planeOf : tie.Start → Plane
 planeOf s = record { samples = s .args .plane .now; width = s .args .width; height = s .args .height }
 
-zero : (c : tie.Else1) → let s = c .before .before .before in firstNo (planeFirst (planeOf s) (s .args .depth)) ≡ 0
-zero c = sym (c .before .plane-no .ensures) ∙ c .if1 .left
+zero : (c : tie.Else1) → let s = c .before .before .before in directionNo (planeOf s) (s .args .depth) (s .args .y) (s .args .x) ≡ 0
+zero c = sym (c .before .direction-no .ensures) ∙ c .if1 .left
 
-corner-yes : (c : tie.Else2) → let s = c .before .before .before .before .before in cornerTaken (planeOf s) (s .args .y) (s .args .x) ≡ true
-corner-yes c = yes-so (c .before .corner-taken .ensures (c .before .before .before .before .before .args .plane .now)) (c .if2 .left)
-
-cut-yes : (c : tie.Else3) → let s = c .before .before .before .before .before .before .before in cutTaken (planeOf s) (s .args .depth) (s .args .y) (s .args .x) ≡ true
-cut-yes c = yes-so (c .before .cut-taken .ensures) (c .if3 .left)
-
-plane-no-requires : tie.Need-plane-no-requires
-plane-no-requires c κs = search needs
+direction-no-requires : tie.Need-direction-no-requires
+direction-no-requires c κs = search needs
 
 returns : tie.Need-returns
-returns c = let s = c .before .before .before in no-plane (planeOf s) (s .args .depth) (s .args .y) (s .args .x) _ (c .before .plane-no .ensures) (c .if1 .taken)
-
-corner-taken-requires : tie.Need-corner-taken-requires
-corner-taken-requires c κs = search needs
-
-returns-2 : tie.Need-returns-2
-returns-2 c = let s = c .before .before .before .before .before in no-corner (planeOf s) (s .args .depth) (s .args .y) (s .args .x) (zero (c .before .before)) (no-so (c .before .corner-taken .ensures (s .args .plane .now)) (c .if2 .taken))
-
-cut-taken-requires : tie.Need-cut-taken-requires
-cut-taken-requires c κs = let s = c .before .before .before .before .before in
-    let f = plane-yes (planeOf s) (s .args .depth) (zero (c .before .before)) in
-    let k = corner-low (planeOf s) (s .args .y) (s .args .x) (corner-yes c) in
-    (f .full-is, (f .wide, f .high, k .0, k .1, f .flat))
-
-returns-3 : tie.Need-returns-3
-returns-3 c = let s = c .before .before .before .before .before .before .before in no-cut (planeOf s) (s .args .depth) (s .args .y) (s .args .x) (zero (c .before .before .before .before)) (corner-yes (c .before .before)) (no-so (c .before .cut-taken .ensures) (c .if3 .taken))
+returns c = let s = c .before .before .before in direction-refused (planeOf s) (s .args .depth) (s .args .y) (s .args .x) _ (c .before .direction-no .ensures) (c .if1 .taken)
 
 cdef-direction-requires : tie.Need-cdef-direction-requires
-cdef-direction-requires c κs = let s = c .before .before .before .before .before .before .before in
-    let f = plane-yes (planeOf s) (s .args .depth) (zero (c .before .before .before .before)) in
-    let k = corner-low (planeOf s) (s .args .y) (s .args .x) (corner-yes (c .before .before)) in
-    (f .full-is, ((f .wide, f .high, k .0, k .1, f .deep, f .flat), cut-yes c))
+cdef-direction-requires c κs = let s = c .before .before .before in
+    let f = direction-facts (planeOf s) (s .args .depth) (s .args .y) (s .args .x) (zero c) in
+    let p = f .plane in
+    (p .full-is, ((p .wide, p .high, f .x-in, f .y-in, p .deep, p .flat), f .cut))
 
-returns-4 : tie.Need-returns-4
-returns-4 c = let s = c .before .before .before .before .before .before .before .before in found (planeOf s) (s .args .depth) (s .args .y) (s .args .x) (zero (c .before .before .before .before .before)) (corner-yes (c .before .before .before)) (cut-yes (c .before)) _ _ (c .cdef-direction .ensures .0) (c .cdef-direction .ensures .1)
+returns-2 : tie.Need-returns-2
+returns-2 c = let s = c .before .before .before .before in direction-done (planeOf s) (s .args .depth) (s .args .y) (s .args .x) (zero (c .before)) _ _ (c .cdef-direction .ensures .0) (c .cdef-direction .ensures .1)
 
 pub direction-spec : {M : Type 1} → statement M
-direction-spec =
-    tie.close
-    (tie.spec
-    plane-no-requires
-    returns
-    corner-taken-requires
-    returns-2
-    cut-taken-requires
-    returns-3
-    cdef-direction-requires
-    returns-4)
+direction-spec = tie.close (tie.spec direction-no-requires returns cdef-direction-requires returns-2)

@@ -1,15 +1,15 @@
 -- `cdef::filter_block` meets its contract.
 use mathlib.Core.Path.{_≡_, sym, _∙_}
 use mathlib.Core.Bool.{true}
+use mathlib.Core.List.{[], _∷_}
 use native.Mathlib.Omega.{arith}
 use Rattle.cdef_spec.specs.Answers.{readAnswer}
 use Rattle.cdef_spec.specs.Document01.{Plane}
-use Rattle.cdef_spec.specs.Questions.{firstNo, widenedTaken}
+use Rattle.cdef_spec.specs.Questions.{ask, firstNo, widenedTaken}
 use Rattle.cdef_filter.specs.StoreLaws.{stored-block}
-use Rattle.check_block.specs.WindowLaws.{in-plane, window-asked, held-so}
+use Rattle.check_block.specs.WindowLaws.{in-plane, window-asked, widened-so, held-so}
 use Rattle.check_block.specs.Parts.{filterFirst}
 use Rattle.check_block.specs.PartLaws.{FilterFacts, filter-facts, filter-refused, filter-samples, filter-done}
-use Rattle.check_sides.specs.Said.{no-so, yes-so}
 use borrow.Author.Needs.{needs}
 use Rattle.cdef.proofs.filter.filter_block.Statement.{statement}
 use Rattle.cdef.proofs.filter.filter_block.Tie as tie
@@ -18,7 +18,6 @@ use Rattle.cdef.proofs.filter.filter_block.Lts as lts
 use Rattle.check_block.proofs.filter.filter_no.Reads as filter-no-reads
 use Rattle.cdef_filter.proofs.filter_window.Reads as filter-window-reads
 use Rattle.cdef_window.proofs.window.Reads as window-reads
-use Rattle.cdef_window.proofs.window_taken.Reads as window-taken-reads
 
 abbrev planeOf : tie.Start → Plane
 planeOf s = record { samples = s .args .plane .now; width = s .args .width; height = s .args .height }
@@ -29,8 +28,11 @@ zero-so c = sym (c .before .filter-no .ensures) ∙ c .if1 .left
 facts : (c : tie.Else1) → let s = c .before .before .before .before .before in FilterFacts (planeOf s) (s .args .block) (s .args .params) (s .args .y0) (s .args .dst .now)
 facts c = let s = c .before .before .before .before .before in filter-facts (planeOf s) (s .args .block) (s .args .params) (s .args .y0) (s .args .dst .now) (zero-so c)
 
+nine-is : (c : tie.After-window-no) → let s = c .before .before .before .before .before .before .before .before in c .window-no .result ≡ firstNo (ask 9 (widenedTaken (planeOf s) (s .args .params .depth) (s .args .block)) ∷ [])
+nine-is c = let s = c .before .before .before .before .before .before .before .before in let f = facts (c .before .before .before) in window-asked (planeOf s) (s .args .block) (s .args .params .depth) (f .plane) (f .block) _ _ (c .before .before .window .ensures) (c .window-no .ensures)
+
 taken-so : (c : tie.Else2) → let s = c .before .before .before .before .before .before .before .before .before in widenedTaken (planeOf s) (s .args .params .depth) (s .args .block) ≡ true
-taken-so c = let s = c .before .before .before .before .before .before .before .before .before in yes-so (c .before .window-taken .ensures ∙ window-asked (planeOf s) (s .args .block) (s .args .params .depth) (facts (c .before .before .before .before) .plane) (facts (c .before .before .before .before) .block) _ (c .before .before .before .window .ensures)) (c .if2 .left)
+taken-so c = let s = c .before .before .before .before .before .before .before .before .before in let f = facts (c .before .before .before .before) in widened-so (planeOf s) (s .args .block) (s .args .params .depth) (f .plane) (f .block) _ (nine-is (c .before)) (c .if2 .left)
 
 filter-no-requires : tie.Need-filter-no-requires
 filter-no-requires c κs = search needs
@@ -45,15 +47,15 @@ returns c = let s = c .before .before .before .before .before in filter-refused 
 window-requires : tie.Need-window-requires
 window-requires c κs = let s = c .before .before .before .before .before in let f = facts c in in-plane (planeOf s) (s .args .block) (s .args .params .depth) (f .plane) (f .block)
 
-window-taken-requires : tie.Need-window-taken-requires
-window-taken-requires c κs = facts (c .before .before) .plane .flat
+window-no-requires : tie.Need-window-no-requires
+window-no-requires c κs = facts (c .before .before) .plane .flat
 
 same-length-2 : tie.Need-same-length-2
 same-length-2 c = search needs
 
 returns-2 : tie.Need-returns-2
 unfolding readAnswer
-returns-2 c = let s = c .before .before .before .before .before .before .before .before .before in filter-samples (planeOf s) (s .args .block) (s .args .params) (s .args .y0) (s .args .dst .now) (zero-so (c .before .before .before .before)) (no-so (c .before .window-taken .ensures ∙ window-asked (planeOf s) (s .args .block) (s .args .params .depth) (facts (c .before .before .before .before) .plane) (facts (c .before .before .before .before) .block) _ (c .before .before .before .window .ensures)) (c .if2 .taken))
+returns-2 c = let s = c .before .before .before .before .before .before .before .before .before in filter-samples (planeOf s) (s .args .block) (s .args .params) (s .args .y0) (s .args .dst .now) (zero-so (c .before .before .before .before)) _ (nine-is (c .before)) (c .if2 .taken)
 
 filter-window-requires : tie.Need-filter-window-requires
 filter-window-requires c κs = let s = c .before .before .before .before .before .before .before .before .before .before .before in let f = facts (c .before .before .before .before .before .before) in let b = f .block in ((b .x-in, b .y-in, f .plane .wide, f .plane .high, b .bw, b .bh), ((f .start, f .room), (rw (c .before .before .before .before .before .window .ensures) (held-so (planeOf s) (s .args .block) (s .args .params .depth) (f .plane) (f .block) (taken-so (c .before .before))), f .usable)))
@@ -77,7 +79,7 @@ filter-block-spec =
     same-length
     returns
     window-requires
-    window-taken-requires
+    window-no-requires
     same-length-2
     returns-2
     filter-window-requires

@@ -11,7 +11,7 @@ use Rattle.cdef.proofs.measuring.measure_luma.Statement.{statement}
 use Rattle.cdef.proofs.measuring.measure_luma.Tie as tie
 use Rattle.cdef.proofs.measuring.measure_luma.Reads as reads
 use Rattle.cdef.proofs.measuring.measure_luma.Lts as lts
-use Rattle.cdef.proofs.answer.answer_of.Reads as answer-of-reads
+use Rattle.cdef_answer.proofs.answer_of.Reads as answer-of-reads
 use Rattle.cdef_frame_calls.proofs.measure_frame.Reads as measure-frame-reads
 
 measure-frame-requires : tie.Need-measure-frame-requires

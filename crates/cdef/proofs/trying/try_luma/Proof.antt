@@ -11,7 +11,7 @@ use Rattle.cdef.proofs.trying.try_luma.Statement.{statement}
 use Rattle.cdef.proofs.trying.try_luma.Tie as tie
 use Rattle.cdef.proofs.trying.try_luma.Reads as reads
 use Rattle.cdef.proofs.trying.try_luma.Lts as lts
-use Rattle.cdef.proofs.answer.answer_of.Reads as answer-of-reads
+use Rattle.cdef_answer.proofs.answer_of.Reads as answer-of-reads
 use Rattle.cdef_frame_calls.proofs.try_frame.Reads as try-frame-reads
 
 try-frame-requires : tie.Need-try-frame-requires

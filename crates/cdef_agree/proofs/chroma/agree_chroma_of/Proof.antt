@@ -7,7 +7,7 @@ use Rattle.cdef_agree.proofs.chroma.agree_chroma_of.Statement.{statemen
 use Rattle.cdef_agree.proofs.chroma.agree_chroma_of.Tie as tie
 use Rattle.cdef_agree.proofs.chroma.agree_chroma_of.Reads as reads
 use Rattle.cdef_agree.proofs.chroma.agree_chroma_of.Lts as lts
-use Rattle.cdef_agree.proofs.chroma_lists.agree_chroma.Reads as agree-chroma-reads
+use Rattle.agree_lists.proofs.chroma.agree_chroma.Reads as agree-chroma-reads
 use Rattle.cdef_pairs.proofs.at_most.Reads as at-most-reads
 use Rattle.cdef_pairs.proofs.lists_of.Reads as lists-of-reads
 use Rattle.cdef_pairs.proofs.or_none.Reads as or-none-reads

@@ -7,7 +7,7 @@ use Rattle.cdef_agree.proofs.luma.agree_luma_of.Statement.{statement}
 use Rattle.cdef_agree.proofs.luma.agree_luma_of.Tie as tie
 use Rattle.cdef_agree.proofs.luma.agree_luma_of.Reads as reads
 use Rattle.cdef_agree.proofs.luma.agree_luma_of.Lts as lts
-use Rattle.cdef_agree.proofs.luma_lists.agree_luma.Reads as agree-luma-reads
+use Rattle.agree_lists.proofs.luma.agree_luma.Reads as agree-luma-reads
 use Rattle.cdef_pairs.proofs.at_most.Reads as at-most-reads
 use Rattle.cdef_pairs.proofs.lists_of.Reads as lists-of-reads
 use Rattle.cdef_pairs.proofs.or_none.Reads as or-none-reads

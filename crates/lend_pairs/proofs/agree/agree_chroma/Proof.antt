@@ -58,13 +58,13 @@ use Rattle.cdef_spec.proofs.DampingChoice.Laws as theDampingChoice′
 use Rattle.cdef_spec.specs.declared.Visible.{Visible}
 use Rattle.cdef_spec.proofs.Visible as theVisible
 use Rattle.cdef_spec.proofs.Visible.Laws as theVisible′
-use Rattle.cdef_agree.specs.declared.Agreement.{Agreement}
-use Rattle.cdef_agree.proofs.Agreement as theAgreement
-use Rattle.cdef_agree.proofs.Agreement.Laws as theAgreement′
+use Rattle.agree_lists.specs.declared.Agreement.{Agreement}
+use Rattle.agree_lists.proofs.Agreement as theAgreement
+use Rattle.agree_lists.proofs.Agreement.Laws as theAgreement′
 use mathlib.Core.Bool.{true}
 use Rattle.cdef_spec.specs.Picture.{chromaPicture}
 use Rattle.cdef_spec.specs.Demand3.{Agrees}
-use Rattle.cdef_agree.specs.Agree.{isAgreed, agreeOutcome}
+use Rattle.agree_lists.specs.Agree.{isAgreed, agreeOutcome}
 use Rattle.cdef_agree.proofs.chroma.agree_chroma as callee
 use Rattle.cdef_agree.proofs.chroma.agree_chroma.Symbol as callee-def
 use Rattle.cdef_agree.proofs.chroma.agree_chroma.Symbol.{name as #callee}

@@ -1,0 +1,106 @@
+// Trying, applying and measuring in a chroma plane with the pairs as two lists, and the agreement of their totals.
+ghost use mathlib.Core.Path.{_≡_};
+ghost use mathlib.Core.Bool.{true};
+ghost use Rattle.cdef_spec.specs.Picture.{chromaPicture};
+ghost use Rattle.cdef_spec.specs.FrameCalls.{pairsOf};
+ghost use Rattle.cdef_spec.specs.Demand3.{Agrees};
+ghost use Rattle.agree_lists.specs.Agree.{isAgreed, agreeListsOutcome};
+use crate::Agreement;
+use cdef_spec::DampingChoice;
+use cdef_spec::UnitPair;
+use cdef_spec::Visible;
+
+// Tries; with pairs that are each one of the twelve, copies the snapshot into the destination and applies them; measures what that left, with pair 0, 0.
+// Where all three calls are accepted, each unit's measured total is its tried total at its pair's trial number.
+pub fn agree_chroma(
+    tried: &mut [i64],
+    dst: &mut [u16],
+    measured: &mut [i64],
+    scratch: &mut [u16],
+    snapshot: &[u16],
+    original: &[u16],
+    width: usize,
+    height: usize,
+    sx: u8,
+    sy: u8,
+    visible: Visible,
+    depth: u8,
+    skip: &[u8],
+    dirs: &[u8],
+    pris: &[u8],
+    secs: &[u8],
+    damping: DampingChoice,
+) -> Agreement
+    ensures { λ r. ⌜ r ≡ (agreeListsOutcome (chromaPicture depth width height sx sy (now (skip .entry)) (now (dirs .entry))) damping visible (now (snapshot .entry)) (now (original .entry)) (now (pris .entry)) (now (secs .entry)) (now (tried .entry)) (now (dst .entry)) (now (measured .entry)) (now (scratch .entry))) .answer ⌝ }
+    ensures { λ _. ⌜ now (tried .exit) ≡ (agreeListsOutcome (chromaPicture depth width height sx sy (now (skip .entry)) (now (dirs .entry))) damping visible (now (snapshot .entry)) (now (original .entry)) (now (pris .entry)) (now (secs .entry)) (now (tried .entry)) (now (dst .entry)) (now (measured .entry)) (now (scratch .entry))) .tried ⌝ }
+    ensures { λ _. ⌜ now (dst .exit) ≡ (agreeListsOutcome (chromaPicture depth width height sx sy (now (skip .entry)) (now (dirs .entry))) damping visible (now (snapshot .entry)) (now (original .entry)) (now (pris .entry)) (now (secs .entry)) (now (tried .entry)) (now (dst .entry)) (now (measured .entry)) (now (scratch .entry))) .dst ⌝ }
+    ensures { λ _. ⌜ now (measured .exit) ≡ (agreeListsOutcome (chromaPicture depth width height sx sy (now (skip .entry)) (now (dirs .entry))) damping visible (now (snapshot .entry)) (now (original .entry)) (now (pris .entry)) (now (secs .entry)) (now (tried .entry)) (now (dst .entry)) (now (measured .entry)) (now (scratch .entry))) .measured ⌝ }
+    ensures { λ _. ⌜ now (scratch .exit) ≡ (agreeListsOutcome (chromaPicture depth width height sx sy (now (skip .entry)) (now (dirs .entry))) damping visible (now (snapshot .entry)) (now (original .entry)) (now (pris .entry)) (now (secs .entry)) (now (tried .entry)) (now (dst .entry)) (now (measured .entry)) (now (scratch .entry))) .scratch ⌝ }
+    ensures { λ r. ⌜ (isAgreed r ≡ true → Agrees (chromaPicture depth width height sx sy (now (skip .entry)) (now (dirs .entry))) (pairsOf (now (pris .entry)) (now (secs .entry))) (now (tried .exit)) (now (measured .exit))) ⌝ }
+{
+    let t = cdef::trying::try_chroma(
+        tried,
+        snapshot,
+        original,
+        width,
+        height,
+        sx,
+        sy,
+        visible,
+        depth,
+        skip,
+        dirs,
+        damping,
+    );
+    let no = cdef_answer::number(t);
+    if no != 0 {
+        return Agreement::TryingRefused(no);
+    }
+    if !agree_parts::trial_pairs(pris, secs) {
+        return Agreement::NotTrialPairs;
+    }
+    agree_parts::copy(dst, snapshot);
+    let a = cdef::applying_lists::apply_chroma(
+        dst,
+        snapshot,
+        width,
+        height,
+        sx,
+        sy,
+        depth,
+        skip,
+        dirs,
+        pris,
+        secs,
+        damping,
+    );
+    let no = cdef_answer::number(a);
+    if no != 0 {
+        return Agreement::ApplyingRefused(no);
+    }
+    let off = UnitPair {
+        primary: 0,
+        secondary: 0,
+    };
+    let m = cdef::measuring::measure_chroma(
+        measured,
+        scratch,
+        dst,
+        original,
+        width,
+        height,
+        sx,
+        sy,
+        visible,
+        depth,
+        skip,
+        dirs,
+        off,
+        damping,
+    );
+    let no = cdef_answer::number(m);
+    if no != 0 {
+        return Agreement::MeasuringRefused(no);
+    }
+    Agreement::Agreed
+}

@@ -9,7 +9,7 @@ use lib.ListN.{length}
 use Rattle.cdef_spec.specs.declared.Block.{Block}
 use Rattle.cdef_spec.specs.declared.Visible.{Visible}
 use Rattle.cdef_spec.specs.Picture.{Picture, planeWidth, blockWidth, blockHeight, visibleRows, visibleCols}
-use Rattle.cdef_distance.specs.Blocks.{Within}
+use Rattle.distance_sums.specs.Blocks.{Within}
 use Rattle.cdef_frame.specs.declared.Frame.{Frame}
 use Rattle.cdef_frame.specs.Frame.{Shaped, pictureOf, blockOf}
 use Rattle.cdef_frame.specs.FrameLaws.{block-width-is, block-height-is, visible-rows-is, visible-cols-is}

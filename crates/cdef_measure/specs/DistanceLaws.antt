@@ -17,8 +17,8 @@ use Rattle.cdef_spec.specs.Document01.{mark, orElse}
 use Rattle.cdef_spec.specs.Distance.{constantsOf}
 use Rattle.cdef_spec.specs.Picture.{PlaneKind, luma, chroma, Picture, isOff, planeWidth, planeHeight, blockWidth, blockHeight, blockAt, visibleRows, visibleCols, counted, atPlace, filteredBy, distanceOf, blockDistance}
 use Rattle.cdef_spec.specs.PictureLaws.{filtered-low}
-use Rattle.cdef_distance.specs.Weighing.{OfDepth}
-use Rattle.cdef_distance.specs.Blocks.{at}
+use Rattle.distance_weight.specs.Weighing.{OfDepth}
+use Rattle.distance_sums.specs.Blocks.{at}
 use Rattle.cdef_cut.specs.Cut.{cutDistance}
 use Rattle.cdef_cut.specs.CutLaws.{cut-is, cut-same, cut-low}
 use Rattle.cdef_frame.specs.declared.Frame.{Frame}

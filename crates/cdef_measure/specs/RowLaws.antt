@@ -8,7 +8,7 @@ use native.Mathlib.Omega.{arith}
 use lib.ListN.{getD, length, take, drop, length-drop}
 use lib.Seq.{length-take-le, getD-take, getD-drop}
 use Rattle.cdef_spec.specs.Picture.{Picture, planeWidth, planeHeight, blockWidth, blockHeight, atPlace}
-use Rattle.cdef_distance.specs.Blocks.{at, Within}
+use Rattle.distance_sums.specs.Blocks.{at, Within}
 use Rattle.cdef_frame.specs.declared.Frame.{Frame}
 use Rattle.cdef_frame.specs.Frame.{Shaped, pictureOf}
 use Rattle.cdef_frame.specs.FrameLaws.{width-is, height-is, block-width-is, block-height-is}

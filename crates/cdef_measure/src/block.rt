@@ -5,7 +5,7 @@ ghost use mathlib.Core.List.{List};
 ghost use Prim.Native.Nat.{ℕ, _+_, _*_, _/_, _^_, _≤_, _<_};
 ghost use lib.ListN.{length};
 ghost use Rattle.cdef_spec.specs.Picture.{isOff, blockHeight, atPlace, blockDistance};
-ghost use Rattle.cdef_distance.specs.Weighing.{OfDepth};
+ghost use Rattle.distance_weight.specs.Weighing.{OfDepth};
 ghost use Rattle.cdef_frame.specs.Frame.{Shaped, pictureOf};
 ghost use Rattle.cdef_frame.specs.Lent.{Listed, Sampled, Seen, InForce};
 ghost use Rattle.cdef_measure.specs.Measure.{Lent, Begun, LowBlock, Filled, scratchOf, rowSample, measuredDistance};

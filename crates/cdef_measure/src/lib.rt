@@ -37,7 +37,7 @@ pub fn measure_plane(
     ensures { λ _. ⌜ now (scratch .exit) ≡ replicate (scratchLength (pictureOf f (now (skip .entry)) (now (dirs .entry)) (now (vars .entry)))) 0 ⌝ }
 {
     cdef_totals::clear_totals(totals);
-    let c = cdef_distance::weight::constants_of(f.depth);
+    let c = distance_weight::constants_of(f.depth);
     for by in 0..f.height / 8 {
         totals::measure_row(
             totals,

@@ -4,7 +4,7 @@ ghost use mathlib.Core.List.{List};
 ghost use Prim.Native.Nat.{ℕ, _/_, _^_, _<_};
 ghost use lib.ListN.{length};
 ghost use Rattle.cdef_spec.specs.LoopForm.{signed, addAt, measureRow};
-ghost use Rattle.cdef_distance.specs.Weighing.{OfDepth};
+ghost use Rattle.distance_weight.specs.Weighing.{OfDepth};
 ghost use Rattle.cdef_frame.specs.Frame.{pictureOf};
 ghost use Rattle.cdef_frame.specs.Lent.{unitsOf};
 ghost use Rattle.cdef_measure.specs.Measure.{Lent, Small, SmallRow, scratchOf, measuredDistance, measureOne};

@@ -7,7 +7,7 @@ use lib.IntN.{ℤ, natAbs}
 use lib.ListN.{getD}
 use Rattle.cdef_spec.specs.declared.DistanceConstants.{DistanceConstants}
 use Rattle.cdef_spec.specs.LoopForm.{signed}
-use Rattle.cdef_distance.specs.Blocks.{at, cell, weightedBy}
+use Rattle.distance_sums.specs.Blocks.{at, cell, weightedBy}
 use Rattle.cdef_cut.specs.Cut.{cutDistance}
 
 -- signed numbers without their signs

@@ -22,7 +22,7 @@ use Rattle.cdef_window.specs.Window.{planeOf as sized}
 use Rattle.cdef_spec.specs.TrialCallLaws.{trial-at}
 use Rattle.cdef_spec.specs.Picture.{PlaneKind, luma, chroma, Picture, planeWidth, planeHeight, blockWidth, blockHeight, blockAt, visibleRows, visibleCols, atPlace, planeOf, filteredBy, distanceOf, blockDistance}
 use Rattle.cdef_spec.specs.PictureLaws.{filtered-low}
-use Rattle.cdef_distance.specs.Blocks.{at, Within}
+use Rattle.distance_sums.specs.Blocks.{at, Within}
 use Rattle.cdef_cut.specs.CutLaws.{cut-is, cut-same, cut-within}
 use Rattle.cdef_frame.specs.declared.Frame.{Frame}
 use Rattle.cdef_frame.specs.Frame.{Shaped, kindOf, pictureOf, blockOf, wayOf, dirOf, dampingOf}

@@ -12,9 +12,10 @@ use Rattle.cdef_spec.specs.Words.{sum}
 use Rattle.cdef_spec.specs.WordsLaws.{sum-same}
 use Rattle.cdef_spec.specs.Distance.{weighted}
 use Rattle.cdef_spec.specs.LoopForm.{addTurns}
-use Rattle.cdef_distance.specs.Weighing.{OfDepth, SumsOf, spreadOf}
-use Rattle.cdef_distance.specs.Blocks.{at, cell, blockOf, Below, Within, weightedBy}
-use Rattle.cdef_distance.specs.BlockLaws.{block-at, block-cell, block-below, weighted-same, weighted-64, sums-64, weighted-64-low}
+use Rattle.distance_weight.specs.Weighing.{OfDepth, SumsOf, spreadOf}
+use Rattle.distance_sums.specs.Blocks.{at, cell, blockOf, Below, Within, weightedBy}
+use Rattle.distance_sums.specs.BlockLaws.{block-at, block-cell, block-below}
+use Rattle.cdef_distance.specs.WeightedLaws.{weighted-same, weighted-64, sums-64, weighted-64-low}
 use Rattle.cdef_cut.specs.CutLaws.{cut-whole}
 use Rattle.cdef_totals.specs.FoldLaws.{turns-same}
 use Rattle.cdef_try.specs.Totals.{trialDistances, wholeDistances}

@@ -118,7 +118,7 @@ pub fn try_plane(
 {
     cdef_totals::clear_totals(totals);
     let mut blocks = block::room();
-    let c = cdef_distance::weight::constants_of(f.depth);
+    let c = distance_weight::constants_of(f.depth);
     for by in 0..f.height / 8 {
         try_row(
             totals,

@@ -3,8 +3,8 @@ ghost use mathlib.Core.Path.{_≡_};
 ghost use Prim.Native.Nat.{ℕ, _+_, _*_, _^_, _≤_, _<_};
 ghost use lib.ListN.{length};
 ghost use Rattle.cdef_spec.specs.LoopForm.{signed, addTurns};
-ghost use Rattle.cdef_distance.specs.Weighing.{OfDepth};
-ghost use Rattle.cdef_distance.specs.Blocks.{Within};
+ghost use Rattle.distance_weight.specs.Weighing.{OfDepth};
+ghost use Rattle.distance_sums.specs.Blocks.{Within};
 ghost use Rattle.cdef_try.specs.Totals.{plainOf, Low, trialDistances};
 use crate::whole;
 use cdef_spec::DistanceConstants;
@@ -64,7 +64,7 @@ pub fn add_trials(
 {
     if luma {
         if rows + cols == 16 {
-            let a = cdef_distance::sums::block_of(original, at, pitch);
+            let a = distance_sums::block_of(original, at, pitch);
             whole::add_whole(totals, base, &a, blocks, c);
             return;
         }

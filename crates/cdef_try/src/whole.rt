@@ -4,8 +4,8 @@ ghost use Prim.Native.Nat.{ℕ, _+_, _*_, _^_, _≤_, _<_};
 ghost use lib.ListN.{getD, length};
 ghost use Rattle.cdef_spec.specs.Words.{sum};
 ghost use Rattle.cdef_spec.specs.LoopForm.{signed, addTurns};
-ghost use Rattle.cdef_distance.specs.Weighing.{OfDepth};
-ghost use Rattle.cdef_distance.specs.Blocks.{at, cell, Below, Within, weightedBy};
+ghost use Rattle.distance_weight.specs.Weighing.{OfDepth};
+ghost use Rattle.distance_sums.specs.Blocks.{at, cell, Below, Within, weightedBy};
 ghost use Rattle.cdef_try.specs.Totals.{plainOf, Low, wholeDistances};
 use cdef_spec::DistanceConstants;
 
@@ -55,7 +55,7 @@ fn distance_at(
     let sd = b.own as u64;
     let sd2 = b.squares as u64;
     let ssd = b.products as u64;
-    cdef_distance::weight::cdef_dist_from_sums(ss, sd, ss2, sd2, ssd, c)
+    distance_weight::cdef_dist_from_sums(ss, sd, ss2, sd2, ssd, c)
 }
 
 // Adds to twelve totals, from `base` on, the distances between an original and the trial blocks.
@@ -70,8 +70,8 @@ pub fn add_whole(
     requires { ⌜ ((depth : ℕ) × OfDepth c depth × Below (now a) (2 ^ depth) × ((t : ℕ) → t < 12 → Within (now blocks) (t * 64) 8 8 8 (2 ^ depth))) ⌝ }
     ensures { λ _. ⌜ now (totals .exit) ≡ signed (addTurns (plainOf (now (totals .entry))) base (wholeDistances c (now (a .entry)) (now (blocks .entry))) 12) ⌝ }
 {
-    let ss = cdef_distance::sums::total(a) as u64;
-    let ss2 = cdef_distance::sums::products(a, a) as u64;
+    let ss = distance_sums::total(a) as u64;
+    let ss2 = distance_sums::products(a, a) as u64;
     for t in 0..12usize {
         let n = distance_at(a, ss, ss2, blocks, t * 64, c);
         totals[base + t] = totals[base + t] + n as i64;

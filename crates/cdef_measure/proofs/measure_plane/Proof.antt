@@ -13,7 +13,7 @@ use Rattle.cdef_measure.proofs.measure_plane.Statement.{statement}
 use Rattle.cdef_measure.proofs.measure_plane.Tie as tie
 use Rattle.cdef_measure.proofs.measure_plane.Reads as reads
 use Rattle.cdef_measure.proofs.measure_plane.Lts as lts
-use Rattle.cdef_distance.proofs.weight.constants_of.Reads as constants-of-reads
+use Rattle.distance_weight.proofs.constants_of.Reads as constants-of-reads
 use Rattle.cdef_measure.proofs.rows.clear_scratch.Reads as clear-scratch-reads
 use Rattle.cdef_totals.proofs.clear_totals.Reads as clear-totals-reads
 use Rattle.cdef_measure.proofs.totals.measure_row.Reads as measure-row-reads

@@ -5,8 +5,8 @@ use native.Mathlib.Omega.{arith}
 use mathlib.Core.List.{List}
 use Prim.Native.Nat.{_^_}
 use Rattle.cdef_spec.specs.LoopForm.{signed}
-use Rattle.cdef_distance.specs.Blocks.{Within}
-use Rattle.cdef_distance.specs.BlockLaws.{block-below}
+use Rattle.distance_sums.specs.Blocks.{Within}
+use Rattle.distance_sums.specs.BlockLaws.{block-below}
 use Rattle.cdef_try.specs.WholeLaws.{whole-turns}
 use borrow.Author.Needs.{needs}
 use Rattle.cdef_try.proofs.turns.add_trials.Statement.{statement}

@@ -9,8 +9,8 @@ use lib.ListN.{getD, length, set}
 use mir.Syntax.{w64}
 use mir.Val.{toZ, ofZ}
 use Rattle.cdef_spec.specs.LoopForm.{signed, addTurns}
-use Rattle.cdef_distance.specs.Blocks.{Below}
-use Rattle.cdef_distance.specs.BlockLaws.{below-4096}
+use Rattle.distance_sums.specs.Blocks.{Below}
+use Rattle.distance_sums.specs.BlockLaws.{below-4096}
 use Rattle.cdef_try.specs.Totals.{plainOf, wholeDistances}
 use Rattle.cdef_try.specs.TurnLaws.{sum-fits, sum-is, turns-start, turns-length, turn-at, turn-low, turn-more}
 use Rattle.cdef_try.specs.WholeLaws.{distances-low}

@@ -1,6 +1,6 @@
 -- `cdef_try::distance_at` meets its contract.
 use native.Mathlib.Omega.{arith}
-use Rattle.cdef_distance.specs.BlockLaws.{below-4096}
+use Rattle.distance_sums.specs.BlockLaws.{below-4096}
 use Rattle.cdef_try.specs.WholeLaws.{row-held, row-low, whole-sums, whole-is}
 use borrow.Author.Needs.{needs}
 use Rattle.cdef_try.proofs.whole.distance_at.Statement.{statement}

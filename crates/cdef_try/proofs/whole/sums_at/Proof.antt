@@ -7,7 +7,7 @@ use Prim.Native.Nat.{_%_}
 use native.Mathlib.Nat.{mul-le-mul, mod-eq-of-lt}
 use lib.ListN.{getD}
 use Rattle.cdef_spec.specs.Words.{sum}
-use Rattle.cdef_distance.specs.SumLaws.{sum-none, sum-more}
+use Rattle.distance_sums.specs.SumLaws.{sum-none, sum-more}
 use Rattle.cdef_try.proofs.whole.sums_at.Statement.{statement}
 use Rattle.cdef_try.proofs.whole.sums_at.Tie as tie
 

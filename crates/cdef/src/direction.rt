@@ -24,7 +24,7 @@ pub fn direction(
     if !questions::corner_taken(width, height, x, y) {
         return DirectionAnswer::NoDirection(5);
     }
-    if !cdef_direction::looked::cut_taken(plane, width, height, x, y, depth) {
+    if !check_samples::cut_taken(plane, width, height, x, y, depth) {
         return DirectionAnswer::NoDirection(9);
     }
     let f = cdef_direction::cdef_direction(plane, width, height, x, y, depth);

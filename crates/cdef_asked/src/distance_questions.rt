@@ -26,10 +26,10 @@ pub fn distance_no(
     if !questions::corner_taken(width, height, x, y) {
         return 5;
     }
-    if !cdef_direction::looked::cut_taken(orig, width, height, x, y, depth) {
+    if !check_samples::cut_taken(orig, width, height, x, y, depth) {
         return 9;
     }
-    if !cdef_direction::looked::cut_taken(other, width, height, x, y, depth) {
+    if !check_samples::cut_taken(other, width, height, x, y, depth) {
         return 9;
     }
     0

@@ -2,7 +2,7 @@
 use mathlib.Core.Path.{_≡_, refl, ap, _∙_}
 use mathlib.Core.Bool.{cond}
 use mathlib.Core.List.{List}
-use Prim.Native.Nat.{ℕ, _+_, _-_, _*_, _/_, _^_, _≤_, _<_, min}
+use Prim.Native.Nat.{ℕ, _+_, _-_, _*_, _/_, _^_, _≤_, _<_}
 use native.Mathlib.Nat.{mul-le-mul, mul-le-mul-right, mul-comm}
 use native.Mathlib.Omega.{arith}
 use lib.Arith.{digits-lt}
@@ -10,59 +10,22 @@ use lib.ListN.{getD, length}
 use Rattle.cdef_spec.specs.declared.Block.{Block}
 use Rattle.cdef_spec.specs.declared.SignalledDamping.{SignalledDamping}
 use Rattle.cdef_spec.specs.declared.Visible.{Visible}
-use Rattle.cdef_spec.specs.Words.{table}
 use Rattle.cdef_spec.specs.WordsLaws.{length-table, getD-table}
-use Rattle.cdef_spec.specs.ChromaLaws.{chroma-low}
-use Rattle.cdef_spec.specs.Document01.{mark, orElse, filtered, trialPair, lumaDamping, chromaDamping}
+use Rattle.cdef_spec.specs.Document01.{mark, orElse, filtered, trialPair}
 use Rattle.cdef_spec.specs.Distance.{constantsOf}
-use Rattle.cdef_spec.specs.declared.TrialWay.{TrialWay}
-use Rattle.cdef_spec.specs.declared.WorkingDamping.{WorkingDamping}
-use Rattle.cdef_spec.specs.BlockCalls.{trialPlace}
-use Rattle.cdef_window.specs.Window.{planeOf as sized}
 use Rattle.cdef_spec.specs.TrialCallLaws.{trial-at}
-use Rattle.cdef_spec.specs.Picture.{PlaneKind, luma, chroma, Picture, planeWidth, planeHeight, blockWidth, blockHeight, blockAt, visibleRows, visibleCols, atPlace, planeOf, filteredBy, distanceOf, blockDistance}
+use Rattle.cdef_spec.specs.Picture.{luma, chroma, Picture, planeWidth, planeHeight, blockWidth, blockHeight, blockAt, atPlace, planeOf, filteredBy, distanceOf, blockDistance}
 use Rattle.cdef_spec.specs.PictureLaws.{filtered-low}
 use Rattle.distance_sums.specs.Blocks.{at, Within}
 use Rattle.cdef_cut.specs.CutLaws.{cut-is, cut-same, cut-within}
 use Rattle.cdef_frame.specs.declared.Frame.{Frame}
-use Rattle.cdef_frame.specs.Frame.{Shaped, kindOf, pictureOf, blockOf, wayOf, dirOf, dampingOf}
+use Rattle.cdef_frame.specs.Frame.{Shaped, kindOf, pictureOf, blockOf}
 use Rattle.cdef_frame.specs.FrameLaws.{tried-with, width-is, height-is}
 use Rattle.cdef_frame.specs.BlockLaws.{plane-wide, plane-high, block-wide, block-high, cols-in, rows-in, sample-low}
-use Rattle.cdef_frame.specs.Lent.{Sampled, InForce}
-use Rattle.cdef_try.specs.Totals.{trialDistances}
-use Rattle.cdef_try.specs.Trying.{trialBlocks, visiblePart, triedDistance}
-
--- ---- a direction in the plane, and a working damping
-
-pub dir-low : (k : PlaneKind) (dirs : List ℕ) (b : ℕ) → getD dirs b 0 < 8 → dirOf k dirs b < 8
-unfolding dirOf
-dir-low (luma vars) dirs b h = h
-dir-low (chroma sx sy) dirs b h = chroma-low sx sy (getD dirs b 0) h
-
-pub damping-low : (k : PlaneKind) (d : SignalledDamping) (depth : ℕ) → InForce d → depth ≤ 12 → dampingOf k d depth .0 ≤ 31
-unfolding dampingOf lumaDamping chromaDamping
-damping-low (luma vars) d depth i h = omega (arith, i .most)
-damping-low (chroma sx sy) d depth i h = omega (arith, i .most)
-
--- ---- as the code computes them
-
-pub block-parts : (q : Picture) (by bx : ℕ) (b : Block) → b ≡ blockOf q by bx → (b .x ≡ bx * blockWidth q) × (b .y ≡ by * blockHeight q) × (b .width ≡ blockWidth q)
-unfolding blockOf
-block-parts q by bx b e = (ap (λ (z : Block). z .x) e, ap (λ (z : Block). z .y) e, ap (λ (z : Block). z .width) e)
-
-pub part-is : (q : Picture) (v : Visible) (by bx : ℕ) (b : Block) (rows cols width height : ℕ) → b ≡ blockOf q by bx → rows ≡ visibleRows q v → cols ≡ visibleCols q v → width ≡ min (b .width) (cols - b .x) → height ≡ min (b .height) (rows - b .y)
-    → record { x = b .x; y = b .y; width = width; height = height } ≡ visiblePart q v by bx
-unfolding visiblePart blockOf
-part-is q v by bx b rows cols width height e er ec ew eh = rw (ew, eh, er, ec, e)
-
-pub trials-are : (f : Frame) (skip dirs vars : List ℕ) (d : SignalledDamping) (snapshot : List ℕ) (by bx : ℕ) (out : List ℕ) (w h : ℕ) (b : Block) (way : TrialWay) (dir : ℕ) (damping : WorkingDamping)
-    → w ≡ planeWidth (pictureOf f skip dirs vars) → h ≡ planeHeight (pictureOf f skip dirs vars) → b ≡ blockOf (pictureOf f skip dirs vars) by bx
-    → way ≡ wayOf (kindOf f vars) (by * (f .width / 8) + bx) → dir ≡ dirOf (kindOf f vars) dirs (by * (f .width / 8) + bx) → damping ≡ dampingOf (kindOf f vars) d (f .depth)
-    → table 768 (trialPlace (sized snapshot w h) b way dir damping (f .depth) out) ≡ trialBlocks (pictureOf f skip dirs vars) d snapshot by bx out
-unfolding trialBlocks pictureOf
-trials-are f skip dirs vars d snapshot by bx out w h b way dir damping ew eh eb ey ed ep = rw (ew, eh, eb, ey, ed, ep)
-
--- ---- the block's samples
+use Rattle.cdef_frame.specs.Lent.{Sampled}
+use Rattle.try_totals.specs.Totals.{trialDistances}
+use Rattle.cdef_try.specs.Trying.{triedDistance}
+use Rattle.try_blocks.specs.TrialBlocks.{trialBlocks, visiblePart}
 
 module _ (f : Frame) (h : Shaped f) (skip dirs vars : List ℕ) (by bx : ℕ) (hy : by < f .height / 8) (hx : bx < f .width / 8) where
   abbrev q : Picture

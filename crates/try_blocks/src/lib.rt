@@ -6,7 +6,7 @@ ghost use lib.ListN.{length};
 ghost use Rattle.cdef_spec.specs.Picture.{blockWidth, blockHeight, visibleRows, visibleCols};
 ghost use Rattle.cdef_frame.specs.Frame.{Shaped, pictureOf};
 ghost use Rattle.cdef_frame.specs.Lent.{Listed, Sampled, Seen, InForce};
-ghost use Rattle.cdef_try.specs.Trying.{trialBlocks, visiblePart};
+ghost use Rattle.try_blocks.specs.TrialBlocks.{trialBlocks, visiblePart};
 use cdef_frame::Frame;
 use cdef_frame::geometry;
 use cdef_frame::params;

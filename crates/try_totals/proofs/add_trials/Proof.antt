@@ -7,10 +7,10 @@ use Prim.Native.Nat.{_^_}
 use Rattle.cdef_spec.specs.LoopForm.{signed}
 use Rattle.distance_sums.specs.Blocks.{Within}
 use Rattle.distance_sums.specs.BlockLaws.{block-below}
-use Rattle.cdef_try.specs.WholeLaws.{whole-turns}
+use Rattle.try_totals.specs.WholeLaws.{whole-turns}
 use borrow.Author.Needs.{needs}
-use Rattle.cdef_try.proofs.turns.add_trials.Statement.{statement}
-use Rattle.cdef_try.proofs.turns.add_trials.Tie as tie
+use Rattle.try_totals.proofs.add_trials.Statement.{statement}
+use Rattle.try_totals.proofs.add_trials.Tie as tie
 
 -- a whole block
 whole : (c : tie.Then2) → let a = c .before .before .before .before .args in (a .rows ≡ 8) × (a .cols ≡ 8) × (a .step ≡ 8)

@@ -18,7 +18,7 @@ use Rattle.distance_sums.specs.BlockLaws.{block-at, block-cell, block-below}
 use Rattle.cdef_distance.specs.WeightedLaws.{weighted-same, weighted-64, sums-64, weighted-64-low}
 use Rattle.cdef_cut.specs.CutLaws.{cut-whole}
 use Rattle.cdef_totals.specs.FoldLaws.{turns-same}
-use Rattle.cdef_try.specs.Totals.{trialDistances, wholeDistances}
+use Rattle.try_totals.specs.Totals.{trialDistances, wholeDistances}
 
 -- ---- 64 samples in a row are the 8 by 8 block there
 

@@ -10,10 +10,10 @@ use mir.Syntax.{w64}
 use mir.Val.{toZ, ofZ}
 use Rattle.cdef_spec.specs.LoopForm.{signed, addTurns}
 use Rattle.cdef_cut.specs.CutLaws.{cut-within}
-use Rattle.cdef_try.specs.Totals.{plainOf, trialDistances}
-use Rattle.cdef_try.specs.TurnLaws.{sum-fits, sum-is, turns-start, turns-length, turn-at, turn-low, turn-more}
-use Rattle.cdef_try.proofs.turns.add_cut.Statement.{statement}
-use Rattle.cdef_try.proofs.turns.add_cut.Tie as tie
+use Rattle.try_totals.specs.Totals.{plainOf, trialDistances}
+use Rattle.try_totals.specs.TurnLaws.{sum-fits, sum-is, turns-start, turns-length, turn-at, turn-low, turn-more}
+use Rattle.try_totals.proofs.add_cut.Statement.{statement}
+use Rattle.try_totals.proofs.add_cut.Tie as tie
 
 abbrev Inv-loop : tie.InvT-loop
 Inv-loop totals₀ base original at pitch blocks step rows cols luma c t₀ totals t = (totals ≡ signed (addTurns (plainOf totals₀) base (trialDistances luma c rows cols original at pitch blocks step) t)) × (t ≤ 12)

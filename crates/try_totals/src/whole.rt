@@ -6,7 +6,7 @@ ghost use Rattle.cdef_spec.specs.Words.{sum};
 ghost use Rattle.cdef_spec.specs.LoopForm.{signed, addTurns};
 ghost use Rattle.distance_weight.specs.Weighing.{OfDepth};
 ghost use Rattle.distance_sums.specs.Blocks.{at, cell, Below, Within, weightedBy};
-ghost use Rattle.cdef_try.specs.Totals.{plainOf, Low, wholeDistances};
+ghost use Rattle.try_totals.specs.Totals.{plainOf, Low, wholeDistances};
 use cdef_spec::DistanceConstants;
 
 // Sums over 64 samples: of the samples, of their squares, and of their products with 64 others.

@@ -11,11 +11,11 @@ use mir.Val.{toZ, ofZ}
 use Rattle.cdef_spec.specs.LoopForm.{signed, addTurns}
 use Rattle.distance_sums.specs.Blocks.{Below}
 use Rattle.distance_sums.specs.BlockLaws.{below-4096}
-use Rattle.cdef_try.specs.Totals.{plainOf, wholeDistances}
-use Rattle.cdef_try.specs.TurnLaws.{sum-fits, sum-is, turns-start, turns-length, turn-at, turn-low, turn-more}
-use Rattle.cdef_try.specs.WholeLaws.{distances-low}
-use Rattle.cdef_try.proofs.whole.add_whole.Statement.{statement}
-use Rattle.cdef_try.proofs.whole.add_whole.Tie as tie
+use Rattle.try_totals.specs.Totals.{plainOf, wholeDistances}
+use Rattle.try_totals.specs.TurnLaws.{sum-fits, sum-is, turns-start, turns-length, turn-at, turn-low, turn-more}
+use Rattle.try_totals.specs.WholeLaws.{distances-low}
+use Rattle.try_totals.proofs.whole.add_whole.Statement.{statement}
+use Rattle.try_totals.proofs.whole.add_whole.Tie as tie
 
 abbrev Inv-loop : tie.InvT-loop
 Inv-loop totals₀ base a blocks c ss ss2 t₀ totals t = (totals ≡ signed (addTurns (plainOf totals₀) base (wholeDistances c a blocks) t)) × (t ≤ 12)

@@ -12,7 +12,7 @@ use Rattle.cdef_spec.specs.LoopForm.{signed, addTurns}
 use Rattle.cdef_spec.specs.TotalLaws.{length-signed, getD-signed, add-signed, length-turns}
 use Rattle.cdef_totals.specs.FoldLaws.{turns-none, turns-more}
 use Rattle.cdef_totals.specs.TotalBounds.{turns-low}
-use Rattle.cdef_try.specs.Totals.{plainOf, Low}
+use Rattle.try_totals.specs.Totals.{plainOf, Low}
 
 -- ---- signs
 

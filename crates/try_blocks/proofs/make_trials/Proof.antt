@@ -8,9 +8,9 @@ use native.Mathlib.Nat.{mul-le-mul}
 use Rattle.cdef_frame.specs.FrameLaws.{side-facts}
 use Rattle.cdef_frame.specs.Lent.{blocksOf, Listed}
 use Rattle.cdef_frame.specs.BlockLaws.{counts-low, number-low, block-in, window-low}
-use Rattle.cdef_try.specs.TrialBlockLaws.{dir-low, damping-low, trials-are}
-use Rattle.cdef_try.proofs.block.make_trials.Statement.{statement}
-use Rattle.cdef_try.proofs.block.make_trials.Tie as tie
+use Rattle.try_blocks.specs.TrialBlockLaws.{dir-low, damping-low, trials-are}
+use Rattle.try_blocks.proofs.make_trials.Statement.{statement}
+use Rattle.try_blocks.proofs.make_trials.Tie as tie
 
 listed : (s : tie.Start) → Listed (s .args .f) (s .pre .1 .0) (s .args .dirs .now) (s .args .vars .now)
 listed s = s .pre .1 .1

@@ -1,13 +1,14 @@
-// Totals: cleared, and twelve distances added.
+// Twelve distances added to totals.
 ghost use mathlib.Core.Path.{_≡_};
 ghost use Prim.Native.Nat.{ℕ, _+_, _*_, _^_, _≤_, _<_};
 ghost use lib.ListN.{length};
 ghost use Rattle.cdef_spec.specs.LoopForm.{signed, addTurns};
 ghost use Rattle.distance_weight.specs.Weighing.{OfDepth};
 ghost use Rattle.distance_sums.specs.Blocks.{Within};
-ghost use Rattle.cdef_try.specs.Totals.{plainOf, Low, trialDistances};
-use crate::whole;
+ghost use Rattle.try_totals.specs.Totals.{plainOf, Low, trialDistances};
 use cdef_spec::DistanceConstants;
+
+mod whole; // whole.rt: the same for a whole luma block
 
 // Adds to twelve totals, from `base` on, the distances between a block of the original and the trial blocks, one by one.
 fn add_cut(

@@ -4,9 +4,9 @@ use borrow.Author.Needs.{needs}
 use mathlib.Core.List.{[]}
 use Rattle.cdef_frame.specs.FrameLaws.{side-facts}
 use Rattle.cdef_frame.specs.BlockLaws.{counts-low}
-use Rattle.cdef_try.specs.TrialBlockLaws.{block-parts, part-is}
-use Rattle.cdef_try.proofs.block.visible_part.Statement.{statement}
-use Rattle.cdef_try.proofs.block.visible_part.Tie as tie
+use Rattle.try_blocks.specs.TrialBlockLaws.{block-parts, part-is}
+use Rattle.try_blocks.proofs.visible_part.Statement.{statement}
+use Rattle.try_blocks.proofs.visible_part.Tie as tie
 
 block-of-requires : tie.Need-block-of-requires
 block-of-requires c κs = let p = c .pre .0 in let n = counts-low (c .args .f) (p .0) [] [] [] (c .args .by) (c .args .bx) (p .2) (p .3) in (p .0, n .0, n .1)

@@ -1,10 +1,10 @@
 -- `cdef_try::distance_at` meets its contract.
 use native.Mathlib.Omega.{arith}
 use Rattle.distance_sums.specs.BlockLaws.{below-4096}
-use Rattle.cdef_try.specs.WholeLaws.{row-held, row-low, whole-sums, whole-is}
+use Rattle.try_totals.specs.WholeLaws.{row-held, row-low, whole-sums, whole-is}
 use borrow.Author.Needs.{needs}
-use Rattle.cdef_try.proofs.whole.distance_at.Statement.{statement}
-use Rattle.cdef_try.proofs.whole.distance_at.Tie as tie
+use Rattle.try_totals.proofs.whole.distance_at.Statement.{statement}
+use Rattle.try_totals.proofs.whole.distance_at.Tie as tie
 
 sums-at-requires : tie.Need-sums-at-requires
 sums-at-requires c κs = let p = c .before .pre .1 in (below-4096 _ (p .0) (p .1 .flat) (p .2), row-held _ _ (p .0) (p .1 .flat) (p .3), row-low _ _ (p .0) (p .1 .flat) (p .3))

@@ -8,8 +8,8 @@ use native.Mathlib.Nat.{mul-le-mul, mod-eq-of-lt}
 use lib.ListN.{getD}
 use Rattle.cdef_spec.specs.Words.{sum}
 use Rattle.distance_sums.specs.SumLaws.{sum-none, sum-more}
-use Rattle.cdef_try.proofs.whole.sums_at.Statement.{statement}
-use Rattle.cdef_try.proofs.whole.sums_at.Tie as tie
+use Rattle.try_totals.proofs.whole.sums_at.Statement.{statement}
+use Rattle.try_totals.proofs.whole.sums_at.Tie as tie
 
 abbrev Inv-loop : tie.InvT-loop
 Inv-loop a s from own₀ squares₀ products₀ k₀ own squares products k =

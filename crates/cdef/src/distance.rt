@@ -20,7 +20,7 @@ pub fn distance(
     if no != 0 {
         return DistanceAnswer::NoDistance(no);
     }
-    let c = cdef_distance::weight::constants_of(depth);
+    let c = distance_weight::constants_of(depth);
     let d = cdef_distance::cdef_dist_8x8(orig, other, width, height, x, y, c);
     DistanceAnswer::Distance(d as i64)
 }

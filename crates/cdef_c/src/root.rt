@@ -11,7 +11,7 @@ pub extern "C" fn quern_root(v: f64) -> f64
 {
     if f64::from_bits(0x10_0000_0000_0000) <= v {
         if v < f64::from_bits(0x7ff0_0000_0000_0000) {
-            return cdef_distance::root::root(v);
+            return arith_root::root(v);
         }
     }
     v

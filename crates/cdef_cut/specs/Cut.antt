@@ -4,7 +4,7 @@ use Prim.Native.Nat.{ℕ}
 use lib.Dec.{eqb}
 use Rattle.cdef_spec.specs.declared.DistanceConstants.{DistanceConstants}
 use Rattle.cdef_spec.specs.Distance.{squares}
-use Rattle.cdef_distance.specs.Blocks.{weightedBy}
+use Rattle.distance_sums.specs.Blocks.{weightedBy}
 
 -- weighted for a whole luma block, else plain squares
 unfoldable pub cutDistance : Bool → DistanceConstants → ℕ → ℕ → (ℕ → ℕ → ℕ) → (ℕ → ℕ → ℕ) → ℕ

@@ -13,9 +13,10 @@ use Rattle.cdef_spec.specs.Words.{table}
 use Rattle.cdef_spec.specs.WordsLaws.{getD-table, and-both}
 use Rattle.cdef_spec.specs.Distance.{squares, constantsOf, weightedDistance}
 use Rattle.cdef_spec.specs.Picture.{luma, chroma, distanceOf}
-use Rattle.cdef_distance.specs.Weighing.{OfDepth}
-use Rattle.cdef_distance.specs.Blocks.{at, cell, blockOf, Below, Within, weightedBy}
-use Rattle.cdef_distance.specs.BlockLaws.{block-cell, squares-same, weighted-same, squares-high, weighted-64-low}
+use Rattle.distance_weight.specs.Weighing.{OfDepth}
+use Rattle.distance_sums.specs.Blocks.{at, cell, blockOf, Below, Within, weightedBy}
+use Rattle.distance_sums.specs.BlockLaws.{block-cell, squares-same, squares-high}
+use Rattle.cdef_distance.specs.WeightedLaws.{weighted-same, weighted-64-low}
 use Rattle.cdef_cut.specs.Cut.{cutDistance}
 
 -- ---- the two cases

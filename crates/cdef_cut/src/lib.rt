@@ -1,8 +1,8 @@
 // The distance of the visible part of a block, as trying and measuring add it up.
 ghost use Prim.Native.Nat.{ℕ, _^_, _≤_, _<_};
 ghost use mathlib.Core.Path.{_≡_};
-ghost use Rattle.cdef_distance.specs.Weighing.{OfDepth};
-ghost use Rattle.cdef_distance.specs.Blocks.{at as sampleIn, Within};
+ghost use Rattle.distance_weight.specs.Weighing.{OfDepth};
+ghost use Rattle.distance_sums.specs.Blocks.{at as sampleIn, Within};
 ghost use Rattle.cdef_cut.specs.Cut.{cutDistance};
 use cdef_spec::DistanceConstants;
 
@@ -25,10 +25,10 @@ pub fn distance_cut(
 {
     if luma {
         if rows + cols == 16 {
-            let a = cdef_distance::sums::block_of(original, at, pitch);
-            let b = cdef_distance::sums::block_of(other, from, step);
+            let a = distance_sums::block_of(original, at, pitch);
+            let b = distance_sums::block_of(other, from, step);
             return cdef_distance::block_distance(&a, &b, c);
         }
     }
-    cdef_distance::sums::squares(original, at, pitch, other, from, step, rows, cols) as u64
+    distance_sums::squares(original, at, pitch, other, from, step, rows, cols) as u64
 }

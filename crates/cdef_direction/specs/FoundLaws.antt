@@ -1,19 +1,21 @@
 -- From the line sums of a block to its direction and variance: the costs equal the standard's and fit, and so does the best.
-use mathlib.Core.Path.{_≡_, refl, sym, ap, _∙_}
+use mathlib.Core.Path.{_≡_, sym, ap, _∙_}
 use mathlib.Core.Bool.{cond}
 use Prim.Native.Nat.{ℕ, zero, suc, _+_, _%_, _≤_, _<_, min}
 use native.Mathlib.Omega.{arith}
 use lib.Dec.{eqb}
 use lib.ListN.{getD}
 use lib.IntN.{ℤ, pos, natAbs}
-use Rattle.cdef_spec.specs.Words.{for}
 use Rattle.cdef_spec.specs.DirectionLaws.{cost-high, direction-low, variance-high}
 use Rattle.cdef_spec.specs.DirectionLocal.{sumℤ-same, direction-same, variance-same}
-use Rattle.cdef_spec.specs.Standard.{lineOf, partial, costStraight, costDiagonal, costBetween, cost, Best, better, best, direction, variance}
+use Rattle.cdef_spec.specs.Standard.{lineOf, partial, costStraight, costDiagonal, costBetween, cost, best, direction, variance}
 use Rattle.cdef_sample.specs.Upto.{upto, getD-upto, upto-ext}
-use Rattle.cdef_direction.specs.Lines.{partialsOf}
-use Rattle.cdef_direction.specs.Costs.{entry, costList, CostsFit, bestOf, foundOf}
-use Rattle.cdef_direction.specs.CostsLaws.{straight-is, diagonal-is, between-is}
+use Rattle.direction_lines.specs.Lines.{partialsOf}
+use Rattle.direction_costs.specs.Costs.{entry}
+use Rattle.cdef_direction.specs.Found.{costList, CostsFit, foundOf}
+use Rattle.direction_best.specs.Best.{bestOf}
+use Rattle.direction_costs.specs.CostsLaws.{straight-is, diagonal-is, between-is}
+use Rattle.direction_best.specs.BestLaws.{best-same}
 
 -- ---- a cost reads its first lines only
 
@@ -110,17 +112,6 @@ module _ (x : ℕ → ℕ → ℤ) (small : (i j : ℕ) → i < 8 → j < 8 → 
 
   pub variance-below : variance x ≤ 860160
   variance-below = rw (variance-same x near near-same) (variance-high near near-small)
-
--- ---- the best
-
-module _ (c c′ : ℕ → ℕ) (same : (d : ℕ) → d < 8 → c d ≡ c′ d) where
-  better-same : (d : ℕ) → d < 8 → {b b′ : Best} → b ≡ b′ → better c d b ≡ better c′ d b′
-  unfolding better
-  better-same d h {b} {b′} e = rw (e, same d h)
-
-  pub best-same : best c ≡ best c′
-  unfolding best for
-  best-same = better-same 7 (omega arith) (better-same 6 (omega arith) (better-same 5 (omega arith) (better-same 4 (omega arith) (better-same 3 (omega arith) (better-same 2 (omega arith) (better-same 1 (omega arith) (better-same 0 (omega arith) refl)))))))
 
 -- THE DIRECTION AND THE VARIANCE from a block's line sums are the standard's
 pub found-are : (x : ℕ → ℕ → ℤ) → foundOf (partialsOf x) ≡ record { direction = direction x; variance = variance x }

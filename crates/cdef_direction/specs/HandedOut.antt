@@ -10,7 +10,7 @@ use Rattle.cdef_spec.specs.WordsLaws.{and-both}
 use Rattle.cdef_spec.specs.Questions.{ask, depthTaken, cornerTaken, cutTaken, varianceTaken}
 use Rattle.cdef_spec.specs.QuestionLaws.{first-yes, depth-high}
 use Rattle.cdef_spec.specs.BlockCalls.{directionNo}
-use Rattle.cdef_direction.specs.LookedLaws.{input-small}
+use Rattle.direction_levels.specs.LevelLaws.{input-small}
 use Rattle.cdef_direction.specs.FoundLaws.{direction-below, variance-below}
 
 module _ (p : Plane) (d y x : ℕ) (taken : directionNo p d y x ≡ 0) where

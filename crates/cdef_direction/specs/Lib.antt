@@ -1,9 +1,4 @@
--- The code's forms of the line sums, the costs and the samples examined, and their laws.
-pub mod Lines
-pub mod LinesLaws
-pub mod Costs
-pub mod CostsLaws
-pub mod Looked
-pub mod LookedLaws
+-- From line sums to the direction and the variance: definitions and laws.
+pub mod Found
 pub mod FoundLaws
 pub mod HandedOut

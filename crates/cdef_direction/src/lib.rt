@@ -5,31 +5,10 @@ ghost use Prim.Native.Nat.{_*_, _≤_, _<_};
 ghost use lib.ListN.{length};
 ghost use Rattle.cdef_spec.specs.Document01.{directionInput, blockDirection, blockVariance};
 ghost use Rattle.cdef_spec.specs.Questions.{cutTaken};
-ghost use Rattle.cdef_direction.specs.Costs.{CostsFit, foundOf};
-ghost use Rattle.cdef_direction.specs.Lines.{partialsOf};
-
-pub mod costs; // costs.rt: the cost of each direction, and the best
-pub mod levels; // levels.rt: the samples of a block, shifted and less 128
-mod lines; // lines.rt: the line sums of a block
-pub mod looked; // looked.rt: whether the samples of a block are below 2^depth
-
-// The direction of a block, 0 to 7, and its variance.
-pub struct Found {
-    pub direction: u8,
-    pub variance: u32,
-}
-
-// The line sums of the eight directions; past a direction's last line they are 0.
-pub struct Partials {
-    pub d0: [i16; 16],
-    pub d1: [i16; 16],
-    pub d2: [i16; 16],
-    pub d3: [i16; 16],
-    pub d4: [i16; 16],
-    pub d5: [i16; 16],
-    pub d6: [i16; 16],
-    pub d7: [i16; 16],
-}
+ghost use Rattle.cdef_direction.specs.Found.{costList, CostsFit, foundOf};
+ghost use Rattle.direction_lines.specs.Lines.{partialsOf};
+use direction_best::Found;
+use direction_lines::Partials;
 
 // The line sums of the block at (x, y).
 pub fn cdef_direction_partials(
@@ -45,20 +24,45 @@ pub fn cdef_direction_partials(
     requires { ⌜ cutTaken (record { samples = now plane; width = width; height = height }) depth y x ≡ true ⌝ }
     ensures { λ r. ⌜ r ≡ partialsOf (directionInput (record { samples = now (plane .entry); width = width; height = height }) depth y x) ⌝ }
 {
-    let b = levels::levels(plane, width, height, x, y, depth);
-    let t = lines::turned(&b);
-    let zb = lines::padded(&b);
-    let zt = lines::padded(&t);
+    let b = direction_levels::levels(plane, width, height, x, y, depth);
+    let t = direction_lines::turned(&b);
+    let zb = direction_lines::padded(&b);
+    let zt = direction_lines::padded(&t);
     Partials {
-        d0: lines::lines(&zb, 8, 23, 46),
-        d1: lines::lines(&zt, 8, 24, 47),
-        d2: lines::lines(&zt, 8, 24, 48),
-        d3: lines::lines(&zt, 5, 24, 49),
-        d4: lines::lines(&zt, 1, 25, 50),
-        d5: lines::lines(&zb, 5, 24, 49),
-        d6: lines::lines(&zb, 8, 24, 48),
-        d7: lines::lines(&zb, 8, 24, 47),
+        d0: direction_lines::lines(&zb, 8, 23, 46),
+        d1: direction_lines::lines(&zt, 8, 24, 47),
+        d2: direction_lines::lines(&zt, 8, 24, 48),
+        d3: direction_lines::lines(&zt, 5, 24, 49),
+        d4: direction_lines::lines(&zt, 1, 25, 50),
+        d5: direction_lines::lines(&zb, 5, 24, 49),
+        d6: direction_lines::lines(&zb, 8, 24, 48),
+        d7: direction_lines::lines(&zb, 8, 24, 47),
     }
+}
+
+// The costs of the eight directions.
+pub fn costs(p: Partials) -> [u32; 8]
+    requires { ⌜ CostsFit p ⌝ }
+    ensures { λ r. ⌜ r ≡ costList p ⌝ }
+{
+    let l0 = p.d0;
+    let l1 = p.d1;
+    let l2 = p.d2;
+    let l3 = p.d3;
+    let l4 = p.d4;
+    let l5 = p.d5;
+    let l6 = p.d6;
+    let l7 = p.d7;
+    [
+        direction_costs::cost_diagonal(&l0),
+        direction_costs::cost_between(&l1),
+        direction_costs::cost_straight(&l2),
+        direction_costs::cost_between(&l3),
+        direction_costs::cost_diagonal(&l4),
+        direction_costs::cost_between(&l5),
+        direction_costs::cost_straight(&l6),
+        direction_costs::cost_between(&l7),
+    ]
 }
 
 // The best direction and its variance, by the line sums.
@@ -66,7 +70,7 @@ pub fn cdef_direction_cost(p: Partials) -> Found
     requires { ⌜ CostsFit p ⌝ }
     ensures { λ r. ⌜ r ≡ foundOf p ⌝ }
 {
-    costs::best(&costs::costs(p))
+    direction_best::best(&costs(p))
 }
 
 // The direction and the variance of the block at (x, y); beyond the plane's right or bottom edge, the nearest sample is used.

@@ -17,9 +17,10 @@ use Rattle.cdef_spec.specs.Questions.{sampleTaken, lookedAt, cutTaken}
 use Rattle.cdef_spec.specs.Words.{sum}
 use Rattle.cdef_spec.specs.Distance.{squaredDifference, squares, constantsOf, weightedDistance}
 use Rattle.cdef_spec.specs.BlockCalls.{inPlane, planeSquares, planeDistance}
-use Rattle.cdef_distance.specs.NewtonLaws.{below-or-not}
-use Rattle.cdef_distance.specs.Blocks.{at, cell, blockOf, Within, weightedBy}
-use Rattle.cdef_distance.specs.BlockLaws.{block-cell, block-below, squares-64, squares-same, weighted-same, squares-high, weighted-64-low}
+use Rattle.arith_root.specs.NewtonLaws.{below-or-not}
+use Rattle.distance_sums.specs.Blocks.{at, cell, blockOf, Within, weightedBy}
+use Rattle.distance_sums.specs.BlockLaws.{block-cell, block-below, squares-64, squares-same, squares-high}
+use Rattle.cdef_distance.specs.WeightedLaws.{weighted-same, weighted-64-low}
 
 abbrev pub sized : List ℕ → ℕ → ℕ → Plane
 sized s w h = record { samples = s; width = w; height = h }

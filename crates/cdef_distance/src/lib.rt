@@ -6,25 +6,21 @@ ghost use lib.ListN.{length};
 ghost use Rattle.cdef_spec.specs.Questions.{cutTaken};
 ghost use Rattle.cdef_spec.specs.Distance.{constantsOf};
 ghost use Rattle.cdef_spec.specs.BlockCalls.{planeSquares, planeDistance};
-ghost use Rattle.cdef_distance.specs.Weighing.{OfDepth};
-ghost use Rattle.cdef_distance.specs.Blocks.{cell, Below, weightedBy};
+ghost use Rattle.distance_weight.specs.Weighing.{OfDepth};
+ghost use Rattle.distance_sums.specs.Blocks.{cell, Below, weightedBy};
 use cdef_spec::DistanceConstants;
-
-pub mod root; // root.rt: the square root and the truncation of an f64
-pub mod sums; // sums.rt: sums over blocks
-pub mod weight; // weight.rt: the weighted distance from sums
 
 // The weighted distance of 64 samples and 64 others.
 pub fn block_distance(a: &[u16; 64], b: &[u16; 64], c: DistanceConstants) -> u64
     requires { ⌜ ((depth : ℕ) × OfDepth c depth × Below (now a) (2 ^ depth) × Below (now b) (2 ^ depth)) ⌝ }
     ensures { λ r. ⌜ r ≡ weightedBy c (cell (now (a .entry))) (cell (now (b .entry))) ⌝ }
 {
-    let ss = sums::total(a) as u64;
-    let sd = sums::total(b) as u64;
-    let ss2 = sums::products(a, a) as u64;
-    let sd2 = sums::products(b, b) as u64;
-    let ssd = sums::products(a, b) as u64;
-    weight::cdef_dist_from_sums(ss, sd, ss2, sd2, ssd, c)
+    let ss = distance_sums::total(a) as u64;
+    let sd = distance_sums::total(b) as u64;
+    let ss2 = distance_sums::products(a, a) as u64;
+    let sd2 = distance_sums::products(b, b) as u64;
+    let ssd = distance_sums::products(a, b) as u64;
+    distance_weight::cdef_dist_from_sums(ss, sd, ss2, sd2, ssd, c)
 }
 
 // The sum of squared differences of the 8 by 8 blocks at (x, y), cropped to the plane.
@@ -45,11 +41,11 @@ pub fn block_sse_8x8(
     let cols = cdef_sample::lesser(8, width - x);
     let at = y * width + x;
     if rows + cols < 16 {
-        return sums::squares(orig, at, width, other, at, width, rows, cols) as u64;
+        return distance_sums::squares(orig, at, width, other, at, width, rows, cols) as u64;
     }
-    let a = sums::block_of(orig, at, width);
-    let b = sums::block_of(other, at, width);
-    sums::block_squares(&a, &b) as u64
+    let a = distance_sums::block_of(orig, at, width);
+    let b = distance_sums::block_of(other, at, width);
+    distance_sums::block_squares(&a, &b) as u64
 }
 
 // The weighted distance of the 8 by 8 blocks at (x, y); plain squares where they cross the plane's right or bottom edge.
@@ -74,7 +70,7 @@ pub fn cdef_dist_8x8(
         return block_sse_8x8(orig, other, width, height, x, y);
     }
     let at = y * width + x;
-    let a = sums::block_of(orig, at, width);
-    let b = sums::block_of(other, at, width);
+    let a = distance_sums::block_of(orig, at, width);
+    let b = distance_sums::block_of(other, at, width);
     block_distance(&a, &b, c)
 }

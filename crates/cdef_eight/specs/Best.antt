@@ -6,7 +6,7 @@ use lib.IntN.{ℤ}
 use Rattle.cdef_spec.specs.Words.{_>>_}
 use Rattle.cdef_spec.specs.Standard.{best, direction, variance}
 use Rattle.cdef_sample.specs.Upto.{upto}
-use Rattle.cdef_direction.specs.Costs.{bestTo}
+use Rattle.direction_best.specs.Best.{bestTo}
 use Rattle.cdef_eight.specs.declared.best.Best8.{Best8}
 use Rattle.cdef_eight.specs.declared.Found8.{Found8}
 use Rattle.cdef_lane_sums.specs.Lines.{laneOf}

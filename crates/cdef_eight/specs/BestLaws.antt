@@ -14,9 +14,9 @@ use Rattle.cdef_spec.specs.Words.{_>>_}
 use Rattle.cdef_spec.specs.Standard.{cost, Best, better, best, direction, variance}
 use Rattle.cdef_sample.specs.Bounds.{Within}
 use Rattle.cdef_sample.specs.Upto.{upto, length-upto, getD-upto, upto-ext}
-use Rattle.cdef_direction.specs.Costs.{bestTo}
-use Rattle.cdef_direction.specs.CostsLaws.{best-all}
-use Rattle.cdef_direction.specs.FoundLaws.{best-same}
+use Rattle.direction_best.specs.Best.{bestTo}
+use Rattle.direction_best.specs.BestLaws.{best-all}
+use Rattle.direction_best.specs.BestLaws.{best-same}
 use Rattle.cdef_lane_sums.specs.Lines.{laneOf}
 use Rattle.cdef_lane_costs.specs.Costs.{costAt, costsOf}
 use Rattle.cdef_lane_costs.specs.CostsLaws.{cost-fits}

@@ -10,7 +10,7 @@ use lib.IntN.{ℤ, pos}
 use Rattle.cdef_spec.specs.Standard.{partial, square, Div-Table, costStraight, costDiagonal, costBetween, cost}
 use Rattle.cdef_sample.specs.Bounds.{Within}
 use Rattle.cdef_sample.specs.Upto.{upto, getD-upto, upto-more, upto-at}
-use Rattle.cdef_direction.specs.CostsLaws.{straight-is, diagonal-is, between-is}
+use Rattle.direction_costs.specs.CostsLaws.{straight-is, diagonal-is, between-is}
 use Rattle.cdef_direction.specs.FoundLaws.{costs-are, costs-fit}
 use Rattle.cdef_lane_sums.specs.Lines.{laneOf, neighbourSums, laneLines, laneLine}
 use Rattle.cdef_lane_sums.specs.LinesLaws.{lines-within}

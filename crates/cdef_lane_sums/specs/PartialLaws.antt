@@ -13,7 +13,7 @@ use Rattle.cdef_spec.specs.Words.{sumℤ}
 use Rattle.cdef_spec.specs.DirectionLocal.{sumℤ-same}
 use Rattle.cdef_spec.specs.Standard.{lineOf, partial}
 use Rattle.cdef_sample.specs.Upto.{getD-upto}
-use Rattle.cdef_direction.specs.LinesLaws.{row-is, turned-is}
+use Rattle.direction_lines.specs.LinesLaws.{row-is, turned-is}
 use Rattle.cdef_lane_sums.specs.Lines.{laneOf, neighbourSum, neighbourSums, addedAt, placeOf, laneLines, laneLine}
 use Rattle.cdef_lane_sums.specs.LinesLaws.{place-high}
 

@@ -10,7 +10,7 @@ use lib.Pow.{pow-pos, pow-add}
 use Rattle.cdef_spec.specs.Document01.{Plane, edgeSample, directionInput}
 use Rattle.cdef_sample.specs.Bounds.{Within}
 use Rattle.cdef_sample.specs.Upto.{upto, length-upto, getD-upto, upto-ext, upto-all-of}
-use Rattle.cdef_direction.specs.LookedLaws.{less-128}
+use Rattle.direction_levels.specs.LevelLaws.{less-128}
 use Rattle.cdef_lanes.specs.Lanes.{rowsOf, fromAt, interleavedOf, lanesOf}
 
 -- ---- magnitudes

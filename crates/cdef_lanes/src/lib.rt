@@ -4,7 +4,6 @@ ghost use Prim.Native.Nat.{_+_, _*_, _≤_};
 ghost use lib.ListN.{length};
 ghost use Rattle.cdef_sample.specs.Bounds.{Within};
 ghost use Rattle.cdef_lanes.specs.Lanes.{EightIn, rowsOf, interleavedOf, lanesOf};
-use cdef_direction::levels;
 
 // The rows of the eight blocks at (x, y): 64 samples each, shifted, less 128.
 fn rows(
@@ -24,7 +23,7 @@ fn rows(
         let at = (y + i) * width + x;
         let to = i * 64;
         for k in 0..64usize {
-            a[to + k] = levels::level(plane[at + k], shift);
+            a[to + k] = direction_levels::level(plane[at + k], shift);
         }
     }
 }

@@ -1,8 +1,4 @@
 // Measuring: per unit, the distance between an original and a plane, filtered with one pair or unfiltered.
-pub mod block; // block.rt: one block
-pub mod rows; // rows.rt: the rows of a block, and slices set to zero
-pub mod totals; // totals.rt: a row of blocks
-
 ghost use mathlib.Core.Path.{_≡_};
 ghost use Prim.Native.Nat.{_≤_};
 ghost use lib.IntN.{pos};
@@ -37,9 +33,9 @@ pub fn measure_plane(
     ensures { λ _. ⌜ now (scratch .exit) ≡ replicate (scratchLength (pictureOf f (now (skip .entry)) (now (dirs .entry)) (now (vars .entry)))) 0 ⌝ }
 {
     cdef_totals::clear_totals(totals);
-    let c = cdef_distance::weight::constants_of(f.depth);
+    let c = distance_weight::constants_of(f.depth);
     for by in 0..f.height / 8 {
-        totals::measure_row(
+        measure_blocks::totals::measure_row(
             totals,
             scratch,
             plane,
@@ -55,5 +51,5 @@ pub fn measure_plane(
             c,
         );
     }
-    rows::clear_scratch(scratch);
+    measure_rows::clear_scratch(scratch);
 }

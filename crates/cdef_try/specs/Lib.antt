@@ -1,8 +1,5 @@
 -- Terms of the contracts.
-pub mod Totals
 pub mod Trying
--- Laws of the totals, and of the trial blocks' distances.
-pub mod TurnLaws
-pub mod TrialBlockLaws
+-- Laws of the trial blocks' distances, and of the totals.
+pub mod DistanceLaws
 pub mod TryLaws
-pub mod WholeLaws

@@ -27,10 +27,11 @@ use Rattle.cdef_frame.specs.Frame.{pictureOf}
 use Rattle.cdef_frame.specs.FrameLaws.{side-facts}
 use Rattle.cdef_frame.specs.BlockLaws.{counts-low, number-low}
 use Rattle.cdef_frame.specs.Lent.{unitsOf}
-use Rattle.cdef_try.specs.Totals.{plainOf, Low, trialDistances}
-use Rattle.cdef_try.specs.Trying.{Ready, trialBlocks, visiblePart, triedDistance, triedRows, triedBlocks}
-use Rattle.cdef_try.specs.TurnLaws.{plain-signed, low-signed}
-use Rattle.cdef_try.specs.TrialBlockLaws.{distance-is, distance-low}
+use Rattle.try_totals.specs.Totals.{plainOf, Low, trialDistances}
+use Rattle.cdef_try.specs.Trying.{Ready, triedDistance, triedRows, triedBlocks}
+use Rattle.try_blocks.specs.TrialBlocks.{trialBlocks, visiblePart}
+use Rattle.try_totals.specs.TurnLaws.{plain-signed, low-signed}
+use Rattle.cdef_try.specs.DistanceLaws.{distance-is, distance-low}
 
 -- a counted block begins inside the visible area
 pub begun : (q : Picture) (v : Visible) (by bx : ℕ) → counted q v by bx ≡ true → (by * blockHeight q ≤ visibleRows q v) × (bx * blockWidth q ≤ visibleCols q v)

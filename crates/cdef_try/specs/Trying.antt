@@ -1,17 +1,14 @@
--- Terms of trying: what is passed to it, the trial blocks, the distances, and the totals block by block. Definitions only.
+-- Terms of trying: what is passed to it, the distances, and the totals block by block. Definitions only.
 use mathlib.Core.List.{List}
-use Prim.Native.Nat.{ℕ, _-_, _*_, min}
+use Prim.Native.Nat.{ℕ, _*_}
 use lib.ListN.{replicate}
-use Rattle.cdef_spec.specs.declared.Block.{Block}
 use Rattle.cdef_spec.specs.declared.SignalledDamping.{SignalledDamping}
 use Rattle.cdef_spec.specs.declared.Visible.{Visible}
-use Rattle.cdef_spec.specs.Words.{table}
 use Rattle.cdef_spec.specs.Document01.{mark, orElse, trialPair}
-use Rattle.cdef_spec.specs.BlockCalls.{trialPlace}
-use Rattle.cdef_spec.specs.Picture.{Picture, blockWidth, blockHeight, blockAt, units, visibleRows, visibleCols, atPlace, planeOf, filteredBy, blockDistance}
+use Rattle.cdef_spec.specs.Picture.{Picture, units, atPlace, filteredBy, blockDistance}
 use Rattle.cdef_spec.specs.LoopForm.{tryRow, tryRows}
 use Rattle.cdef_frame.specs.declared.Frame.{Frame}
-use Rattle.cdef_frame.specs.Frame.{Shaped, blockOf, wayOf, dirOf, dampingOf}
+use Rattle.cdef_frame.specs.Frame.{Shaped}
 use Rattle.cdef_frame.specs.Lent.{Listed, Sampled, Seen, InForce}
 
 -- what trying requires
@@ -22,19 +19,6 @@ pub record Ready (f : Frame) (v : Visible) (d : SignalledDamping) (snapshot orig
   pub target : Sampled f original
   pub seen : Seen f v
   pub force : InForce d
-
--- the twelve trial blocks of a block, 64 entries each
-unfoldable pub trialBlocks : Picture → SignalledDamping → List ℕ → ℕ → ℕ → List ℕ → List ℕ
-trialBlocks q d snapshot by bx out = table 768 (trialPlace (planeOf q snapshot) (blockOf q by bx) (wayOf (q .kind) (blockAt q by bx)) (dirOf (q .kind) (q .dirs) (blockAt q by bx)) (dampingOf (q .kind) d (q .depth)) (q .depth) out)
-
--- the visible part of a block
-unfoldable pub visiblePart : Picture → Visible → ℕ → ℕ → Block
-visiblePart q v by bx = record {
-  x = bx * blockWidth q;
-  y = by * blockHeight q;
-  width = min (blockWidth q) (visibleCols q v - bx * blockWidth q);
-  height = min (blockHeight q) (visibleRows q v - by * blockHeight q);
-}
 
 -- what a block adds to the total of trial t
 unfoldable pub triedDistance : Picture → SignalledDamping → Visible → List ℕ → List ℕ → ℕ → ℕ → ℕ → ℕ

@@ -16,10 +16,6 @@ use cdef_spec::DistanceConstants;
 use cdef_spec::SignalledDamping;
 use cdef_spec::Visible;
 
-pub mod block; // block.rt: the trial blocks of a block, and its visible part
-pub mod turns; // turns.rt: totals cleared, and twelve distances added
-pub mod whole; // whole.rt: the same for a whole luma block
-
 // Tries the block in row by and column bx of the blocks, where it counts. `blocks` has room for its twelve trial blocks.
 fn try_block(
     totals: &mut [i64],
@@ -43,12 +39,12 @@ fn try_block(
     if !geometry::counted(f, v, skip, by, bx) {
         return;
     }
-    block::make_trials(blocks, snapshot, f, dirs, vars, d, by, bx);
-    let p = block::visible_part(f, v, by, bx);
+    try_blocks::make_trials(blocks, snapshot, f, dirs, vars, d, by, bx);
+    let p = try_blocks::visible_part(f, v, by, bx);
     let b = geometry::block_of(f, by, bx);
     let w = geometry::plane_width(f);
     let base = 12 * geometry::unit_at(f, by, bx);
-    turns::add_trials(
+    try_totals::add_trials(
         totals,
         base,
         original,
@@ -117,8 +113,8 @@ pub fn try_plane(
     ensures { λ _. ⌜ now (totals .exit) ≡ table (12 * units (pictureOf f (now (skip .entry)) (now (dirs .entry)) (now (vars .entry)))) (λ k. pos (triedTotal (pictureOf f (now (skip .entry)) (now (dirs .entry)) (now (vars .entry))) d v (now (snapshot .entry)) (now (original .entry)) (k / 12) (k % 12))) ⌝ }
 {
     cdef_totals::clear_totals(totals);
-    let mut blocks = block::room();
-    let c = cdef_distance::weight::constants_of(f.depth);
+    let mut blocks = try_blocks::room();
+    let c = distance_weight::constants_of(f.depth);
     for by in 0..f.height / 8 {
         try_row(
             totals,

@@ -13,7 +13,7 @@ use lib.Pow.{pow-pos}
 use Rattle.cdef_spec.specs.Words.{every}
 use Rattle.cdef_spec.specs.WordsLaws.{and-make}
 use Rattle.cdef_spec.specs.Questions.{allBelow, allTaken}
-use Rattle.cdef_direction.specs.LookedLaws.{or-below, shifted-none}
+use Rattle.check_samples.specs.LookedLaws.{or-below, shifted-none}
 
 and-one : (a : Bool) → true && a ≡ a && true
 and-one true = refl

@@ -7,8 +7,8 @@ use mathlib.Core.List.{List}
 use Prim.Native.Nat.{_^_}
 use Rattle.cdef_spec.specs.declared.DistanceConstants.{DistanceConstants}
 use Rattle.cdef_spec.specs.Distance.{squares}
-use Rattle.cdef_distance.specs.Blocks.{at, cell, Within, weightedBy}
-use Rattle.cdef_distance.specs.BlockLaws.{block-below}
+use Rattle.distance_sums.specs.Blocks.{at, cell, Within, weightedBy}
+use Rattle.distance_sums.specs.BlockLaws.{block-below}
 use Rattle.cdef_distance.specs.PlaneLaws.{lower}
 use Rattle.cdef_cut.specs.Cut.{cutDistance}
 use Rattle.cdef_cut.specs.CutLaws.{cut-part, cut-chroma, cut-blocks, cut-within}

@@ -3,10 +3,10 @@ use mathlib.Core.Path.{ap, _∙_}
 use Prim.Native.Nat.{ℕ}
 use lib.IntN.{ℤ}
 use Rattle.cdef_spec.specs.Document01.{directionInput, blockDirection, blockVariance}
-use Rattle.cdef_direction.specs.declared.Found.{Found}
-use Rattle.cdef_direction.specs.Costs.{foundOf}
+use Rattle.direction_best.specs.declared.Found.{Found}
+use Rattle.cdef_direction.specs.Found.{foundOf}
 use Rattle.cdef_direction.specs.FoundLaws.{costs-fit, found-are}
-use Rattle.cdef_direction.specs.LookedLaws.{input-small}
+use Rattle.direction_levels.specs.LevelLaws.{input-small}
 use borrow.Author.Needs.{needs}
 use Rattle.cdef_direction.proofs.cdef_direction.Statement.{statement}
 use Rattle.cdef_direction.proofs.cdef_direction.Tie as tie

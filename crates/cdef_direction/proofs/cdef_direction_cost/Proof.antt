@@ -1,6 +1,7 @@
 -- `cdef_direction::cdef_direction_cost` meets its contract.
 use mathlib.Core.Path.{ap, _∙_}
-use Rattle.cdef_direction.specs.Costs.{bestOf, foundOf}
+use Rattle.cdef_direction.specs.Found.{foundOf}
+use Rattle.direction_best.specs.Best.{bestOf}
 use borrow.Author.Needs.{needs}
 use Rattle.cdef_direction.proofs.cdef_direction_cost.Statement.{statement}
 use Rattle.cdef_direction.proofs.cdef_direction_cost.Tie as tie

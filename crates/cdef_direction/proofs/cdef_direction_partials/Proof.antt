@@ -4,8 +4,8 @@ use native.Mathlib.Omega.{arith}
 use lib.IntN.{ℤ}
 use Rattle.cdef_spec.specs.Document01.{directionInput}
 use Rattle.cdef_sample.specs.Bounds.{Within}
-use Rattle.cdef_direction.specs.LinesLaws.{block-within, turned-within, padded-within, partials-from}
-use Rattle.cdef_direction.specs.LookedLaws.{input-small}
+use Rattle.direction_lines.specs.LinesLaws.{block-within, turned-within, padded-within, partials-from}
+use Rattle.direction_levels.specs.LevelLaws.{input-small}
 use borrow.Author.Needs.{needs}
 use Rattle.cdef_direction.proofs.cdef_direction_partials.Statement.{statement}
 use Rattle.cdef_direction.proofs.cdef_direction_partials.Tie as tie

@@ -1,6 +1,7 @@
 -- `cdef_distance::block_distance` meets its contract.
-use Rattle.cdef_distance.specs.Blocks.{Below}
-use Rattle.cdef_distance.specs.BlockLaws.{below-4096, sums-64, weighted-64}
+use Rattle.distance_sums.specs.Blocks.{Below}
+use Rattle.distance_sums.specs.BlockLaws.{below-4096}
+use Rattle.cdef_distance.specs.WeightedLaws.{sums-64, weighted-64}
 use borrow.Author.Needs.{needs}
 use Rattle.cdef_distance.proofs.block_distance.Statement.{statement}
 use Rattle.cdef_distance.proofs.block_distance.Tie as tie

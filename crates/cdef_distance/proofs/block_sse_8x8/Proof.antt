@@ -3,8 +3,8 @@ use mathlib.Core.Path.{_∙_}
 use Prim.Native.Nat.{_+_, _-_, _*_, _≤_, _<_, min}
 use native.Mathlib.Omega.{arith}
 use lib.ListN.{length}
-use Rattle.cdef_distance.specs.Blocks.{Within}
-use Rattle.cdef_distance.specs.BlockLaws.{block-below}
+use Rattle.distance_sums.specs.Blocks.{Within}
+use Rattle.distance_sums.specs.BlockLaws.{block-below}
 use Rattle.cdef_distance.specs.PlaneLaws.{place-low, cut-within, whole-within, lower, squares-is, squares-inside}
 use borrow.Author.Needs.{needs}
 use Rattle.cdef_distance.proofs.block_sse_8x8.Statement.{statement}

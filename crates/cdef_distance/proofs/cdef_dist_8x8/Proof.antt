@@ -5,8 +5,8 @@ use Prim.Native.Nat.{ℕ, _+_, _*_, _^_, _<_}
 use native.Mathlib.Omega.{arith}
 use lib.ListN.{length}
 use Rattle.cdef_spec.specs.declared.DistanceConstants.{DistanceConstants}
-use Rattle.cdef_distance.specs.Blocks.{Within, cell, weightedBy}
-use Rattle.cdef_distance.specs.BlockLaws.{block-below}
+use Rattle.distance_sums.specs.Blocks.{Within, cell, weightedBy}
+use Rattle.distance_sums.specs.BlockLaws.{block-below}
 use Rattle.cdef_distance.specs.PlaneLaws.{place-low, cut-within, whole-within, past-right, past-bottom, inside-is}
 use borrow.Author.Needs.{needs}
 use Rattle.cdef_distance.proofs.cdef_dist_8x8.Statement.{statement}

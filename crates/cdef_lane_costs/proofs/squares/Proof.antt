@@ -9,7 +9,7 @@ use mir.Syntax.{w16}
 use mir.ValLaws.{toZ-ofZ}
 use Rattle.cdef_spec.specs.Standard.{square}
 use Rattle.cdef_sample.specs.Upto.{upto, upto-none, upto-more, upto-all}
-use Rattle.cdef_direction.proofs.Squares.{square-low}
+use Rattle.direction_costs.proofs.Squares.{square-low}
 use Rattle.cdef_lane_costs.specs.Costs.{endsOf, endSquares, squaresOf}
 use Rattle.cdef_lane_costs.specs.CostsLaws.{end-squares}
 use borrow.Author.Needs.{needs}

@@ -8,8 +8,8 @@ use mir.Val.{toZ, ofZ}
 use Rattle.cdef_sample.specs.Upto.{upto, upto-none, upto-more, upto-at, upto-all}
 use Rattle.cdef_sample.proofs.Joins.{back-is}
 use Rattle.cdef_spec.specs.Document01.{directionInput}
-use Rattle.cdef_direction.specs.LookedLaws.{less-128}
-use Rattle.cdef_direction.proofs.Places.{place-low, plane-low}
+use Rattle.direction_levels.specs.LevelLaws.{less-128}
+use Rattle.direction_levels.proofs.Places.{place-low, plane-low}
 use Rattle.cdef_lanes.specs.Lanes.{rowsOf}
 use Rattle.cdef_lanes.specs.LanesLaws.{shifted-low, row-at}
 use Rattle.cdef_lanes.proofs.rows.Statement.{statement}

@@ -10,9 +10,11 @@ use borrow.Author.Tests.{not-true, not-false}
 use Rattle.cdef_spec.specs.LoopForm.{signed}
 use Rattle.cdef_spec.specs.Picture.{Picture, planeWidth, blockWidth, counted, unitAt, units}
 use Rattle.cdef_frame.specs.Frame.{pictureOf}
-use Rattle.cdef_try.specs.Totals.{Low}
-use Rattle.cdef_try.specs.Trying.{Ready, visiblePart}
-use Rattle.cdef_try.specs.TrialBlockLaws.{block-parts, part-sides, part-step, part-held, begin-low, trials-held}
+use Rattle.try_totals.specs.Totals.{Low}
+use Rattle.cdef_try.specs.Trying.{Ready}
+use Rattle.try_blocks.specs.TrialBlocks.{visiblePart}
+use Rattle.try_blocks.specs.TrialBlockLaws.{block-parts}
+use Rattle.cdef_try.specs.DistanceLaws.{part-sides, part-step, part-held, begin-low, trials-held}
 use Rattle.cdef_try.specs.TryLaws.{begun, blocks-pass, blocks-long, low, asked, units-low, base-in, added}
 use Rattle.cdef_try.proofs.try_block.Statement.{statement}
 use Rattle.cdef_try.proofs.try_block.Tie as tie

@@ -3,7 +3,7 @@ use mathlib.Core.Path.{_≡_, refl, _∙_}
 use Prim.Native.Nat.{_-_, _≤_}
 use native.Mathlib.Omega.{arith}
 use Rattle.cdef_sample.specs.Upto.{upto}
-use Rattle.cdef_direction.specs.Costs.{bestTo}
+use Rattle.direction_best.specs.Best.{bestTo}
 use Rattle.cdef_eight.specs.Best.{bestsOf}
 use Rattle.cdef_eight.proofs.best.best.Statement.{statement}
 use Rattle.cdef_eight.proofs.best.best.Tie as tie

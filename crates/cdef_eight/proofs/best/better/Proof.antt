@@ -7,7 +7,7 @@ use native.Mathlib.Omega.{arith}
 use lib.Dec.{ltb}
 use lib.ListN.{getD, length, take, length-set}
 use Rattle.cdef_sample.specs.Upto.{upto, upto-none, upto-more, upto-all}
-use Rattle.cdef_direction.specs.Costs.{bestTo}
+use Rattle.direction_best.specs.Best.{bestTo}
 use Rattle.cdef_eight.specs.declared.best.Best8.{Best8}
 use Rattle.cdef_eight.specs.Best.{CostListFits, laneCost, bestsOf}
 use Rattle.cdef_eight.specs.BestLaws.{dir-more, most-more, dir-at, most-at, lane-held}

@@ -5,7 +5,7 @@ use Prim.Native.Nat.{ℕ, _-_, _≤_, _<_}
 use native.Mathlib.Omega.{arith}
 use lib.ListN.{getD, length, take, length-set}
 use Rattle.cdef_sample.specs.Upto.{upto, upto-none, upto-more, upto-all}
-use Rattle.cdef_direction.specs.Costs.{bestTo}
+use Rattle.direction_best.specs.Best.{bestTo}
 use Rattle.cdef_eight.specs.Best.{laneCost, laneDirection, laneVariance, foundByCosts}
 use Rattle.cdef_eight.specs.BestLaws.{dir-at, most-at, dir-8, across-low, dir-found, variance-found}
 use Rattle.cdef_eight.proofs.best.found.Statement.{statement}

@@ -1,0 +1,44 @@
+// Whether the samples examined are below 2^depth.
+ghost use mathlib.Core.Path.{_≡_};
+ghost use Prim.Native.Nat.{ℕ, _+_, _*_, _≤_, _<_};
+ghost use lib.ListN.{length};
+ghost use Rattle.cdef_spec.specs.Questions.{cutTaken};
+ghost use Rattle.check_samples.specs.Looked.{orRow, orRows};
+
+// The bits that are set in any of n samples, from `at` on.
+fn row_bits(plane: &[u16], at: usize, n: usize) -> u16
+    requires { ⌜ at + n ≤ length (now plane) ⌝ }
+    ensures { λ r. ⌜ r ≡ orRow (now (plane .entry)) at n ⌝ }
+{
+    let mut bits = 0u16;
+    for j in 0..n {
+        bits = bits | plane[at + j];
+    }
+    bits
+}
+
+// The bits that are set in any of rows by cols samples, from row y and column x on.
+fn block_bits(plane: &[u16], width: usize, y: usize, x: usize, rows: usize, cols: usize) -> u16
+    requires { ⌜ (y + rows ≤ 4096) × ((i : ℕ) → i < rows → (y + i) * width + x + cols ≤ length (now plane)) ⌝ }
+    ensures { λ r. ⌜ r ≡ orRows (now (plane .entry)) width y x cols rows ⌝ }
+{
+    let mut bits = 0u16;
+    for i in 0..rows {
+        bits = bits | row_bits(plane, (y + i) * width + x, cols);
+    }
+    bits
+}
+
+// The 8 by 8 block at (x, y), cropped to the plane. A whole block passes its sides as constants, so that the compiler unrolls the loops.
+pub fn cut_taken(plane: &[u16], width: usize, height: usize, x: usize, y: usize, depth: u8) -> bool
+    requires { ⌜ length (now plane) ≡ width * height ⌝ }
+    requires { ⌜ (width ≤ 4096) × (height ≤ 4096) × (x < width) × (y < height) × (depth ≤ 12) ⌝ }
+    ensures { λ r. ⌜ r ≡ cutTaken (record { samples = now (plane .entry); width = width; height = height }) depth y x ⌝ }
+{
+    let cols = cdef_sample::lesser(8, width - x);
+    let rows = cdef_sample::lesser(8, height - y);
+    if rows + cols < 16 {
+        return block_bits(plane, width, y, x, rows, cols) >> (depth as u32) == 0;
+    }
+    block_bits(plane, width, y, x, 8, 8) >> (depth as u32) == 0
+}

@@ -1,0 +1,3 @@
+-- Lemmas that several proofs share.
+pub mod Less128
+pub mod Places

@@ -60,7 +60,7 @@ pub fn agree_chroma(
         return Agreement::NotTrialPairs;
     }
     agree_parts::copy(dst, snapshot);
-    let a = cdef::applying_lists::apply_chroma(
+    let a = cdef_lists::apply_chroma(
         dst,
         snapshot,
         width,

@@ -58,7 +58,7 @@ pub fn agree_luma(
         return Agreement::NotTrialPairs;
     }
     agree_parts::copy(dst, snapshot);
-    let a = cdef::applying_lists::apply_luma(
+    let a = cdef_lists::apply_luma(
         dst,
         snapshot,
         width,

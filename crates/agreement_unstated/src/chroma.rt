@@ -43,7 +43,7 @@ fn try_out(totals: &mut [i64], snapshot: &[u16], original: &[u16], skip: &[u8], 
 
 // With damping 3, into a copy of the snapshot.
 fn apply(dst: &mut [u16], snapshot: &[u16], skip: &[u8], dirs: &[u8]) {
-    report::answer(cdef::applying_lists::apply_chroma(
+    report::answer(cdef_lists::apply_chroma(
         dst,
         snapshot,
         72,

@@ -49,7 +49,7 @@ fn try_out(
 
 // With damping 3, into a copy of the snapshot.
 fn apply(dst: &mut [u16], snapshot: &[u16], skip: &[u8], dirs: &[u8], vars: &[u32]) {
-    report::answer(cdef::applying_lists::apply_luma(
+    report::answer(cdef_lists::apply_luma(
         dst,
         snapshot,
         72,

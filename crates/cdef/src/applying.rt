@@ -5,7 +5,6 @@ ghost use Rattle.cdef_spec.specs.Answers.{readAnswer};
 ghost use Rattle.cdef_spec.specs.Picture.{lumaPicture, chromaPicture};
 ghost use Rattle.cdef_spec.specs.FrameCalls.{applyingOutcome};
 ghost use Rattle.cdef_pairs.specs.Gather.{listed};
-use crate::applying_lists;
 use cdef_spec::Answer;
 use cdef_spec::DampingChoice;
 use cdef_spec::UnitPair;
@@ -31,7 +30,7 @@ fn apply_luma_of(
     let secs = lists.secs;
     let m = cdef_pairs::or_none(n);
     let k = cdef_pairs::at_most(n);
-    applying_lists::apply_luma(
+    cdef_lists::apply_luma(
         dst,
         snapshot,
         width,
@@ -68,7 +67,7 @@ fn apply_chroma_of(
     let secs = lists.secs;
     let m = cdef_pairs::or_none(n);
     let k = cdef_pairs::at_most(n);
-    applying_lists::apply_chroma(
+    cdef_lists::apply_chroma(
         dst,
         snapshot,
         width,

@@ -26,7 +26,7 @@ pub extern "C" fn quern_apply_luma(
     ensures { λ _. ⌜ now (dst .exit) ≡ (applyingListsOutcome (lumaPicture depth width height (now (skip .entry)) (now (dirs .entry)) (now (vars .entry))) (choiceOf damping unstated) (now (snapshot .entry)) (now (pris .entry)) (now (secs .entry)) (now (dst .entry))) .plane ⌝ }
 {
     let d = arith_damping::choice_of(damping, unstated);
-    answer::number(cdef::applying_lists::apply_luma(
+    answer::number(cdef_lists::apply_luma(
         dst,
         snapshot,
         width,
@@ -62,7 +62,7 @@ pub extern "C" fn quern_apply_chroma(
     ensures { λ _. ⌜ now (dst .exit) ≡ (applyingListsOutcome (chromaPicture depth width height sx sy (now (skip .entry)) (now (dirs .entry))) (choiceOf damping unstated) (now (snapshot .entry)) (now (pris .entry)) (now (secs .entry)) (now (dst .entry))) .plane ⌝ }
 {
     let d = arith_damping::choice_of(damping, unstated);
-    answer::number(cdef::applying_lists::apply_chroma(
+    answer::number(cdef_lists::apply_chroma(
         dst,
         snapshot,
         width,

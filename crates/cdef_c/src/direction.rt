@@ -21,7 +21,7 @@ pub extern "C" fn quern_direction(
     ensures { λ _. ⌜ now (direction .exit) ≡ (valueOr (record { direction = now (direction .entry); variance = now (variance .entry) }) (directionOutcome (record { samples = now (plane .entry); width = width; height = height }) depth y x)) .direction ⌝ }
     ensures { λ _. ⌜ now (variance .exit) ≡ (valueOr (record { direction = now (direction .entry); variance = now (variance .entry) }) (directionOutcome (record { samples = now (plane .entry); width = width; height = height }) depth y x)) .variance ⌝ }
 {
-    match cdef::direction::direction(plane, width, height, x, y, depth) {
+    match cdef_blocks::direction::direction(plane, width, height, x, y, depth) {
         DirectionAnswer::Direction(d, v) => {
             *direction = d;
             *variance = v;

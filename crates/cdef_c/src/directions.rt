@@ -18,5 +18,5 @@ pub extern "C" fn quern_direction_pass(
     ensures { λ _. ⌜ now (dirs .exit) ≡ (directionPassOutcome (record { samples = now (plane .entry); width = width; height = height }) depth (now (dirs .entry)) (now (vars .entry))) .dirs ⌝ }
     ensures { λ _. ⌜ now (vars .exit) ≡ (directionPassOutcome (record { samples = now (plane .entry); width = width; height = height }) depth (now (dirs .entry)) (now (vars .entry))) .vars ⌝ }
 {
-    answer::number(cdef::directions::direction_pass(dirs, vars, plane, width, height, depth))
+    answer::number(cdef::pass::direction_pass(dirs, vars, plane, width, height, depth))
 }

@@ -20,7 +20,7 @@ pub extern "C" fn quern_distance(
     ensures { λ r. ⌜ r ≡ numberOf (distanceOutcome (record { samples = now (orig .entry); width = width; height = height }) (now (other .entry)) depth y x) ⌝ }
     ensures { λ _. ⌜ now (out .exit) ≡ valueOr (now (out .entry)) (distanceOutcome (record { samples = now (orig .entry); width = width; height = height }) (now (other .entry)) depth y x) ⌝ }
 {
-    match cdef::distance::distance(orig, other, width, height, x, y, depth) {
+    match cdef_blocks::distance::distance(orig, other, width, height, x, y, depth) {
         DistanceAnswer::Distance(d) => {
             *out = d;
             0
@@ -44,7 +44,7 @@ pub extern "C" fn quern_squares(
     ensures { λ r. ⌜ r ≡ numberOf (squaresOutcome (record { samples = now (orig .entry); width = width; height = height }) (now (other .entry)) depth y x) ⌝ }
     ensures { λ _. ⌜ now (out .exit) ≡ valueOr (now (out .entry)) (squaresOutcome (record { samples = now (orig .entry); width = width; height = height }) (now (other .entry)) depth y x) ⌝ }
 {
-    match cdef::distance::squares(orig, other, width, height, x, y, depth) {
+    match cdef_blocks::distance::squares(orig, other, width, height, x, y, depth) {
         DistanceAnswer::Distance(d) => {
             *out = d;
             0

@@ -41,5 +41,5 @@ pub extern "C" fn quern_filter_block(
         damping: WorkingDamping(damping),
         depth: depth,
     };
-    answer::number(cdef::filter::filter_block(dst, y0, plane, width, height, block, params))
+    answer::number(cdef_blocks::filter::filter_block(dst, y0, plane, width, height, block, params))
 }

@@ -17,7 +17,7 @@ pub extern "C" fn quern_constrain(difference: i32, strength: u32, damping: u8, o
     ensures { λ r. ⌜ r ≡ numberOf (constrainOutcome difference strength (record { 0 = damping })) ⌝ }
     ensures { λ _. ⌜ now (out .exit) ≡ valueOr (now (out .entry)) (constrainOutcome difference strength (record { 0 = damping })) ⌝ }
 {
-    match cdef::numbers::constrain(difference, strength, WorkingDamping(damping)) {
+    match cdef_blocks::numbers::constrain(difference, strength, WorkingDamping(damping)) {
         DifferenceAnswer::Difference(d) => {
             *out = d;
             0
@@ -32,7 +32,7 @@ pub extern "C" fn quern_adjust_pri(strength: u32, variance: u32, out: &mut u32) 
     ensures { λ r. ⌜ r ≡ numberOf (adjustOutcome strength variance) ⌝ }
     ensures { λ _. ⌜ now (out .exit) ≡ valueOr (now (out .entry)) (adjustOutcome strength variance) ⌝ }
 {
-    match cdef::numbers::adjust(strength, variance) {
+    match cdef_blocks::numbers::adjust(strength, variance) {
         StrengthAnswer::Strength(s) => {
             *out = s;
             0
@@ -47,7 +47,7 @@ pub extern "C" fn quern_damping(index: u32, out: &mut u8) -> u32
     ensures { λ r. ⌜ r ≡ numberOf (dampingOutcome index) ⌝ }
     ensures { λ _. ⌜ now (out .exit) ≡ (valueOr (record { 0 = now (out .entry) }) (dampingOutcome index)) .0 ⌝ }
 {
-    match cdef::numbers::damping(index) {
+    match cdef_blocks::numbers::damping(index) {
         DampingAnswer::Damping(d) => {
             *out = d.0;
             0
@@ -62,7 +62,7 @@ pub extern "C" fn quern_luma_damping(signalled: u8, depth: u8, out: &mut u8) -> 
     ensures { λ r. ⌜ r ≡ numberOf (lumaDampingOutcome (record { 0 = signalled }) depth) ⌝ }
     ensures { λ _. ⌜ now (out .exit) ≡ (valueOr (record { 0 = now (out .entry) }) (lumaDampingOutcome (record { 0 = signalled }) depth)) .0 ⌝ }
 {
-    match cdef::numbers::luma_damping(SignalledDamping(signalled), depth) {
+    match cdef_blocks::numbers::luma_damping(SignalledDamping(signalled), depth) {
         WorkingAnswer::Working(d) => {
             *out = d.0;
             0
@@ -77,7 +77,7 @@ pub extern "C" fn quern_chroma_damping(signalled: u8, depth: u8, out: &mut u8) -
     ensures { λ r. ⌜ r ≡ numberOf (chromaDampingOutcome (record { 0 = signalled }) depth) ⌝ }
     ensures { λ _. ⌜ now (out .exit) ≡ (valueOr (record { 0 = now (out .entry) }) (chromaDampingOutcome (record { 0 = signalled }) depth)) .0 ⌝ }
 {
-    match cdef::numbers::chroma_damping(SignalledDamping(signalled), depth) {
+    match cdef_blocks::numbers::chroma_damping(SignalledDamping(signalled), depth) {
         WorkingAnswer::Working(d) => {
             *out = d.0;
             0

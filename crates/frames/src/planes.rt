@@ -206,7 +206,7 @@ fn directed(h: Header, plane: u8, dirs: &mut [u8], vars: &mut [u32], before: &[u
     if plane != 0 {
         return Answer::Done;
     }
-    cdef::directions::direction_pass(dirs, vars, before, h.width, h.height, h.depth)
+    cdef::pass::direction_pass(dirs, vars, before, h.width, h.height, h.depth)
 }
 
 // Applies a plane's pairs, unless there are no directions.
@@ -242,7 +242,7 @@ fn luma(
     secs: &[u8],
 ) -> Answer {
     let damping = DampingChoice::Given(SignalledDamping(h.damping));
-    cdef::applying_lists::apply_luma(
+    cdef_lists::apply_luma(
         after,
         before,
         h.width,
@@ -267,7 +267,7 @@ fn chroma(
     secs: &[u8],
 ) -> Answer {
     let damping = DampingChoice::Given(SignalledDamping(h.damping));
-    cdef::applying_lists::apply_chroma(
+    cdef_lists::apply_chroma(
         after,
         before,
         h.width,

@@ -62,7 +62,7 @@ fn luma_agreement(
     let original = picture::made(72, depth, number + 100);
     let mut dirs = [0u8; 153];
     let mut vars = [0u32; 153];
-    cdef::directions::direction_pass(&mut dirs, &mut vars, &snapshot, 72, 136, depth);
+    cdef::pass::direction_pass(&mut dirs, &mut vars, &snapshot, 72, 136, depth);
     let damping = DampingChoice::Given(SignalledDamping(5));
     agreed::agree_luma(
         as_pairs,
@@ -140,7 +140,7 @@ fn directions(found: bool, depth: u8, number: u32) -> [u8; 153]
     let mut dirs = [0u8; 153];
     let mut vars = [0u32; 153];
     let luma = picture::made(72, depth, number);
-    cdef::directions::direction_pass(&mut dirs, &mut vars, &luma, 72, 136, depth);
+    cdef::pass::direction_pass(&mut dirs, &mut vars, &luma, 72, 136, depth);
     dirs
 }
 
@@ -179,7 +179,7 @@ fn chroma_agreement(
 
 // Chroma's damping: that of quality index 120, by its call. An index that the call rejected would become the error code, 8, as a damping, which the calls reject.
 fn of_index() -> DampingChoice {
-    match cdef::numbers::damping(120) {
+    match cdef_blocks::numbers::damping(120) {
         DampingAnswer::Damping(d) => DampingChoice::Given(d),
         DampingAnswer::NoDamping(n) => DampingChoice::Given(SignalledDamping(n)),
     }

@@ -41,7 +41,7 @@ fn whole() {
     let mut dst = [0u16; 307200];
     let mut dirs = [0u8; 4800];
     let mut vars = [0u32; 4800];
-    cdef::directions::direction_pass(&mut dirs, &mut vars, &snapshot, 640, 480, 8);
+    cdef::pass::direction_pass(&mut dirs, &mut vars, &snapshot, 640, 480, 8);
     for k in 0..25usize {
         print::text(b"640 by 480:");
         timed::both(

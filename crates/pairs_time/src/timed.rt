@@ -95,7 +95,7 @@ fn as_lists(
     let pris = [4u8; 128];
     let secs = [2u8; 128];
     for k in 0..calls {
-        let answer = cdef::applying_lists::apply_luma(
+        let answer = cdef_lists::apply_luma(
             dst,
             snapshot,
             width,

@@ -29,7 +29,7 @@ pub fn small(n: usize) -> u8
 fn of_index(index: u32) -> DampingText
     ensures { λ r. ⌜ r ≡ ofResult (dampingOutcome index) ⌝ }
 {
-    match cdef::numbers::damping(index) {
+    match cdef_blocks::numbers::damping(index) {
         DampingAnswer::Damping(d) => DampingText::Signalled(d),
         DampingAnswer::NoDamping(n) => DampingText::Rejected(n),
     }

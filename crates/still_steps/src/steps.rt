@@ -68,7 +68,7 @@ fn direct(
     requires { ⌜ Counted (job .visible .width) (job .visible .height) (job .counts) ⌝ }
 {
     let n = job.counts;
-    let answer = cdef::directions::direction_pass(dirs, vars, still, n.width, n.height, job.depth);
+    let answer = cdef::pass::direction_pass(dirs, vars, still, n.width, n.height, job.depth);
     if let Answer::Refused(no) = answer {
         return Outcome::PassRefused(no);
     }
@@ -139,7 +139,7 @@ fn apply(
     let units = n.units;
     let damping = job.damping;
     agree_parts::copy(filtered, still);
-    let answer = cdef::applying_lists::apply_luma(
+    let answer = cdef_lists::apply_luma(
         filtered,
         still,
         n.width,

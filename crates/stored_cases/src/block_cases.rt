@@ -30,7 +30,7 @@ fn found(l: Line, plane: &[u16], count: usize) -> DirectionAnswer
     requires { ⌜ count ≤ length (now plane) ⌝ }
 {
     let size = l.size;
-    cdef::direction::direction(
+    cdef_blocks::direction::direction(
         &plane[..count],
         size[1] as usize,
         size[2] as usize,
@@ -79,7 +79,7 @@ fn filter(l: Line, dst: &mut [u16], places: usize, plane: &[u16], count: usize) 
     requires { ⌜ (places ≤ length (now dst)) × (count ≤ length (now plane)) ⌝ }
 {
     let size = l.size;
-    cdef::filter::filter_block(
+    cdef_blocks::filter::filter_block(
         &mut dst[..places],
         size[7] as usize,
         &plane[..count],

@@ -37,7 +37,7 @@ fn same_constrain(l: Line) -> bool {
     let minus = l.minus;
     let size = l.size;
     let difference = case_text::as_i32(minus[0], size[0]);
-    let answer = cdef::numbers::constrain(
+    let answer = cdef_blocks::numbers::constrain(
         difference,
         case_text::as_u32(size[1]),
         WorkingDamping(case_text::as_u8(size[2])),
@@ -52,7 +52,7 @@ fn same_constrain(l: Line) -> bool {
 // strength variance code answer
 fn same_adjust(l: Line) -> bool {
     let size = l.size;
-    let answer = cdef::numbers::adjust(case_text::as_u32(size[0]), case_text::as_u32(size[1]));
+    let answer = cdef_blocks::numbers::adjust(case_text::as_u32(size[0]), case_text::as_u32(size[1]));
     match answer {
         StrengthAnswer::Strength(s) => size[2] == 0 && (s as u64) == size[3],
         StrengthAnswer::NoStrength(n) => (n as u64) == size[2] && size[3] == 0,
@@ -62,7 +62,7 @@ fn same_adjust(l: Line) -> bool {
 // index code answer
 fn same_damping(l: Line) -> bool {
     let size = l.size;
-    let answer = cdef::numbers::damping(case_text::as_u32(size[0]));
+    let answer = cdef_blocks::numbers::damping(case_text::as_u32(size[0]));
     match answer {
         DampingAnswer::Damping(d) => size[1] == 0 && (d.0 as u64) == size[2],
         DampingAnswer::NoDamping(n) => (n as u64) == size[1] && size[2] == 0,

@@ -43,9 +43,9 @@ fn asked(l: Line, plain: bool, orig: &[u16], other: &[u16]) -> DistanceAnswer {
     let y = size[4] as usize;
     let depth = case_text::as_u8(size[0]);
     if plain {
-        return cdef::distance::squares(orig, other, width, height, x, y, depth);
+        return cdef_blocks::distance::squares(orig, other, width, height, x, y, depth);
     }
-    cdef::distance::distance(orig, other, width, height, x, y, depth)
+    cdef_blocks::distance::distance(orig, other, width, height, x, y, depth)
 }
 
 fn same_answer(answer: DistanceAnswer, l: Line) -> bool {

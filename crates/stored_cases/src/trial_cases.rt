@@ -52,7 +52,7 @@ fn tried(l: Line, out: &mut [u16], places: usize, plane: &[u16], count: usize) -
     requires { ⌜ (places ≤ length (now out)) × (count ≤ length (now plane)) ⌝ }
 {
     let size = l.size;
-    cdef::trial::trial(
+    cdef_blocks::trial::trial(
         &mut out[..places],
         &plane[..count],
         size[1] as usize,

@@ -10,7 +10,7 @@ fn direction_line(name: &[u8], plane: &[u16], width: usize, height: usize, depth
     print::text(b"direction, ");
     print::text(name);
     print::text(b": ");
-    match cdef::direction::direction(plane, width, height, 0, 0, depth) {
+    match cdef_blocks::direction::direction(plane, width, height, 0, 0, depth) {
         DirectionAnswer::Direction(d, v) => {
             print::number(d as u64);
             print::text(b", variance ");
@@ -90,7 +90,7 @@ fn filtered(
         width: 1,
         height: 1,
     };
-    match cdef::filter::filter_block(dst, y, plane, width, height, block, p) {
+    match cdef_blocks::filter::filter_block(dst, y, plane, width, height, block, p) {
         Answer::Done => {
             print::number(sample(dst, 2) as u64);
             print::text(b"\n");

@@ -15,7 +15,7 @@ fn applied(
     print::text(b"applying, chroma ");
     print::text(line);
     print::text(b": ");
-    match cdef::applying_lists::apply_chroma(
+    match cdef_lists::apply_chroma(
         dst,
         snapshot,
         8,

@@ -15,14 +15,14 @@ fn distance_line(name: &[u8], orig: &[u16], other: &[u16], width: usize, height:
     print::text(b"distance, ");
     print::text(name);
     print::text(b": ");
-    answer(cdef::distance::distance(orig, other, width, height, 0, 0, depth));
+    answer(cdef_blocks::distance::distance(orig, other, width, height, 0, 0, depth));
 }
 
 fn squares_line(name: &[u8], orig: &[u16], other: &[u16], width: usize, height: usize, depth: u8) {
     print::text(b"squares, ");
     print::text(name);
     print::text(b": ");
-    answer(cdef::distance::squares(orig, other, width, height, 0, 0, depth));
+    answer(cdef_blocks::distance::squares(orig, other, width, height, 0, 0, depth));
 }
 
 pub fn distance_lines() {

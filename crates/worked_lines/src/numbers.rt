@@ -12,7 +12,7 @@ fn constrain_line(difference: i32, strength: u32, damping: u8) {
     print::text(b", damping ");
     print::number(damping as u64);
     print::text(b": ");
-    let answer = cdef::numbers::constrain(difference, strength, WorkingDamping(damping));
+    let answer = cdef_blocks::numbers::constrain(difference, strength, WorkingDamping(damping));
     match answer {
         DifferenceAnswer::Difference(d) => {
             print::signed(d);
@@ -42,7 +42,7 @@ fn adjust_line(strength: u32, variance: u32) {
     print::text(b", variance ");
     print::number(variance as u64);
     print::text(b": ");
-    let answer = cdef::numbers::adjust(strength, variance);
+    let answer = cdef_blocks::numbers::adjust(strength, variance);
     match answer {
         StrengthAnswer::Strength(s) => {
             print::number(s as u64);
@@ -65,7 +65,7 @@ fn damping_line(index: u32) {
     print::text(b"damping of quality index ");
     print::number(index as u64);
     print::text(b": ");
-    let answer = cdef::numbers::damping(index);
+    let answer = cdef_blocks::numbers::damping(index);
     match answer {
         DampingAnswer::Damping(d) => {
             print::number(d.0 as u64);

@@ -8,7 +8,7 @@ use Rattle.pairs_time.proofs.whole.Statement.{statement}
 use Rattle.pairs_time.proofs.whole.Tie as tie
 use Rattle.pairs_time.proofs.whole.Reads as reads
 use Rattle.pairs_time.proofs.whole.Lts as lts
-use Rattle.cdef.proofs.directions.direction_pass.Reads as direction-pass-reads
+use Rattle.cdef.proofs.pass.direction_pass.Reads as direction-pass-reads
 use Rattle.pairs_time.proofs.timed.both.Reads as both-reads
 use Rattle.pairs_time.proofs.timed.picture.Reads as picture-reads
 use Rattle.print.proofs.text.Reads as text-reads

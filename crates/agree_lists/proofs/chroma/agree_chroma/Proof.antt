@@ -11,7 +11,7 @@ use Rattle.agree_lists.proofs.chroma.agree_chroma.Statement.{statement}
 use Rattle.agree_lists.proofs.chroma.agree_chroma.Tie as tie
 use Rattle.agree_lists.proofs.chroma.agree_chroma.Reads as reads
 use Rattle.agree_lists.proofs.chroma.agree_chroma.Lts as lts
-use Rattle.cdef.proofs.applying_lists.apply_chroma.Reads as apply-chroma-reads
+use Rattle.cdef_lists.proofs.apply_chroma.Reads as apply-chroma-reads
 use Rattle.cdef.proofs.measuring.measure_chroma.Reads as measure-chroma-reads
 use Rattle.cdef.proofs.trying.try_chroma.Reads as try-chroma-reads
 use Rattle.agree_parts.proofs.copy.Reads as copy-reads

@@ -11,7 +11,7 @@ use Rattle.agree_lists.proofs.luma.agree_luma.Statement.{statement}
 use Rattle.agree_lists.proofs.luma.agree_luma.Tie as tie
 use Rattle.agree_lists.proofs.luma.agree_luma.Reads as reads
 use Rattle.agree_lists.proofs.luma.agree_luma.Lts as lts
-use Rattle.cdef.proofs.applying_lists.apply_luma.Reads as apply-luma-reads
+use Rattle.cdef_lists.proofs.apply_luma.Reads as apply-luma-reads
 use Rattle.cdef.proofs.measuring.measure_luma.Reads as measure-luma-reads
 use Rattle.cdef.proofs.trying.try_luma.Reads as try-luma-reads
 use Rattle.agree_parts.proofs.copy.Reads as copy-reads

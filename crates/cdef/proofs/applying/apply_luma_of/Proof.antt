@@ -6,7 +6,7 @@ use Rattle.cdef.proofs.applying.apply_luma_of.Statement.{statement}
 use Rattle.cdef.proofs.applying.apply_luma_of.Tie as tie
 use Rattle.cdef.proofs.applying.apply_luma_of.Reads as reads
 use Rattle.cdef.proofs.applying.apply_luma_of.Lts as lts
-use Rattle.cdef.proofs.applying_lists.apply_luma.Reads as apply-luma-reads
+use Rattle.cdef_lists.proofs.apply_luma.Reads as apply-luma-reads
 use Rattle.cdef_pairs.proofs.at_most.Reads as at-most-reads
 use Rattle.cdef_pairs.proofs.lists_of.Reads as lists-of-reads
 use Rattle.cdef_pairs.proofs.or_none.Reads as or-none-reads

@@ -13,7 +13,7 @@ use Rattle.cdef.proofs.measuring.measure_chroma.Reads as reads
 use Rattle.cdef.proofs.measuring.measure_chroma.Lts as lts
 use Rattle.cdef_answer.proofs.answer_of.Reads as answer-of-reads
 use Rattle.cdef_frame_calls.proofs.measure_frame.Reads as measure-frame-reads
-use Rattle.cdef.proofs.Chroma.{chroma-off}
+use Rattle.cdef_frame_calls.specs.FlagLaws.{chroma-off}
 
 slice-aggregate-measure-frame : tie.Need-slice-aggregate-measure-frame
 slice-aggregate-measure-frame c = search needs

@@ -13,7 +13,7 @@ use Rattle.cdef.proofs.trying.try_chroma.Reads as reads
 use Rattle.cdef.proofs.trying.try_chroma.Lts as lts
 use Rattle.cdef_answer.proofs.answer_of.Reads as answer-of-reads
 use Rattle.cdef_frame_calls.proofs.try_frame.Reads as try-frame-reads
-use Rattle.cdef.proofs.Chroma.{chroma-off}
+use Rattle.cdef_frame_calls.specs.FlagLaws.{chroma-off}
 
 slice-aggregate-try-frame : tie.Need-slice-aggregate-try-frame
 slice-aggregate-try-frame c = search needs

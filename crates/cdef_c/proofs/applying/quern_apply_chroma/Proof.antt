@@ -8,7 +8,7 @@ use Rattle.cdef_c.proofs.applying.quern_apply_chroma.Statement.{stateme
 use Rattle.cdef_c.proofs.applying.quern_apply_chroma.Tie as tie
 use Rattle.cdef_c.proofs.applying.quern_apply_chroma.Reads as reads
 use Rattle.cdef_c.proofs.applying.quern_apply_chroma.Lts as lts
-use Rattle.cdef.proofs.applying_lists.apply_chroma.Reads as apply-chroma-reads
+use Rattle.cdef_lists.proofs.apply_chroma.Reads as apply-chroma-reads
 use Rattle.cdef_c.proofs.answer.number.Reads as number-reads
 use Rattle.arith_damping.proofs.choice_of.Reads as choice-of-reads
 

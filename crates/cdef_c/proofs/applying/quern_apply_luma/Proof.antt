@@ -8,7 +8,7 @@ use Rattle.cdef_c.proofs.applying.quern_apply_luma.Statement.{statement
 use Rattle.cdef_c.proofs.applying.quern_apply_luma.Tie as tie
 use Rattle.cdef_c.proofs.applying.quern_apply_luma.Reads as reads
 use Rattle.cdef_c.proofs.applying.quern_apply_luma.Lts as lts
-use Rattle.cdef.proofs.applying_lists.apply_luma.Reads as apply-luma-reads
+use Rattle.cdef_lists.proofs.apply_luma.Reads as apply-luma-reads
 use Rattle.cdef_c.proofs.answer.number.Reads as number-reads
 use Rattle.arith_damping.proofs.choice_of.Reads as choice-of-reads
 

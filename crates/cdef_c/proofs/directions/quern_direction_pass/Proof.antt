@@ -8,7 +8,7 @@ use Rattle.cdef_c.proofs.directions.quern_direction_pass.Statement.{sta
 use Rattle.cdef_c.proofs.directions.quern_direction_pass.Tie as tie
 use Rattle.cdef_c.proofs.directions.quern_direction_pass.Reads as reads
 use Rattle.cdef_c.proofs.directions.quern_direction_pass.Lts as lts
-use Rattle.cdef.proofs.directions.direction_pass.Reads as direction-pass-reads
+use Rattle.cdef.proofs.pass.direction_pass.Reads as direction-pass-reads
 use Rattle.cdef_c.proofs.answer.number.Reads as number-reads
 
 direction-pass-requires : tie.Need-direction-pass-requires

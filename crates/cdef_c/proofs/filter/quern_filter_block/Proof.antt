@@ -6,7 +6,7 @@ use Rattle.cdef_c.proofs.filter.quern_filter_block.Statement.{statement
 use Rattle.cdef_c.proofs.filter.quern_filter_block.Tie as tie
 use Rattle.cdef_c.proofs.filter.quern_filter_block.Reads as reads
 use Rattle.cdef_c.proofs.filter.quern_filter_block.Lts as lts
-use Rattle.cdef.proofs.filter.filter_block.Reads as filter-block-reads
+use Rattle.cdef_blocks.proofs.filter.filter_block.Reads as filter-block-reads
 use Rattle.cdef_c.proofs.answer.number.Reads as number-reads
 
 filter-block-requires : tie.Need-filter-block-requires

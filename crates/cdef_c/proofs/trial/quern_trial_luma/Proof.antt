@@ -6,7 +6,7 @@ use Rattle.cdef_c.proofs.trial.quern_trial_luma.Statement.{statement}
 use Rattle.cdef_c.proofs.trial.quern_trial_luma.Tie as tie
 use Rattle.cdef_c.proofs.trial.quern_trial_luma.Reads as reads
 use Rattle.cdef_c.proofs.trial.quern_trial_luma.Lts as lts
-use Rattle.cdef.proofs.trial.trial.Reads as trial-reads
+use Rattle.cdef_blocks.proofs.trial.trial.Reads as trial-reads
 use Rattle.cdef_c.proofs.answer.number.Reads as number-reads
 
 trial-requires : tie.Need-trial-requires

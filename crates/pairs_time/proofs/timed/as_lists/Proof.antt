@@ -9,7 +9,7 @@ use Rattle.pairs_time.proofs.timed.as_lists.Statement.{statement}
 use Rattle.pairs_time.proofs.timed.as_lists.Tie as tie
 use Rattle.pairs_time.proofs.timed.as_lists.Reads as reads
 use Rattle.pairs_time.proofs.timed.as_lists.Lts as lts
-use Rattle.cdef.proofs.applying_lists.apply_luma.Reads as apply-luma-reads
+use Rattle.cdef_lists.proofs.apply_luma.Reads as apply-luma-reads
 use Rattle.pairs_time.proofs.timed.done.Reads as done-reads
 
 abbrev Inv-loop : tie.InvT-loop

@@ -3,7 +3,7 @@ use borrow.Author.Needs.{needs}
 use Rattle.still_steps.specs.DampingLaws.{index-given, index-rejected}
 use Rattle.still_steps.proofs.damping.of_index.Statement.{statement}
 use Rattle.still_steps.proofs.damping.of_index.Tie as tie
-use Rattle.cdef.proofs.numbers.damping.Reads as damping-reads
+use Rattle.cdef_blocks.proofs.numbers.damping.Reads as damping-reads
 
 damping-requires : tie.Need-damping-requires
 damping-requires c κs = search needs

@@ -6,7 +6,7 @@ use Rattle.still_steps.proofs.steps.apply.Statement.{statement}
 use Rattle.still_steps.proofs.steps.apply.Tie as tie
 use Rattle.still_steps.proofs.steps.apply.Reads as reads
 use Rattle.still_steps.proofs.steps.apply.Lts as lts
-use Rattle.cdef.proofs.applying_lists.apply_luma.Reads as apply-luma-reads
+use Rattle.cdef_lists.proofs.apply_luma.Reads as apply-luma-reads
 use Rattle.agree_parts.proofs.copy.Reads as copy-reads
 use Rattle.still_steps.proofs.space.unit_strengths.Reads as unit-strengths-reads
 use Rattle.still_steps.proofs.steps.measure.Reads as measure-reads

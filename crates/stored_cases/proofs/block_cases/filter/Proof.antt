@@ -6,7 +6,7 @@ use Rattle.stored_cases.proofs.block_cases.filter.Statement.{statement}
 use Rattle.stored_cases.proofs.block_cases.filter.Tie as tie
 use Rattle.stored_cases.proofs.block_cases.filter.Reads as reads
 use Rattle.stored_cases.proofs.block_cases.filter.Lts as lts
-use Rattle.cdef.proofs.filter.filter_block.Reads as filter-block-reads
+use Rattle.cdef_blocks.proofs.filter.filter_block.Reads as filter-block-reads
 use Rattle.stored_cases.proofs.block_parts.block_of.Reads as block-of-reads
 use Rattle.stored_cases.proofs.block_cases.params_of.Reads as params-of-reads
 

@@ -7,7 +7,7 @@ use Rattle.stored_cases.proofs.block_cases.found.Tie as tie
 use Rattle.stored_cases.proofs.block_cases.found.Reads as reads
 use Rattle.stored_cases.proofs.block_cases.found.Lts as lts
 use Rattle.case_text.proofs.as_u8.Reads as as-u8-reads
-use Rattle.cdef.proofs.direction.direction.Reads as direction-reads
+use Rattle.cdef_blocks.proofs.direction.direction.Reads as direction-reads
 
 slice-aggregate-direction : tie.Need-slice-aggregate-direction
 slice-aggregate-direction c = sym (length-take-le (c .before .before .before .args .count) (c .before .before .before .args .plane .now) (c .before .before .before .pre))

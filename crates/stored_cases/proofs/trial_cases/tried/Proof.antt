@@ -7,7 +7,7 @@ use Rattle.stored_cases.proofs.trial_cases.tried.Tie as tie
 use Rattle.stored_cases.proofs.trial_cases.tried.Reads as reads
 use Rattle.stored_cases.proofs.trial_cases.tried.Lts as lts
 use Rattle.case_text.proofs.as_u8.Reads as as-u8-reads
-use Rattle.cdef.proofs.trial.trial.Reads as trial-reads
+use Rattle.cdef_blocks.proofs.trial.trial.Reads as trial-reads
 use Rattle.stored_cases.proofs.block_parts.block_of.Reads as block-of-reads
 use Rattle.stored_cases.proofs.trial_cases.way_of.Reads as way-of-reads
 

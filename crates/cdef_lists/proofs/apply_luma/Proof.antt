@@ -1,0 +1,31 @@
+-- `cdef::apply_luma` meets its contract.
+use mathlib.Core.Path.{ap, _∙_}
+use Prim.Native.Nat.{ℕ}
+use native.Mathlib.Omega.{arith}
+use borrow.Author.Needs.{needs}
+use Rattle.cdef_spec.specs.Answers.{nothing, resultOf}
+use Rattle.cdef_spec.specs.FrameCalls.{applyingListsOutcome}
+use Rattle.cdef_frame.specs.Frame.{kindOf, pictureOf}
+use borrow.Author.Needs.{needs}
+use Rattle.cdef_lists.proofs.apply_luma.Statement.{statement}
+use Rattle.cdef_lists.proofs.apply_luma.Tie as tie
+use Rattle.cdef_lists.proofs.apply_luma.Reads as reads
+use Rattle.cdef_lists.proofs.apply_luma.Lts as lts
+use Rattle.cdef_answer.proofs.answer_of.Reads as answer-of-reads
+use Rattle.cdef_frame_calls.proofs.apply_frame.Reads as apply-frame-reads
+
+apply-frame-requires : tie.Need-apply-frame-requires
+apply-frame-requires c κs = search needs
+
+answer-of-requires : tie.Need-answer-of-requires
+answer-of-requires c κs = search needs
+
+same-length : tie.Need-same-length
+same-length c = search needs
+
+returns : tie.Need-returns
+unfolding applyingListsOutcome pictureOf kindOf
+returns c = (c .answer-of .ensures ∙ ap (λ (n : ℕ). resultOf n nothing) (c .before .before .before .apply-frame .ensures .0), c .before .before .before .apply-frame .ensures .1)
+
+pub apply-luma-spec : {M : Type 1} → statement M
+apply-luma-spec = tie.close (tie.spec apply-frame-requires answer-of-requires same-length returns)

@@ -25,9 +25,7 @@ pub fn measure_luma(
     pair: UnitPair,
     damping: DampingChoice,
 ) -> Answer
-    ensures { λ r. ⌜ readAnswer r ≡ (measuringOutcome (lumaPicture depth width height (now (skip .entry)) (now (dirs .entry)) (now (vars .entry))) damping visible (now (plane .entry)) (now (original .entry)) pair (now (totals .entry)) (now (scratch .entry))) .answer ⌝ }
-    ensures { λ _. ⌜ now (totals .exit) ≡ (measuringOutcome (lumaPicture depth width height (now (skip .entry)) (now (dirs .entry)) (now (vars .entry))) damping visible (now (plane .entry)) (now (original .entry)) pair (now (totals .entry)) (now (scratch .entry))) .totals ⌝ }
-    ensures { λ _. ⌜ now (scratch .exit) ≡ (measuringOutcome (lumaPicture depth width height (now (skip .entry)) (now (dirs .entry)) (now (vars .entry))) damping visible (now (plane .entry)) (now (original .entry)) pair (now (totals .entry)) (now (scratch .entry))) .scratch ⌝ }
+    ensures { λ r. ⌜ measuringOutcome (lumaPicture depth width height (now (skip .entry)) (now (dirs .entry)) (now (vars .entry))) damping visible (now (plane .entry)) (now (original .entry)) pair (now (totals .entry)) (now (scratch .entry)) ≡ record { answer = readAnswer r; totals = now (totals .exit); scratch = now (scratch .exit) } ⌝ }
 {
     let f = Frame {
         luma: true,
@@ -70,9 +68,7 @@ pub fn measure_chroma(
     pair: UnitPair,
     damping: DampingChoice,
 ) -> Answer
-    ensures { λ r. ⌜ readAnswer r ≡ (measuringOutcome (chromaPicture depth width height sx sy (now (skip .entry)) (now (dirs .entry))) damping visible (now (plane .entry)) (now (original .entry)) pair (now (totals .entry)) (now (scratch .entry))) .answer ⌝ }
-    ensures { λ _. ⌜ now (totals .exit) ≡ (measuringOutcome (chromaPicture depth width height sx sy (now (skip .entry)) (now (dirs .entry))) damping visible (now (plane .entry)) (now (original .entry)) pair (now (totals .entry)) (now (scratch .entry))) .totals ⌝ }
-    ensures { λ _. ⌜ now (scratch .exit) ≡ (measuringOutcome (chromaPicture depth width height sx sy (now (skip .entry)) (now (dirs .entry))) damping visible (now (plane .entry)) (now (original .entry)) pair (now (totals .entry)) (now (scratch .entry))) .scratch ⌝ }
+    ensures { λ r. ⌜ measuringOutcome (chromaPicture depth width height sx sy (now (skip .entry)) (now (dirs .entry))) damping visible (now (plane .entry)) (now (original .entry)) pair (now (totals .entry)) (now (scratch .entry)) ≡ record { answer = readAnswer r; totals = now (totals .exit); scratch = now (scratch .exit) } ⌝ }
 {
     let f = Frame {
         luma: false,

@@ -20,8 +20,7 @@ pub fn trial(
     damping: WorkingDamping,
     depth: u8,
 ) -> Answer
-    ensures { λ r. ⌜ readAnswer r ≡ (trialOutcome (record { samples = now (plane .entry); width = width; height = height }) block way dir damping depth (now (out .entry))) .answer ⌝ }
-    ensures { λ _. ⌜ now (out .exit) ≡ (trialOutcome (record { samples = now (plane .entry); width = width; height = height }) block way dir damping depth (now (out .entry))) .out ⌝ }
+    ensures { λ r. ⌜ trialOutcome (record { samples = now (plane .entry); width = width; height = height }) block way dir damping depth (now (out .entry)) ≡ record { answer = readAnswer r; out = now (out .exit) } ⌝ }
 {
     let no = check_block::trial::trial_no(out, plane, width, height, block, way, dir, damping, depth);
     if no != 0 {

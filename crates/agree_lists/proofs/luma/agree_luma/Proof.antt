@@ -1,6 +1,7 @@
 -- `cdef_agree::agree_luma` meets its contract.
 use mathlib.Core.Path.{ap, _∙_}
 use Prim.Native.Nat.{ℕ}
+use Rattle.cdef_answer.specs.JoinLaws.{applying-parts, measuring-parts, trying-parts}
 use borrow.Author.Needs.{needs}
 use mathlib.Core.List.{List}
 use Rattle.cdef_spec.specs.Picture.{lumaPicture}
@@ -28,7 +29,7 @@ same-length : tie.Need-same-length
 same-length c = search needs
 
 returns : tie.Need-returns
-returns c = let a = c .before .before .before .before .before .before .before .before .before .before .before .before .before .before .args in trying-stops (lumaPicture (a .depth) (a .width) (a .height) (a .skip .now) (a .dirs .now) (a .vars .now)) (a .damping) (a .visible) (a .snapshot .now) (a .original .now) (a .pris .now) (a .secs .now) (a .tried .now) (a .dst .now) (a .measured .now) (a .scratch .now) _ _ _ (c .before .before .before .try-luma .ensures .0) (c .before .number .ensures) (c .before .before .before .try-luma .ensures .1) (c .if1 .taken)
+returns c = let a = c .before .before .before .before .before .before .before .before .before .before .before .before .before .before .args in trying-stops (lumaPicture (a .depth) (a .width) (a .height) (a .skip .now) (a .dirs .now) (a .vars .now)) (a .damping) (a .visible) (a .snapshot .now) (a .original .now) (a .pris .now) (a .secs .now) (a .tried .now) (a .dst .now) (a .measured .now) (a .scratch .now) _ _ _ (trying-parts _ _ _ (c .before .before .before .try-luma .ensures) .0) (c .before .number .ensures) (trying-parts _ _ _ (c .before .before .before .try-luma .ensures) .1) (c .if1 .taken)
 
 trial-pairs-requires : tie.Need-trial-pairs-requires
 trial-pairs-requires c κs = search needs
@@ -37,7 +38,7 @@ same-length-2 : tie.Need-same-length-2
 same-length-2 c = search needs
 
 returns-2 : tie.Need-returns-2
-returns-2 c = let a = c .before .before .before .before .before .before .before .before .before .before .before .before .before .before .before .before .args in pairs-stop (lumaPicture (a .depth) (a .width) (a .height) (a .skip .now) (a .dirs .now) (a .vars .now)) (a .damping) (a .visible) (a .snapshot .now) (a .original .now) (a .pris .now) (a .secs .now) (a .tried .now) (a .dst .now) (a .measured .now) (a .scratch .now) _ _ _ (c .before .before .before .before .before .try-luma .ensures .0) (c .before .before .before .number .ensures) (c .before .before .before .before .before .try-luma .ensures .1) (c .before .before .if1 .left) (no-so (c .before .trial-pairs .ensures) (c .if2 .taken))
+returns-2 c = let a = c .before .before .before .before .before .before .before .before .before .before .before .before .before .before .before .before .args in pairs-stop (lumaPicture (a .depth) (a .width) (a .height) (a .skip .now) (a .dirs .now) (a .vars .now)) (a .damping) (a .visible) (a .snapshot .now) (a .original .now) (a .pris .now) (a .secs .now) (a .tried .now) (a .dst .now) (a .measured .now) (a .scratch .now) _ _ _ (trying-parts _ _ _ (c .before .before .before .before .before .try-luma .ensures) .0) (c .before .before .before .number .ensures) (trying-parts _ _ _ (c .before .before .before .before .before .try-luma .ensures) .1) (c .before .before .if1 .left) (no-so (c .before .trial-pairs .ensures) (c .if2 .taken))
 
 copy-requires : tie.Need-copy-requires
 copy-requires c κs = search needs
@@ -55,7 +56,7 @@ same-length-4 : tie.Need-same-length-4
 same-length-4 c = search needs
 
 returns-3 : tie.Need-returns-3
-returns-3 c = let a = c .before .before .before .before .before .before .before .before .before .before .before .before .before .before .before .before .before .before .before .before .before .before .before .before .before .before .args in applying-stops (lumaPicture (a .depth) (a .width) (a .height) (a .skip .now) (a .dirs .now) (a .vars .now)) (a .damping) (a .visible) (a .snapshot .now) (a .original .now) (a .pris .now) (a .secs .now) (a .tried .now) (a .dst .now) (a .measured .now) (a .scratch .now) _ _ _ (c .before .before .before .before .before .before .before .before .before .before .before .before .before .before .before .try-luma .ensures .0) (c .before .before .before .before .before .before .before .before .before .before .before .before .before .number .ensures) (c .before .before .before .before .before .before .before .before .before .before .before .before .before .before .before .try-luma .ensures .1) (c .before .before .before .before .before .before .before .before .before .before .before .before .if1 .left) (yes-so (c .before .before .before .before .before .before .before .before .before .before .before .trial-pairs .ensures) (c .before .before .before .before .before .before .before .before .before .before .if2 .left)) _ _ _ (c .before .before .before .before .apply-luma .ensures .0 ∙ ap (λ (x : List ℕ). (applyingListsOutcome (lumaPicture (a .depth) (a .width) (a .height) (a .skip .now) (a .dirs .now) (a .vars .now)) (a .damping) (a .snapshot .now) (a .pris .now) (a .secs .now) x) .answer) (c .before .before .before .before .before .before .before .before .copy .ensures)) (c .before .number2 .ensures) (c .before .before .before .before .apply-luma .ensures .1 ∙ ap (λ (x : List ℕ). (applyingListsOutcome (lumaPicture (a .depth) (a .width) (a .height) (a .skip .now) (a .dirs .now) (a .vars .now)) (a .damping) (a .snapshot .now) (a .pris .now) (a .secs .now) x) .plane) (c .before .before .before .before .before .before .before .before .copy .ensures)) (c .if3 .taken)
+returns-3 c = let a = c .before .before .before .before .before .before .before .before .before .before .before .before .before .before .before .before .before .before .before .before .before .before .before .before .before .before .args in applying-stops (lumaPicture (a .depth) (a .width) (a .height) (a .skip .now) (a .dirs .now) (a .vars .now)) (a .damping) (a .visible) (a .snapshot .now) (a .original .now) (a .pris .now) (a .secs .now) (a .tried .now) (a .dst .now) (a .measured .now) (a .scratch .now) _ _ _ (trying-parts _ _ _ (c .before .before .before .before .before .before .before .before .before .before .before .before .before .before .before .try-luma .ensures) .0) (c .before .before .before .before .before .before .before .before .before .before .before .before .before .number .ensures) (trying-parts _ _ _ (c .before .before .before .before .before .before .before .before .before .before .before .before .before .before .before .try-luma .ensures) .1) (c .before .before .before .before .before .before .before .before .before .before .before .before .if1 .left) (yes-so (c .before .before .before .before .before .before .before .before .before .before .before .trial-pairs .ensures) (c .before .before .before .before .before .before .before .before .before .before .if2 .left)) _ _ _ (applying-parts _ _ _ (c .before .before .before .before .apply-luma .ensures) .0 ∙ ap (λ (x : List ℕ). (applyingListsOutcome (lumaPicture (a .depth) (a .width) (a .height) (a .skip .now) (a .dirs .now) (a .vars .now)) (a .damping) (a .snapshot .now) (a .pris .now) (a .secs .now) x) .answer) (c .before .before .before .before .before .before .before .before .copy .ensures)) (c .before .number2 .ensures) (applying-parts _ _ _ (c .before .before .before .before .apply-luma .ensures) .1 ∙ ap (λ (x : List ℕ). (applyingListsOutcome (lumaPicture (a .depth) (a .width) (a .height) (a .skip .now) (a .dirs .now) (a .vars .now)) (a .damping) (a .snapshot .now) (a .pris .now) (a .secs .now) x) .plane) (c .before .before .before .before .before .before .before .before .copy .ensures)) (c .if3 .taken)
 
 measure-luma-requires : tie.Need-measure-luma-requires
 measure-luma-requires c κs = search needs
@@ -76,7 +77,7 @@ same-length-8 : tie.Need-same-length-8
 same-length-8 c = search needs
 
 returns-4 : tie.Need-returns-4
-returns-4 c = let a = c .before .before .before .before .before .before .before .before .before .before .before .before .before .before .before .before .before .before .before .before .before .before .before .before .before .before .before .before .before .before .before .before .before .before .before .args in measuring-stops (lumaPicture (a .depth) (a .width) (a .height) (a .skip .now) (a .dirs .now) (a .vars .now)) (a .damping) (a .visible) (a .snapshot .now) (a .original .now) (a .pris .now) (a .secs .now) (a .tried .now) (a .dst .now) (a .measured .now) (a .scratch .now) _ _ _ (c .before .before .before .before .before .before .before .before .before .before .before .before .before .before .before .before .before .before .before .before .before .before .before .before .try-luma .ensures .0) (c .before .before .before .before .before .before .before .before .before .before .before .before .before .before .before .before .before .before .before .before .before .before .number .ensures) (c .before .before .before .before .before .before .before .before .before .before .before .before .before .before .before .before .before .before .before .before .before .before .before .before .try-luma .ensures .1) (c .before .before .before .before .before .before .before .before .before .before .before .before .before .before .before .before .before .before .before .before .before .if1 .left) (yes-so (c .before .before .before .before .before .before .before .before .before .before .before .before .before .before .before .before .before .before .before .before .trial-pairs .ensures) (c .before .before .before .before .before .before .before .before .before .before .before .before .before .before .before .before .before .before .before .if2 .left)) _ _ _ (c .before .before .before .before .before .before .before .before .before .before .before .before .before .apply-luma .ensures .0 ∙ ap (λ (x : List ℕ). (applyingListsOutcome (lumaPicture (a .depth) (a .width) (a .height) (a .skip .now) (a .dirs .now) (a .vars .now)) (a .damping) (a .snapshot .now) (a .pris .now) (a .secs .now) x) .answer) (c .before .before .before .before .before .before .before .before .before .before .before .before .before .before .before .before .before .copy .ensures)) (c .before .before .before .before .before .before .before .before .before .before .number2 .ensures) (c .before .before .before .before .before .before .before .before .before .before .before .before .before .apply-luma .ensures .1 ∙ ap (λ (x : List ℕ). (applyingListsOutcome (lumaPicture (a .depth) (a .width) (a .height) (a .skip .now) (a .dirs .now) (a .vars .now)) (a .damping) (a .snapshot .now) (a .pris .now) (a .secs .now) x) .plane) (c .before .before .before .before .before .before .before .before .before .before .before .before .before .before .before .before .before .copy .ensures)) (c .before .before .before .before .before .before .before .before .before .if3 .left) _ _ _ _ (c .before .before .before .before .before .measure-luma .ensures .0) (c .before .number3 .ensures) (c .before .before .before .before .before .measure-luma .ensures .1 .0) (c .before .before .before .before .before .measure-luma .ensures .1 .1) (c .if4 .taken)
+returns-4 c = let a = c .before .before .before .before .before .before .before .before .before .before .before .before .before .before .before .before .before .before .before .before .before .before .before .before .before .before .before .before .before .before .before .before .before .before .before .args in measuring-stops (lumaPicture (a .depth) (a .width) (a .height) (a .skip .now) (a .dirs .now) (a .vars .now)) (a .damping) (a .visible) (a .snapshot .now) (a .original .now) (a .pris .now) (a .secs .now) (a .tried .now) (a .dst .now) (a .measured .now) (a .scratch .now) _ _ _ (trying-parts _ _ _ (c .before .before .before .before .before .before .before .before .before .before .before .before .before .before .before .before .before .before .before .before .before .before .before .before .try-luma .ensures) .0) (c .before .before .before .before .before .before .before .before .before .before .before .before .before .before .before .before .before .before .before .before .before .before .number .ensures) (trying-parts _ _ _ (c .before .before .before .before .before .before .before .before .before .before .before .before .before .before .before .before .before .before .before .before .before .before .before .before .try-luma .ensures) .1) (c .before .before .before .before .before .before .before .before .before .before .before .before .before .before .before .before .before .before .before .before .before .if1 .left) (yes-so (c .before .before .before .before .before .before .before .before .before .before .before .before .before .before .before .before .before .before .before .before .trial-pairs .ensures) (c .before .before .before .before .before .before .before .before .before .before .before .before .before .before .before .before .before .before .before .if2 .left)) _ _ _ (applying-parts _ _ _ (c .before .before .before .before .before .before .before .before .before .before .before .before .before .apply-luma .ensures) .0 ∙ ap (λ (x : List ℕ). (applyingListsOutcome (lumaPicture (a .depth) (a .width) (a .height) (a .skip .now) (a .dirs .now) (a .vars .now)) (a .damping) (a .snapshot .now) (a .pris .now) (a .secs .now) x) .answer) (c .before .before .before .before .before .before .before .before .before .before .before .before .before .before .before .before .before .copy .ensures)) (c .before .before .before .before .before .before .before .before .before .before .number2 .ensures) (applying-parts _ _ _ (c .before .before .before .before .before .before .before .before .before .before .before .before .before .apply-luma .ensures) .1 ∙ ap (λ (x : List ℕ). (applyingListsOutcome (lumaPicture (a .depth) (a .width) (a .height) (a .skip .now) (a .dirs .now) (a .vars .now)) (a .damping) (a .snapshot .now) (a .pris .now) (a .secs .now) x) .plane) (c .before .before .before .before .before .before .before .before .before .before .before .before .before .before .before .before .before .copy .ensures)) (c .before .before .before .before .before .before .before .before .before .if3 .left) _ _ _ _ (measuring-parts _ _ _ _ (c .before .before .before .before .before .measure-luma .ensures) .0) (c .before .number3 .ensures) (measuring-parts _ _ _ _ (c .before .before .before .before .before .measure-luma .ensures) .1 .0) (measuring-parts _ _ _ _ (c .before .before .before .before .before .measure-luma .ensures) .1 .1) (c .if4 .taken)
 
 same-length-9 : tie.Need-same-length-9
 same-length-9 c = c .before .before .before .before .before .before .before .before .before .before .before .before .before .before .before .before .before .before .before .before .before .before .before .before .try-luma .kept .0
@@ -91,7 +92,7 @@ same-length-12 : tie.Need-same-length-12
 same-length-12 c = search needs
 
 returns-5 : tie.Need-returns-5
-returns-5 c = let a = c .before .before .before .before .before .before .before .before .before .before .before .before .before .before .before .before .before .before .before .before .before .before .before .before .before .before .before .before .before .before .before .before .before .before .before .args in all-agree (lumaPicture (a .depth) (a .width) (a .height) (a .skip .now) (a .dirs .now) (a .vars .now)) (a .damping) (a .visible) (a .snapshot .now) (a .original .now) (a .pris .now) (a .secs .now) (a .tried .now) (a .dst .now) (a .measured .now) (a .scratch .now) _ _ _ (c .before .before .before .before .before .before .before .before .before .before .before .before .before .before .before .before .before .before .before .before .before .before .before .before .try-luma .ensures .0) (c .before .before .before .before .before .before .before .before .before .before .before .before .before .before .before .before .before .before .before .before .before .before .number .ensures) (c .before .before .before .before .before .before .before .before .before .before .before .before .before .before .before .before .before .before .before .before .before .before .before .before .try-luma .ensures .1) (c .before .before .before .before .before .before .before .before .before .before .before .before .before .before .before .before .before .before .before .before .before .if1 .left) (yes-so (c .before .before .before .before .before .before .before .before .before .before .before .before .before .before .before .before .before .before .before .before .trial-pairs .ensures) (c .before .before .before .before .before .before .before .before .before .before .before .before .before .before .before .before .before .before .before .if2 .left)) _ _ _ (c .before .before .before .before .before .before .before .before .before .before .before .before .before .apply-luma .ensures .0 ∙ ap (λ (x : List ℕ). (applyingListsOutcome (lumaPicture (a .depth) (a .width) (a .height) (a .skip .now) (a .dirs .now) (a .vars .now)) (a .damping) (a .snapshot .now) (a .pris .now) (a .secs .now) x) .answer) (c .before .before .before .before .before .before .before .before .before .before .before .before .before .before .before .before .before .copy .ensures)) (c .before .before .before .before .before .before .before .before .before .before .number2 .ensures) (c .before .before .before .before .before .before .before .before .before .before .before .before .before .apply-luma .ensures .1 ∙ ap (λ (x : List ℕ). (applyingListsOutcome (lumaPicture (a .depth) (a .width) (a .height) (a .skip .now) (a .dirs .now) (a .vars .now)) (a .damping) (a .snapshot .now) (a .pris .now) (a .secs .now) x) .plane) (c .before .before .before .before .before .before .before .before .before .before .before .before .before .before .before .before .before .copy .ensures)) (c .before .before .before .before .before .before .before .before .before .if3 .left) _ _ _ _ (c .before .before .before .before .before .measure-luma .ensures .0) (c .before .number3 .ensures) (c .before .before .before .before .before .measure-luma .ensures .1 .0) (c .before .before .before .before .before .measure-luma .ensures .1 .1) (c .if4 .left)
+returns-5 c = let a = c .before .before .before .before .before .before .before .before .before .before .before .before .before .before .before .before .before .before .before .before .before .before .before .before .before .before .before .before .before .before .before .before .before .before .before .args in all-agree (lumaPicture (a .depth) (a .width) (a .height) (a .skip .now) (a .dirs .now) (a .vars .now)) (a .damping) (a .visible) (a .snapshot .now) (a .original .now) (a .pris .now) (a .secs .now) (a .tried .now) (a .dst .now) (a .measured .now) (a .scratch .now) _ _ _ (trying-parts _ _ _ (c .before .before .before .before .before .before .before .before .before .before .before .before .before .before .before .before .before .before .before .before .before .before .before .before .try-luma .ensures) .0) (c .before .before .before .before .before .before .before .before .before .before .before .before .before .before .before .before .before .before .before .before .before .before .number .ensures) (trying-parts _ _ _ (c .before .before .before .before .before .before .before .before .before .before .before .before .before .before .before .before .before .before .before .before .before .before .before .before .try-luma .ensures) .1) (c .before .before .before .before .before .before .before .before .before .before .before .before .before .before .before .before .before .before .before .before .before .if1 .left) (yes-so (c .before .before .before .before .before .before .before .before .before .before .before .before .before .before .before .before .before .before .before .before .trial-pairs .ensures) (c .before .before .before .before .before .before .before .before .before .before .before .before .before .before .before .before .before .before .before .if2 .left)) _ _ _ (applying-parts _ _ _ (c .before .before .before .before .before .before .before .before .before .before .before .before .before .apply-luma .ensures) .0 ∙ ap (λ (x : List ℕ). (applyingListsOutcome (lumaPicture (a .depth) (a .width) (a .height) (a .skip .now) (a .dirs .now) (a .vars .now)) (a .damping) (a .snapshot .now) (a .pris .now) (a .secs .now) x) .answer) (c .before .before .before .before .before .before .before .before .before .before .before .before .before .before .before .before .before .copy .ensures)) (c .before .before .before .before .before .before .before .before .before .before .number2 .ensures) (applying-parts _ _ _ (c .before .before .before .before .before .before .before .before .before .before .before .before .before .apply-luma .ensures) .1 ∙ ap (λ (x : List ℕ). (applyingListsOutcome (lumaPicture (a .depth) (a .width) (a .height) (a .skip .now) (a .dirs .now) (a .vars .now)) (a .damping) (a .snapshot .now) (a .pris .now) (a .secs .now) x) .plane) (c .before .before .before .before .before .before .before .before .before .before .before .before .before .before .before .before .before .copy .ensures)) (c .before .before .before .before .before .before .before .before .before .if3 .left) _ _ _ _ (measuring-parts _ _ _ _ (c .before .before .before .before .before .measure-luma .ensures) .0) (c .before .number3 .ensures) (measuring-parts _ _ _ _ (c .before .before .before .before .before .measure-luma .ensures) .1 .0) (measuring-parts _ _ _ _ (c .before .before .before .before .before .measure-luma .ensures) .1 .1) (c .if4 .left)
 
 pub agree-luma-spec : {M : Type 1} → statement M
 agree-luma-spec =

@@ -2,6 +2,7 @@
 use mathlib.Core.Path.{ap, _∙_}
 use Prim.Native.Nat.{ℕ}
 use native.Mathlib.Omega.{arith}
+use Rattle.cdef_answer.specs.JoinLaws.{measuring-joined}
 use borrow.Author.Needs.{needs}
 use Rattle.cdef_spec.specs.Answers.{nothing, resultOf}
 use Rattle.cdef_spec.specs.FrameCalls.{measuringOutcome}
@@ -32,7 +33,7 @@ same-length-2 c = search needs
 
 returns : tie.Need-returns
 unfolding measuringOutcome pictureOf kindOf
-returns c = (c .answer-of .ensures ∙ ap (λ (n : ℕ). resultOf n nothing) (c .before .before .before .before .measure-frame .ensures .0), c .before .before .before .before .measure-frame .ensures .1)
+returns c = measuring-joined _ _ _ _ ((c .answer-of .ensures ∙ ap (λ (n : ℕ). resultOf n nothing) (c .before .before .before .before .measure-frame .ensures .0), c .before .before .before .before .measure-frame .ensures .1))
 
 pub measure-chroma-spec : {M : Type 1} → statement M
 measure-chroma-spec =

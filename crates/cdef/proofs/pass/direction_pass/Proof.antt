@@ -1,6 +1,7 @@
 -- `cdef::direction_pass` meets its contract.
 use mathlib.Core.Path.{_≡_, sym, _∙_}
 use native.Mathlib.Omega.{arith}
+use Rattle.cdef_answer.specs.JoinLaws.{pass-joined}
 use borrow.Author.Needs.{needs}
 use Rattle.cdef_spec.specs.Answers.{readAnswer}
 use Rattle.cdef_spec.specs.Document01.{Plane}
@@ -36,7 +37,7 @@ same-length-2 c = search needs
 
 returns : tie.Need-returns
 unfolding readAnswer
-returns c = let s = c .before .before .before .before .before .before .before in pass-refused (planeOf s) (s .args .depth) (s .args .dirs .now) (s .args .vars .now) _ (c .before .direction-pass-no .ensures) (c .if1 .taken)
+returns c = let s = c .before .before .before .before .before .before .before in pass-joined _ _ _ _ (pass-refused (planeOf s) (s .args .depth) (s .args .dirs .now) (s .args .vars .now) _ (c .before .direction-pass-no .ensures) (c .if1 .taken))
 
 direction-pass-requires : tie.Need-direction-pass-requires
 direction-pass-requires c κs = let g = facts (c .before .before) in ((g .full-is, g .dirs-long, g .vars-long), ((g .w-low, g .wide, g .w-whole, g .h-low, g .high, g .h-whole, g .deep, g .flat), g .low))
@@ -49,7 +50,7 @@ same-length-4 c = search needs
 
 returns-2 : tie.Need-returns-2
 unfolding readAnswer
-returns-2 c = let s = c .before .before .before .before .before .before .before .before .before .before .before .before .before .before in pass-done (planeOf s) (s .args .depth) (s .args .dirs .now) (s .args .vars .now) (taken (c .before .before .before .before .before .before .before)) _ _ (c .before .before .before .before .direction-pass .ensures .0) (c .before .before .before .before .direction-pass .ensures .1)
+returns-2 c = let s = c .before .before .before .before .before .before .before .before .before .before .before .before .before .before in pass-joined _ _ _ _ (pass-done (planeOf s) (s .args .depth) (s .args .dirs .now) (s .args .vars .now) (taken (c .before .before .before .before .before .before .before)) _ _ (c .before .before .before .before .direction-pass .ensures .0) (c .before .before .before .before .direction-pass .ensures .1))
 
 pub direction-pass-spec : {M : Type 1} → statement M
 direction-pass-spec =

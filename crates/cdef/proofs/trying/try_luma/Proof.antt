@@ -2,6 +2,7 @@
 use mathlib.Core.Path.{ap, _∙_}
 use Prim.Native.Nat.{ℕ}
 use native.Mathlib.Omega.{arith}
+use Rattle.cdef_answer.specs.JoinLaws.{trying-joined}
 use borrow.Author.Needs.{needs}
 use Rattle.cdef_spec.specs.Answers.{nothing, resultOf}
 use Rattle.cdef_spec.specs.FrameCalls.{tryingOutcome}
@@ -25,7 +26,7 @@ same-length c = search needs
 
 returns : tie.Need-returns
 unfolding tryingOutcome pictureOf kindOf
-returns c = (c .answer-of .ensures ∙ ap (λ (n : ℕ). resultOf n nothing) (c .before .before .try-frame .ensures .0), c .before .before .try-frame .ensures .1)
+returns c = trying-joined _ _ _ ((c .answer-of .ensures ∙ ap (λ (n : ℕ). resultOf n nothing) (c .before .before .try-frame .ensures .0), c .before .before .try-frame .ensures .1))
 
 pub try-luma-spec : {M : Type 1} → statement M
 try-luma-spec = tie.close (tie.spec try-frame-requires answer-of-requires same-length returns)

@@ -10,6 +10,7 @@ use Rattle.cdef_filter.specs.StoreLaws.{stored-block}
 use Rattle.check_block.specs.WindowLaws.{in-plane, window-asked, widened-so, held-so}
 use Rattle.check_block.specs.Parts.{filterFirst}
 use Rattle.check_block.specs.PartLaws.{FilterFacts, filter-facts, filter-refused, filter-samples, filter-done}
+use Rattle.cdef_answer.specs.JoinLaws.{filter-joined}
 use borrow.Author.Needs.{needs}
 use Rattle.cdef_blocks.proofs.filter.filter_block.Statement.{statement}
 use Rattle.cdef_blocks.proofs.filter.filter_block.Tie as tie
@@ -42,7 +43,7 @@ same-length c = search needs
 
 returns : tie.Need-returns
 unfolding readAnswer
-returns c = let s = c .before .before .before .before .before in filter-refused (planeOf s) (s .args .block) (s .args .params) (s .args .y0) (s .args .dst .now) _ (c .before .filter-no .ensures) (c .if1 .taken)
+returns c = let s = c .before .before .before .before .before in filter-joined _ _ _ (filter-refused (planeOf s) (s .args .block) (s .args .params) (s .args .y0) (s .args .dst .now) _ (c .before .filter-no .ensures) (c .if1 .taken))
 
 window-requires : tie.Need-window-requires
 window-requires c κs = let s = c .before .before .before .before .before in let f = facts c in in-plane (planeOf s) (s .args .block) (s .args .params .depth) (f .plane) (f .block)
@@ -55,7 +56,7 @@ same-length-2 c = search needs
 
 returns-2 : tie.Need-returns-2
 unfolding readAnswer
-returns-2 c = let s = c .before .before .before .before .before .before .before .before .before in filter-samples (planeOf s) (s .args .block) (s .args .params) (s .args .y0) (s .args .dst .now) (zero-so (c .before .before .before .before)) _ (nine-is (c .before)) (c .if2 .taken)
+returns-2 c = let s = c .before .before .before .before .before .before .before .before .before in filter-joined _ _ _ (filter-samples (planeOf s) (s .args .block) (s .args .params) (s .args .y0) (s .args .dst .now) (zero-so (c .before .before .before .before)) _ (nine-is (c .before)) (c .if2 .taken))
 
 filter-window-requires : tie.Need-filter-window-requires
 filter-window-requires c κs = let s = c .before .before .before .before .before .before .before .before .before .before .before in let f = facts (c .before .before .before .before .before .before) in let b = f .block in ((b .x-in, b .y-in, f .plane .wide, f .plane .high, b .bw, b .bh), ((f .start, f .room), (rw (c .before .before .before .before .before .window .ensures) (held-so (planeOf s) (s .args .block) (s .args .params .depth) (f .plane) (f .block) (taken-so (c .before .before))), f .usable)))
@@ -66,10 +67,10 @@ same-length-3 c = search needs
 returns-3 : tie.Need-returns-3
 unfolding readAnswer
 returns-3 c = let s = c .before .before .before .before .before .before .before .before .before .before .before .before .before .before in let f = facts (c .before .before .before .before .before .before .before .before .before) in let t = taken-so (c .before .before .before .before .before) in
-    filter-done (planeOf s) (s .args .block) (s .args .params) (s .args .y0) (s .args .dst .now) (zero-so (c .before .before .before .before .before .before .before .before .before)) t _
+    filter-joined _ _ _ (filter-done (planeOf s) (s .args .block) (s .args .params) (s .args .y0) (s .args .dst .now) (zero-so (c .before .before .before .before .before .before .before .before .before)) t _
     (c .before .before .filter-window .ensures ∙ rw (c .before .before .before .before .before .before .before .before .window .ensures)
     (stored-block (s .args .dst .now) (s .args .width) (planeOf s) (s .args .block) (s .args .params) (s .args .y0) _ _ (f .start) (f .block .bh) (f .block .bw) (omega arith) (omega arith) (f .usable .dir)
-    (held-so (planeOf s) (s .args .block) (s .args .params .depth) (f .plane) (f .block) t)))
+    (held-so (planeOf s) (s .args .block) (s .args .params .depth) (f .plane) (f .block) t))))
 
 pub filter-block-spec : {M : Type 1} → statement M
 filter-block-spec =

@@ -1,6 +1,7 @@
 -- `cdef_c::quern_direction_pass` meets its contract.
 use mathlib.Core.Path.{ap, _∙_}
 use native.Mathlib.Omega.{arith}
+use Rattle.cdef_answer.specs.JoinLaws.{pass-parts}
 use borrow.Author.Needs.{needs}
 use Rattle.cdef_spec.specs.Answers.{numberOf}
 use borrow.Author.Needs.{needs}
@@ -24,7 +25,7 @@ same-length-2 : tie.Need-same-length-2
 same-length-2 c = search needs
 
 returns : tie.Need-returns
-returns c = (c .number .ensures ∙ ap numberOf (c .before .before .before .before .before .direction-pass .ensures .0), c .before .before .before .before .before .direction-pass .ensures .1)
+returns c = (c .number .ensures ∙ ap numberOf (pass-parts _ _ _ _ (c .before .before .before .before .before .direction-pass .ensures) .0), pass-parts _ _ _ _ (c .before .before .before .before .before .direction-pass .ensures) .1)
 
 pub quern-direction-pass-spec : {M : Type 1} → statement M
 quern-direction-pass-spec =

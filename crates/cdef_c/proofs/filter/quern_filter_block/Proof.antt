@@ -1,6 +1,7 @@
 -- `cdef_c::quern_filter_block` meets its contract.
 use mathlib.Core.Path.{ap, _∙_}
 use Rattle.cdef_spec.specs.Answers.{numberOf}
+use Rattle.cdef_answer.specs.JoinLaws.{filter-parts}
 use borrow.Author.Needs.{needs}
 use Rattle.cdef_c.proofs.filter.quern_filter_block.Statement.{statement}
 use Rattle.cdef_c.proofs.filter.quern_filter_block.Tie as tie
@@ -19,7 +20,7 @@ same-length : tie.Need-same-length
 same-length c = search needs
 
 returns : tie.Need-returns
-returns c = (c .number .ensures ∙ ap numberOf (c .before .before .before .filter-block .ensures .0), c .before .before .before .filter-block .ensures .1)
+returns c = (c .number .ensures ∙ ap numberOf (filter-parts _ _ _ (c .before .before .before .filter-block .ensures) .0), filter-parts _ _ _ (c .before .before .before .filter-block .ensures) .1)
 
 pub quern-filter-block-spec : {M : Type 1} → statement M
 quern-filter-block-spec =

@@ -1,6 +1,7 @@
 -- `cdef_c::quern_measure_chroma` meets its contract.
 use mathlib.Core.Path.{ap, _∙_}
 use native.Mathlib.Omega.{arith}
+use Rattle.cdef_answer.specs.JoinLaws.{measuring-parts}
 use borrow.Author.Needs.{needs}
 use Rattle.cdef_spec.specs.Answers.{numberOf}
 use borrow.Author.Needs.{needs}
@@ -28,7 +29,7 @@ same-length-2 : tie.Need-same-length-2
 same-length-2 c = search needs
 
 returns : tie.Need-returns
-returns c = rw (← (c .before .before .before .before .before .before .before .choice-of .ensures)) (c .number .ensures ∙ ap numberOf (c .before .before .before .before .measure-chroma .ensures .0), c .before .before .before .before .measure-chroma .ensures .1)
+returns c = rw (← (c .before .before .before .before .before .before .before .choice-of .ensures)) (c .number .ensures ∙ ap numberOf (measuring-parts _ _ _ _ (c .before .before .before .before .measure-chroma .ensures) .0), measuring-parts _ _ _ _ (c .before .before .before .before .measure-chroma .ensures) .1)
 
 pub quern-measure-chroma-spec : {M : Type 1} → statement M
 quern-measure-chroma-spec =

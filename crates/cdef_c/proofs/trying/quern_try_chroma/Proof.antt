@@ -1,6 +1,7 @@
 -- `cdef_c::quern_try_chroma` meets its contract.
 use mathlib.Core.Path.{ap, _∙_}
 use native.Mathlib.Omega.{arith}
+use Rattle.cdef_answer.specs.JoinLaws.{trying-parts}
 use borrow.Author.Needs.{needs}
 use Rattle.cdef_spec.specs.Answers.{numberOf}
 use borrow.Author.Needs.{needs}
@@ -25,7 +26,7 @@ same-length : tie.Need-same-length
 same-length c = search needs
 
 returns : tie.Need-returns
-returns c = rw (← (c .before .before .before .before .choice-of .ensures)) (c .number .ensures ∙ ap numberOf (c .before .before .try-chroma .ensures .0), c .before .before .try-chroma .ensures .1)
+returns c = rw (← (c .before .before .before .before .choice-of .ensures)) (c .number .ensures ∙ ap numberOf (trying-parts _ _ _ (c .before .before .try-chroma .ensures) .0), trying-parts _ _ _ (c .before .before .try-chroma .ensures) .1)
 
 pub quern-try-chroma-spec : {M : Type 1} → statement M
 quern-try-chroma-spec =

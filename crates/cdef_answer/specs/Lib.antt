@@ -1,0 +1,2 @@
+-- Outcomes as one equation of records.
+pub mod JoinLaws

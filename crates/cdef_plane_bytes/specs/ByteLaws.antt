@@ -13,7 +13,7 @@ use lib.Signed.{ltZ, shrZ, mag}
 use Rattle.cdef_sample.specs.Sample.{sizeOf, conOf, roundOf, movedOf, overOf, underOf, finishOf}
 use Rattle.cdef_sample.specs.SampleLaws.{con-below, con-above, finish-on, held-nat, moved-neg, moved-pos}
 use Rattle.cdef_rows.specs.Pairs.{weighed}
-use Rattle.cdef_rows.specs.declared.both.Pair.{Pair}
+use Rattle.rows_limits.specs.declared.Pair.{Pair}
 use Rattle.cdef_rows.specs.declared.Strength.{Strength}
 use Rattle.cdef_plane_taps.specs.Plain.{pairPlain, priPlain, secPlain, lowTwo, highTwo, firstOf, lastOf}
 use Rattle.cdef_plane_rows.specs.Rows.{priIn, secIn}

@@ -10,7 +10,7 @@ use lib.IntN.{ℤ, pos, negsuc, negℤ, _+ℤ_, _-ℤ_}
 use lib.Signed.{ltZ, shrZ, mag}
 use Rattle.cdef_sample.specs.Sample.{movedOf, overOf, underOf, finishOf}
 use Rattle.cdef_sample.specs.SampleLaws.{finish-on, held-nat, moved-neg, moved-pos}
-use Rattle.cdef_rows.specs.declared.both.Pair.{Pair}
+use Rattle.rows_limits.specs.declared.Pair.{Pair}
 use Rattle.cdef_plane_taps.specs.Plain.{priPlain, secPlain, lowTwo, highTwo, firstOf, lastOf}
 use Rattle.cdef_plane_rows.specs.Rows.{priIn, secIn}
 use Rattle.cdef_plane_bytes.specs.Byte.{upPri, downPri, upSec, downSec, highFour, lowFour, excessOf, clippedOf, bothOf}

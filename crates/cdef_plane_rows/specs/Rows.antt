@@ -11,7 +11,7 @@ use Rattle.cdef_spec.specs.Document01.{unmarked}
 use Rattle.cdef_spec.specs.LoopForm.{putBlock}
 use Rattle.cdef_rows.specs.Place.{onFrom, backFrom}
 use Rattle.cdef_rows.specs.Pairs.{pairOf}
-use Rattle.cdef_rows.specs.declared.both.Pair.{Pair}
+use Rattle.rows_limits.specs.declared.Pair.{Pair}
 use Rattle.cdef_rows.specs.declared.Taps.{Taps}
 use Rattle.cdef_rows.specs.declared.Strength.{Strength}
 use Rattle.cdef_kernel.specs.Kernel.{kernelAt}

@@ -9,7 +9,7 @@ use Rattle.cdef_sample.specs.Upto.{upto, getD-upto, upto-all-of}
 use Rattle.cdef_rows.specs.Place.{onFrom, backFrom}
 use Rattle.cdef_rows.specs.Pairs.{pairOf}
 use Rattle.cdef_rows.specs.Sums.{InRange}
-use Rattle.cdef_rows.specs.declared.both.Pair.{Pair}
+use Rattle.rows_limits.specs.declared.Pair.{Pair}
 use Rattle.cdef_rows.specs.declared.Strength.{Strength}
 use Rattle.cdef_plane_taps.specs.Plain.{AllLow, Low, Bounded, firstOf}
 use Rattle.cdef_plane_taps.specs.declared.plain.Part.{Part}

@@ -13,7 +13,7 @@ ghost use Rattle.cdef_plane_rows.specs.Rows.{Reached, Reached6, Around, 
 use cdef_plane_taps::plain;
 use cdef_rows::Strength;
 use cdef_rows::Taps;
-use cdef_rows::both::Pair;
+use rows_limits::Pair;
 
 // The tap at an offset from k, and the opposite one.
 fn load(src: &[u16], k: usize, o: usize) -> Pair

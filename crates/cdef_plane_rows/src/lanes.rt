@@ -7,7 +7,7 @@ ghost use Rattle.cdef_plane_rows.specs.Rows.{LowPairs, BoundedAll, pairI
 use cdef_plane_taps::plain;
 use cdef_plane_taps::plain::Part;
 use cdef_rows::Strength;
-use cdef_rows::both::Pair;
+use rows_limits::Pair;
 
 // the primary taps' sums, and the least and the greatest of them and the centre, of sixteen samples
 pub struct Parts {

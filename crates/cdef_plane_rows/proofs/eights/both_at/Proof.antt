@@ -17,7 +17,7 @@ use Rattle.cdef_plane_rows.proofs.eights.load.Reads as load-reads
 use Rattle.cdef_plane_taps.proofs.plain.first.Reads as first-reads
 use Rattle.cdef_plane_taps.proofs.plain.last.Reads as last-reads
 
-low : (s : tie.Start) (p : Rattle.cdef_rows.specs.declared.both.Pair.Pair) (o : Prim.Native.Nat.ℕ) → p ≡ pairOf (s .args .src .now) (s .args .k) o → Low p
+low : (s : tie.Start) (p : Rattle.rows_limits.specs.declared.Pair.Pair) (o : Prim.Native.Nat.ℕ) → p ≡ pairOf (s .args .src .now) (s .args .k) o → Low p
 low s p o e = rw e (pair-low (s .args .src .now) (s .pre .2) (s .args .k) o)
 
 first-is : (c : tie.After-first) → let a = c .before .before .before .before .before .args in c .first .result ≡ firstAt (a .src .now) (a .k) (a .t) (a .f)

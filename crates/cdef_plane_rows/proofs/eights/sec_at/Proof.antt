@@ -20,7 +20,7 @@ use Rattle.cdef_plane_rows.proofs.eights.load.Reads as load-reads
 use Rattle.cdef_plane_taps.proofs.plain.sec_sum.Reads as sec-sum-reads
 use Rattle.cdef_sample.proofs.raised.Reads as raised-reads
 
-low : (s : tie.Start) (p : Rattle.cdef_rows.specs.declared.both.Pair.Pair) (o : Prim.Native.Nat.ℕ) → p ≡ pairOf (s .args .src .now) (s .args .k) o → Low p
+low : (s : tie.Start) (p : Rattle.rows_limits.specs.declared.Pair.Pair) (o : Prim.Native.Nat.ℕ) → p ≡ pairOf (s .args .src .now) (s .args .k) o → Low p
 low s p o e = rw e (pair-low (s .args .src .now) (s .pre .2) (s .args .k) o)
 
 sum : (c : tie.After-sec-sum) → let a = c .before .before .before .before .before .before .before .args in Is (c .sec-sum .result) (secAt (a .src .now) (a .k) (a .t) (a .f)) 7680

@@ -1,7 +1,7 @@
 -- `cdef_plane_rows::lanes::first` meets its contract.
 use mathlib.Core.List.{List}
 use Rattle.cdef_sample.proofs.Sums16.{back}
-use Rattle.cdef_rows.specs.declared.both.Pair.{Pair}
+use Rattle.rows_limits.specs.declared.Pair.{Pair}
 use Rattle.cdef_plane_taps.specs.Plain.{AllLow, Low, Bounded}
 use Rattle.cdef_plane_taps.specs.declared.plain.Part.{Part}
 use Rattle.cdef_plane_rows.specs.RunLaws.{first-each}

@@ -4,7 +4,7 @@ use mir.Syntax.{w16}
 use mir.Val.{toZ, ofZ}
 use mathlib.Core.List.{List}
 use Rattle.cdef_sample.proofs.Sums16.{back}
-use Rattle.cdef_rows.specs.declared.both.Pair.{Pair}
+use Rattle.rows_limits.specs.declared.Pair.{Pair}
 use Rattle.cdef_plane_taps.specs.Plain.{AllLow, Low, Bounded}
 use Rattle.cdef_plane_rows.specs.Rows.{BoundedAll}
 use mathlib.Core.Path.{_≡_, refl, sym, ap, _∙_}

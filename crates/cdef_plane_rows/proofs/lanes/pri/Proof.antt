@@ -4,7 +4,7 @@ use lib.Signed.{mag}
 use Rattle.cdef_sample.specs.SampleLaws.{free-on}
 use Rattle.cdef_sample.proofs.Joins.{Is, back-is}
 use Rattle.cdef_rows.proofs.Bounds.{small-back}
-use Rattle.cdef_rows.specs.declared.both.Pair.{Pair}
+use Rattle.rows_limits.specs.declared.Pair.{Pair}
 use Rattle.cdef_plane_taps.specs.Plain.{AllLow, Low}
 use Rattle.cdef_plane_taps.specs.PlainLaws.{size-pri}
 use Rattle.cdef_plane_rows.specs.LaneLaws.{free-is}

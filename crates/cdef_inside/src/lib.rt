@@ -10,7 +10,6 @@ ghost use Rattle.cdef_inside.specs.Inside.{Sided, Inner, blockFrom, para
 
 mod rows; // rows.rt: rows of eight samples
 
-use cdef_plane_rows::fours;
 use cdef_spec::Block;
 use cdef_spec::FilterParams;
 use cdef_spec::WorkingDamping;
@@ -78,11 +77,11 @@ fn filter_inside(
         );
         return;
     }
-    fours::rows(dst, to, src, w, at, dir, f.s, f.sh, f.w0, g.s, g.sh);
+    plane_fours::rows(dst, to, src, w, at, dir, f.s, f.sh, f.w0, g.s, g.sh);
     if bh == 4 {
         return;
     }
-    fours::rows(
+    plane_fours::rows(
         dst,
         to + 4 * w,
         src,

@@ -1,10 +1,9 @@
 // Sixteen samples from their taps, each list of taps in the samples' order.
 ghost use mathlib.Core.Path.{_≡_};
-ghost use Prim.Native.Nat.{ℕ, _≤_, _<_};
+ghost use Prim.Native.Nat.{_≤_, _<_};
 ghost use lib.ListN.{getD};
 ghost use Rattle.cdef_sample.specs.Upto.{upto};
-ghost use Rattle.cdef_plane_bytes.specs.Byte.{Mask, bothOf};
-use crate::byte;
+ghost use Rattle.plane_byte.specs.Byte.{Mask, bothOf};
 
 // The samples filtered with both strengths.
 pub fn both(
@@ -34,7 +33,7 @@ pub fn both(
 {
     let mut out = [0u8; 16];
     for j in 0..16usize {
-        out[j] = byte::both(
+        out[j] = plane_byte::both(
             a0[j],
             b0[j],
             a1[j],

@@ -4,6 +4,7 @@ ghost use Prim.Native.Nat.{_≤_, _<_};
 ghost use lib.ListN.{getD};
 ghost use Rattle.cdef_sample.specs.Upto.{upto};
 ghost use Rattle.plane_byte.specs.Byte.{Mask, bothOf};
+use crate::byte;
 
 // The samples filtered with both strengths.
 pub fn both(
@@ -33,7 +34,7 @@ pub fn both(
 {
     let mut out = [0u8; 16];
     for j in 0..16usize {
-        out[j] = plane_byte::both(
+        out[j] = byte::both(
             a0[j],
             b0[j],
             a1[j],

@@ -2,7 +2,7 @@
 ghost use mathlib.Core.Path.{_≡_};
 ghost use Prim.Native.Nat.{_+_, _-_, _≤_, _<_, min, max};
 ghost use lib.IntN.{pos, natAbs};
-ghost use Rattle.plane_byte.specs.Byte.{aboveOf, upPair, downPair, Mask, weighPri, weighSec, upPri, downPri, upSec, downSec, highFour, lowFour, excessOf, clippedOf, bothOf};
+ghost use Rattle.plane_byte.specs.Byte.{aboveOf, upPair, downPair, Mask, weighPri, weighSec, upPri, downPri, upSec, downSec, highFour, lowFour, excessOf, clippedOf};
 
 // A number of 0..255 held to 0 and more, and to 255 and less: it stays as it is.
 fn held_low(v: i16) -> i16
@@ -40,7 +40,7 @@ fn least(a: u8, b: u8) -> u8
     if a < b { a } else { b }
 }
 
-fn most(a: u8, b: u8) -> u8
+pub fn most(a: u8, b: u8) -> u8
     ensures { λ r. ⌜ r ≡ max a b ⌝ }
 {
     if a < b { b } else { a }
@@ -89,7 +89,7 @@ fn double(n: u8, f: u8) -> u8
 }
 
 // The primary taps above the centre.
-fn pri_up(a0: u8, b0: u8, a1: u8, b1: u8, c: u8, s: u8, sh: u32, odd: u8) -> u8
+pub fn pri_up(a0: u8, b0: u8, a1: u8, b1: u8, c: u8, s: u8, sh: u32, odd: u8) -> u8
     requires { ⌜ (s ≤ 15) × (sh < 8) × Mask odd ⌝ }
     ensures { λ r. ⌜ (r ≡ upPri a0 b0 a1 b1 c s sh odd) × (r ≤ 180) ⌝ }
 {
@@ -104,7 +104,7 @@ fn two_up(a: u8, b: u8, d: u8, e: u8, c: u8, s: u8, sh: u32) -> u8
     pair_up(a, b, c, s, sh) + pair_up(d, e, c, s, sh)
 }
 
-fn sec_up(
+pub fn sec_up(
     a0: u8,
     b0: u8,
     a1: u8,
@@ -127,7 +127,7 @@ fn sec_up(
 }
 
 // The primary taps below the centre.
-fn pri_down(a0: u8, b0: u8, a1: u8, b1: u8, c: u8, s: u8, sh: u32, odd: u8) -> u8
+pub fn pri_down(a0: u8, b0: u8, a1: u8, b1: u8, c: u8, s: u8, sh: u32, odd: u8) -> u8
     requires { ⌜ (s ≤ 15) × (sh < 8) × Mask odd ⌝ }
     ensures { λ r. ⌜ (r ≡ downPri a0 b0 a1 b1 c s sh odd) × (r ≤ 180) ⌝ }
 {
@@ -146,7 +146,7 @@ fn two_down(a: u8, b: u8, d: u8, e: u8, c: u8, s: u8, sh: u32) -> u8
     pair_down(a, b, c, s, sh) + pair_down(d, e, c, s, sh)
 }
 
-fn sec_down(
+pub fn sec_down(
     a0: u8,
     b0: u8,
     a1: u8,
@@ -169,7 +169,7 @@ fn sec_down(
 }
 
 // The most that any of four taps is above the centre, and below it.
-fn high_four(a0: u8, b0: u8, a1: u8, b1: u8, c: u8) -> u8
+pub fn high_four(a0: u8, b0: u8, a1: u8, b1: u8, c: u8) -> u8
     ensures { λ r. ⌜ (r ≡ highFour a0 b0 a1 b1 c) × (r + c ≤ 255) ⌝ }
 {
     most(
@@ -178,7 +178,7 @@ fn high_four(a0: u8, b0: u8, a1: u8, b1: u8, c: u8) -> u8
     )
 }
 
-fn low_four(a0: u8, b0: u8, a1: u8, b1: u8, c: u8) -> u8
+pub fn low_four(a0: u8, b0: u8, a1: u8, b1: u8, c: u8) -> u8
     ensures { λ r. ⌜ (r ≡ lowFour a0 b0 a1 b1 c) × (r ≤ c) ⌝ }
 {
     most(
@@ -196,48 +196,9 @@ fn left(a: u8, b: u8) -> u8
 }
 
 // The sample from its sums, clipped.
-fn clipped(c: u8, up: u8, down: u8, high: u8, low: u8) -> u8
+pub fn clipped(c: u8, up: u8, down: u8, high: u8, low: u8) -> u8
     requires { ⌜ (up ≤ 228) × (down ≤ 228) × (high + c ≤ 255) × (low ≤ c) ⌝ }
     ensures { λ r. ⌜ r ≡ clippedOf c up down high low ⌝ }
 {
     c + least(left(up, down), high) - least(left(down, up), low)
-}
-
-// The sample filtered with both strengths.
-pub fn both(
-    a0: u8,
-    b0: u8,
-    a1: u8,
-    b1: u8,
-    a2: u8,
-    b2: u8,
-    a3: u8,
-    b3: u8,
-    a4: u8,
-    b4: u8,
-    a5: u8,
-    b5: u8,
-    c: u8,
-    s: u8,
-    sh: u32,
-    odd: u8,
-    s2: u8,
-    sh2: u32,
-) -> u8
-    requires { ⌜ (s ≤ 15) × (sh < 8) × Mask odd × (s2 ≤ 4) × (sh2 < 8) ⌝ }
-    ensures { λ r. ⌜ r ≡ bothOf a0 b0 a1 b1 a2 b2 a3 b3 a4 b4 a5 b5 c s sh odd s2 sh2 ⌝ }
-{
-    let up = pri_up(a0, b0, a1, b1, c, s, sh, odd)
-        + sec_up(a2, b2, a3, b3, a4, b4, a5, b5, c, s2, sh2);
-    let down = pri_down(a0, b0, a1, b1, c, s, sh, odd)
-        + sec_down(a2, b2, a3, b3, a4, b4, a5, b5, c, s2, sh2);
-    let high = most(
-        high_four(a0, b0, a1, b1, c),
-        most(high_four(a2, b2, a3, b3, c), high_four(a4, b4, a5, b5, c)),
-    );
-    let low = most(
-        low_four(a0, b0, a1, b1, c),
-        most(low_four(a2, b2, a3, b3, c), low_four(a4, b4, a5, b5, c)),
-    );
-    clipped(c, up, down, high, low)
 }

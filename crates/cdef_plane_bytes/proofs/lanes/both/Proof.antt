@@ -9,7 +9,7 @@ use Rattle.cdef_plane_bytes.proofs.lanes.both.Statement.{statement}
 use Rattle.cdef_plane_bytes.proofs.lanes.both.Tie as tie
 use Rattle.cdef_plane_bytes.proofs.lanes.both.Reads as reads
 use Rattle.cdef_plane_bytes.proofs.lanes.both.Lts as lts
-use Rattle.plane_byte.proofs.both.Reads as both-reads
+use Rattle.cdef_plane_bytes.proofs.byte.both.Reads as both-reads
 
 abbrev Inv-loop : tie.InvT-loop
 Inv-loop c a0 b0 a1 b1 a2 b2 a3 b3 a4 b4 a5 b5 s sh odd s2 sh2 out₀ j₀ out j = (take j out ≡ upto (λ (n : ℕ). bothOf (getD a0 n 0) (getD b0 n 0) (getD a1 n 0) (getD b1 n 0) (getD a2 n 0) (getD b2 n 0) (getD a3 n 0) (getD b3 n 0) (getD a4 n 0) (getD b4 n 0) (getD a5 n 0) (getD b5 n 0) (getD c n 0) s sh odd s2 sh2) j) × (length out ≡ 16) × (j ≤ 16)

@@ -1,4 +1,4 @@
--- `cdef_apply::apply_block` meets its contract.
+-- `apply_blocks::apply_block` meets its contract.
 use Prim.Native.Nat.{_+_, _*_, _<_}
 use native.Mathlib.Omega.{arith}
 use borrow.Author.Needs.{needs}

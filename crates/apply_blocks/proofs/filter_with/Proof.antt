@@ -1,4 +1,4 @@
--- `cdef_apply::filter_with` meets its contract.
+-- `apply_blocks::filter_with` meets its contract.
 use Prim.Native.Nat.{_+_, _*_, _<_}
 use mathlib.Core.Path.{sym, _∙_}
 use native.Mathlib.Omega.{arith}

@@ -1,4 +1,4 @@
--- `cdef_apply::pair_of` meets its contract.
+-- `apply_blocks::pair_of` meets its contract.
 use mathlib.Core.Path.{sym}
 use native.Mathlib.Omega.{arith}
 use borrow.Author.Needs.{needs}

@@ -1,4 +1,4 @@
--- `cdef_plane_rows::eights::both_at` meets its contract.
+-- `cdef_plane_rows::both_at` meets its contract.
 use Rattle.cdef_plane_taps.specs.Plain.{firstOf}
 use mathlib.Core.Path.{_≡_, _∙_}
 use native.Mathlib.Omega.{arith}

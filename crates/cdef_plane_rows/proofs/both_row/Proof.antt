@@ -1,4 +1,4 @@
--- `cdef_plane_rows::eights::both_row` meets its contract.
+-- `cdef_plane_rows::both_row` meets its contract.
 use lib.ListN.{length, take, getD, length-set}
 use mathlib.Core.Path.{_≡_, refl, sym}
 use Prim.Native.Nat.{ℕ, _+_, _-_, _≤_}

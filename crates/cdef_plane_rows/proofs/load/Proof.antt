@@ -1,4 +1,4 @@
--- `cdef_plane_rows::eights::load` meets its contract.
+-- `cdef_plane_rows::load` meets its contract.
 use mathlib.Core.Path.{_≡_}
 use native.Mathlib.Omega.{arith}
 use Rattle.cdef_rows.specs.Place.{onFrom, backFrom}

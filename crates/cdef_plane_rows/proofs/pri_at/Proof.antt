@@ -1,4 +1,4 @@
--- `cdef_plane_rows::eights::pri_at` meets its contract.
+-- `cdef_plane_rows::pri_at` meets its contract.
 use lib.ListN.{getD}
 use mir.Syntax.{w16}
 use mir.Val.{toZ, ofZ}

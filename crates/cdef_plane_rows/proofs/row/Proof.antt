@@ -1,4 +1,4 @@
--- `cdef_plane_rows::eights::row` meets its contract.
+-- `cdef_plane_rows::row` meets its contract.
 use Rattle.cdef_plane_rows.specs.Rows.{Around}
 use native.Mathlib.Omega.{arith}
 use mathlib.Core.Path.{_≡_, _∙_}

@@ -1,4 +1,4 @@
--- `cdef_plane_rows::eights::rows` meets its contract.
+-- `cdef_plane_rows::rows` meets its contract.
 use mathlib.Core.Path.{_≡_, refl, sym, ap, _∙_}
 use mathlib.Core.List.{List}
 use Prim.Native.Nat.{ℕ, _+_, _-_, _*_, _≤_, _<_, _^_}

@@ -1,4 +1,4 @@
--- `cdef_plane_rows::eights::sec_row` meets its contract.
+-- `cdef_plane_rows::sec_row` meets its contract.
 use mathlib.Core.Path.{_≡_, refl, sym}
 use Prim.Native.Nat.{ℕ, _+_, _-_, _≤_}
 use native.Mathlib.Omega.{arith}

@@ -1,4 +1,4 @@
--- `cdef_filter::keep` meets its contract.
+-- `filter_store::keep` meets its contract.
 use borrow.Author.Tests.{eq-eqb, ne-eqb}
 use Rattle.cdef_spec.specs.Document01.{unmarked, orElse}
 use Rattle.filter_store.proofs.keep.Statement.{statement}

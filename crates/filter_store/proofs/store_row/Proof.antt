@@ -1,4 +1,4 @@
--- `cdef_filter::store_row` meets its contract.
+-- `filter_store::store_row` meets its contract.
 use mathlib.Core.Path.{_≡_, refl, sym, ap, _∙_}
 use mathlib.Core.List.{List}
 use borrow.Author.Needs.{needs}

@@ -1,4 +1,4 @@
--- `cdef_inside::inside` meets its contract.
+-- `inside_test::inside` meets its contract.
 use mathlib.Core.Path.{_≡_, sym}
 use mathlib.Core.Bool.{Bool, true, false, _&&_}
 use Prim.Native.Nat.{ℕ, _+_, _≤_, _<_}

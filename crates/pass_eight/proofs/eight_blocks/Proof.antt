@@ -1,4 +1,4 @@
--- `cdef_pass::eight_blocks` meets its contract.
+-- `pass_eight::eight_blocks` meets its contract.
 use mathlib.Core.Path.{_≡_, ap, _∙_}
 use Prim.Native.Nat.{_+_, _-_, _*_, _/_, _≤_, _<_}
 use native.Mathlib.Nat.{mul-le-mul}

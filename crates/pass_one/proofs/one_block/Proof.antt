@@ -1,4 +1,4 @@
--- `cdef_pass::one_block` meets its contract.
+-- `pass_one::one_block` meets its contract.
 use Prim.Native.Nat.{_+_, _*_, _/_, _≤_, _<_}
 use native.Mathlib.Nat.{mul-le-mul}
 use native.Mathlib.Omega.{arith}

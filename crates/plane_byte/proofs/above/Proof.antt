@@ -1,4 +1,4 @@
--- `cdef_plane_bytes::byte::above` meets its contract.
+-- `plane_byte::above` meets its contract.
 use mathlib.Core.Path.{_∙_}
 use native.Mathlib.Omega.{arith}
 use Rattle.plane_byte.specs.Byte.{aboveOf}

@@ -1,4 +1,4 @@
--- `cdef_plane_bytes::byte::clipped` meets its contract.
+-- `plane_byte::clipped` meets its contract.
 use Rattle.plane_byte.specs.Byte.{clippedOf}
 use borrow.Author.Needs.{needs}
 use Rattle.plane_byte.proofs.clipped.Statement.{statement}

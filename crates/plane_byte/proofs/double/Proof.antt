@@ -1,4 +1,4 @@
--- `cdef_plane_bytes::byte::double` meets its contract.
+-- `plane_byte::double` meets its contract.
 use mathlib.Core.Path.{refl}
 use native.Mathlib.Omega.{arith}
 use Rattle.plane_byte.specs.Byte.{weighSec}

@@ -1,4 +1,4 @@
--- `cdef_plane_bytes::byte::held_high` meets its contract.
+-- `plane_byte::held_high` meets its contract.
 use mathlib.Core.Path.{_≡_, sym, ap, _∙_}
 use mathlib.Core.Bool.{true}
 use Prim.Native.Nat.{ℕ, _<_}

@@ -1,4 +1,4 @@
--- `cdef_plane_bytes::byte::held_low` meets its contract.
+-- `plane_byte::held_low` meets its contract.
 use mathlib.Core.Path.{_≡_, sym, _∙_}
 use native.Mathlib.Omega.{arith}
 use lib.IntN.{pos-ne-negsuc}

@@ -1,4 +1,4 @@
--- `cdef_plane_bytes::byte::high_four` meets its contract.
+-- `plane_byte::high_four` meets its contract.
 use mathlib.Core.Path.{_≡_, _∙_}
 use Rattle.plane_byte.specs.Byte.{highFour}
 use Rattle.plane_byte.specs.ByteBounds.{high-le}

@@ -1,4 +1,4 @@
--- `cdef_plane_bytes::byte::left` meets its contract.
+-- `plane_byte::left` meets its contract.
 use Rattle.plane_byte.specs.Byte.{excessOf}
 use borrow.Author.Needs.{needs}
 use Rattle.plane_byte.proofs.left.Statement.{statement}

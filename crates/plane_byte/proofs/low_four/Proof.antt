@@ -1,4 +1,4 @@
--- `cdef_plane_bytes::byte::low_four` meets its contract.
+-- `plane_byte::low_four` meets its contract.
 use mathlib.Core.Path.{_≡_, _∙_}
 use Rattle.plane_byte.specs.Byte.{lowFour}
 use Rattle.plane_byte.specs.ByteBounds.{low-le}

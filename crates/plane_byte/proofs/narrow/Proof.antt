@@ -1,4 +1,4 @@
--- `cdef_plane_bytes::byte::narrow` meets its contract.
+-- `plane_byte::narrow` meets its contract.
 use lib.IntN.{ℤ, pos, natAbs}
 use mir.Val.{toZ, ofZ}
 use Rattle.cdef_sample.proofs.Sums16.{back}

@@ -1,4 +1,4 @@
--- `cdef_plane_bytes::byte::pair_down` meets its contract.
+-- `plane_byte::pair_down` meets its contract.
 use native.Mathlib.Omega.{arith}
 use Rattle.plane_byte.specs.Byte.{downPair}
 use borrow.Author.Needs.{needs}

@@ -1,4 +1,4 @@
--- `cdef_plane_bytes::byte::pair_up` meets its contract.
+-- `plane_byte::pair_up` meets its contract.
 use native.Mathlib.Omega.{arith}
 use Rattle.plane_byte.specs.Byte.{upPair}
 use borrow.Author.Needs.{needs}

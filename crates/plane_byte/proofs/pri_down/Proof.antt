@@ -1,4 +1,4 @@
--- `cdef_plane_bytes::byte::pri_down` meets its contract.
+-- `plane_byte::pri_down` meets its contract.
 use mathlib.Core.Path.{_∙_}
 use Rattle.plane_byte.specs.Byte.{downPri}
 use borrow.Author.Needs.{needs}

@@ -1,4 +1,4 @@
--- `cdef_plane_bytes::byte::pri_up` meets its contract.
+-- `plane_byte::pri_up` meets its contract.
 use mathlib.Core.Path.{_∙_}
 use Rattle.plane_byte.specs.Byte.{upPri}
 use borrow.Author.Needs.{needs}

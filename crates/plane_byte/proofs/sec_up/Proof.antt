@@ -1,4 +1,4 @@
--- `cdef_plane_bytes::byte::sec_up` meets its contract.
+-- `plane_byte::sec_up` meets its contract.
 use mathlib.Core.Path.{_∙_}
 use Rattle.plane_byte.specs.Byte.{upSec}
 use borrow.Author.Needs.{needs}

@@ -1,4 +1,4 @@
--- `cdef_plane_bytes::byte::weigh` meets its contract.
+-- `plane_byte::weigh` meets its contract.
 use Rattle.plane_byte.specs.ByteBounds.{weigh-ok}
 use borrow.Author.Needs.{needs}
 use Rattle.plane_byte.proofs.weigh.Statement.{statement}

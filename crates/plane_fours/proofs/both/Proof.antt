@@ -1,4 +1,4 @@
--- `cdef_plane_rows::fours::both` meets its contract.
+-- `plane_fours::both` meets its contract.
 use Rattle.plane_fours.specs.RunLaws.{centre-low, on-low, back-low, first-all}
 use Rattle.plane_fours.specs.FourLaws.{both-four}
 use Rattle.plane_fours.specs.Fours.{firstRun}

@@ -1,4 +1,4 @@
--- `cdef_plane_rows::fours::first` meets its contract.
+-- `plane_fours::first` meets its contract.
 use mathlib.Core.Path.{_≡_, _∙_}
 use Rattle.plane_fours.specs.FourLaws.{first-four}
 use mathlib.Core.Path.{_∙_}

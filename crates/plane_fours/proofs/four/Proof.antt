@@ -1,4 +1,4 @@
--- `cdef_plane_rows::fours::four` meets its contract.
+-- `plane_fours::four` meets its contract.
 use mathlib.Core.Path.{_≡_, _∙_}
 use Rattle.cdef_sample.specs.Upto.{upto-ext}
 use Rattle.plane_fours.specs.Fours.{centreRun}

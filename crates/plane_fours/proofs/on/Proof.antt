@@ -1,4 +1,4 @@
--- `cdef_plane_rows::fours::on` meets its contract.
+-- `plane_fours::on` meets its contract.
 use mathlib.Core.Path.{_≡_, sym, _∙_}
 use native.Mathlib.Omega.{arith}
 use lib.ListN.{getD}

@@ -1,4 +1,4 @@
--- `cdef_plane_rows::fours::rows` meets its contract.
+-- `plane_fours::rows` meets its contract.
 use mathlib.Core.Path.{_≡_, _∙_}
 use mathlib.Core.List.{List}
 use Prim.Native.Nat.{ℕ, _+_, _*_}

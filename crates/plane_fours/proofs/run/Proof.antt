@@ -1,4 +1,4 @@
--- `cdef_plane_rows::fours::run` meets its contract.
+-- `plane_fours::run` meets its contract.
 use Rattle.plane_fours.specs.FourReachLaws.{row-low}
 use mathlib.Core.Path.{_≡_, refl, sym, ap, _∙_}
 use Prim.Native.Nat.{ℕ, _+_, _-_, _*_, _≤_, _<_}

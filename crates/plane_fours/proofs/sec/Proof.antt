@@ -1,4 +1,4 @@
--- `cdef_plane_rows::fours::sec` meets its contract.
+-- `plane_fours::sec` meets its contract.
 use Rattle.plane_fours.specs.RunLaws.{centre-low, on-low, back-low}
 use Rattle.plane_fours.specs.FourLaws.{sec-four}
 use mathlib.Core.Path.{_≡_, _∙_}

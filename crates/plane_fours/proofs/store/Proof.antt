@@ -1,4 +1,4 @@
--- `cdef_plane_rows::fours::store` meets its contract.
+-- `plane_fours::store` meets its contract.
 use Rattle.plane_fours.specs.FourReachLaws.{row-low}
 use mathlib.Core.Path.{_≡_, refl, sym, ap, _∙_}
 use mathlib.Core.List.{List}

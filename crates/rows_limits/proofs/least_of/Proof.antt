@@ -1,4 +1,4 @@
--- `cdef_rows::both::least_of` meets its contract.
+-- `rows_limits::least_of` meets its contract.
 use Rattle.rows_limits.specs.Limits.{leastOf}
 use borrow.Author.Needs.{needs}
 use Rattle.rows_limits.proofs.least_of.Statement.{statement}

@@ -1,4 +1,4 @@
--- `cdef_rows::both::most_of` meets its contract.
+-- `rows_limits::most_of` meets its contract.
 use mathlib.Core.Path.{_∙_}
 use native.Mathlib.Omega.{arith}
 use Rattle.rows_limits.specs.Limits.{mostOf}

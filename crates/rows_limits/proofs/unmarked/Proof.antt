@@ -1,4 +1,4 @@
--- `cdef_rows::both::unmarked` meets its contract.
+-- `rows_limits::unmarked` meets its contract.
 use mathlib.Core.Path.{sym}
 use Rattle.rows_limits.specs.LimitsLaws.{unmarked-mark, unmarked-tap}
 use Rattle.rows_limits.proofs.unmarked.Statement.{statement}

@@ -1,4 +1,4 @@
--- `cdef_trial::four` meets its contract.
+-- `trial_four::four` meets its contract.
 use mathlib.Core.Path.{_∙_}
 use native.Mathlib.Omega.{arith}
 use borrow.Author.Needs.{needs}

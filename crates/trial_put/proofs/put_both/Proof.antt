@@ -1,4 +1,4 @@
--- `cdef_trial::put_both` meets its contract.
+-- `trial_put::put_both` meets its contract.
 use mathlib.Core.Path.{_∙_}
 use Rattle.trial_put.specs.PutLaws.{laid-both}
 use borrow.Author.Needs.{needs}

@@ -1,4 +1,4 @@
--- `cdef_trial::put_cut` meets its contract.
+-- `trial_put::put_cut` meets its contract.
 use mathlib.Core.Path.{_≡_, refl, sym, _∙_}
 use Prim.Native.Nat.{ℕ, _+_, _-_, _*_, _≤_, _<_}
 use native.Mathlib.Omega.{arith}

@@ -1,4 +1,4 @@
--- `cdef_trial::put_free` meets its contract.
+-- `trial_put::put_free` meets its contract.
 use mathlib.Core.Path.{_∙_}
 use Rattle.trial_put.specs.PutLaws.{laid-free}
 use borrow.Author.Needs.{needs}

@@ -1,4 +1,4 @@
--- `cdef_trial::put_trial` meets its contract.
+-- `trial_put::put_trial` meets its contract.
 use borrow.Author.Needs.{needs}
 use Rattle.trial_put.proofs.put_trial.Statement.{statement}
 use Rattle.trial_put.proofs.put_trial.Tie as tie

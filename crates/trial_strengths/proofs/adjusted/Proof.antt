@@ -1,4 +1,4 @@
--- `cdef_trial::adjusted` meets its contract.
+-- `trial_strengths::adjusted` meets its contract.
 use mathlib.Core.Path.{ap, sym, _∙_}
 use Rattle.cdef_spec.specs.declared.TrialWay.{TrialWay}
 use Rattle.trial_strengths.specs.Strengths.{adjustedBy}

@@ -1,4 +1,4 @@
--- `cdef_trial::strengths` meets its contract.
+-- `trial_strengths::strengths` meets its contract.
 use Prim.Native.Nat.{_-_, _*_, _%_, _^_}
 use native.Mathlib.Omega.{arith}
 use Rattle.cdef_kernel.specs.ShapeLaws.{limit, limit-low}

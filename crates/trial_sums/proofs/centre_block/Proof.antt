@@ -1,4 +1,4 @@
--- `cdef_trial::centre_block` meets its contract.
+-- `trial_sums::centre_block` meets its contract.
 use mathlib.Core.Path.{_≡_, refl, sym}
 use Prim.Native.Nat.{ℕ, _+_, _-_, _*_, _≤_}
 use native.Mathlib.Omega.{arith}

@@ -1,4 +1,4 @@
--- `cdef_trial::sec_blocks` meets its contract.
+-- `trial_sums::sec_blocks` meets its contract.
 use mathlib.Core.Path.{_≡_, refl, sym}
 use Prim.Native.Nat.{ℕ, _+_, _-_, _*_, _≤_}
 use native.Mathlib.Omega.{arith}

@@ -1,4 +1,4 @@
--- `cdef_plane_rows::lanes::first` meets its contract.
+-- `plane_fours::lanes::first` meets its contract.
 use mathlib.Core.List.{List}
 use Rattle.cdef_sample.proofs.Sums16.{back}
 use Rattle.rows_limits.specs.declared.Pair.{Pair}

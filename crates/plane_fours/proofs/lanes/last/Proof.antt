@@ -1,4 +1,4 @@
--- `cdef_plane_rows::lanes::last` meets its contract.
+-- `plane_fours::lanes::last` meets its contract.
 use lib.IntN.{pos}
 use mir.Syntax.{w16}
 use mir.Val.{toZ, ofZ}

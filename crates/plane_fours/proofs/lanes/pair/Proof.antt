@@ -1,4 +1,4 @@
--- `cdef_plane_rows::lanes::pair` meets its contract.
+-- `plane_fours::lanes::pair` meets its contract.
 use Rattle.plane_fours.specs.Fours.{pairIn}
 use borrow.Author.Needs.{needs}
 use Rattle.plane_fours.proofs.lanes.pair.Statement.{statement}

@@ -1,4 +1,4 @@
--- `cdef_plane_rows::lanes::pri` meets its contract.
+-- `plane_fours::lanes::pri` meets its contract.
 use mathlib.Core.List.{List}
 use lib.Signed.{mag}
 use Rattle.cdef_sample.specs.SampleLaws.{free-on}

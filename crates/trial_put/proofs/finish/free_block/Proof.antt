@@ -1,4 +1,4 @@
--- `cdef_trial::free_block` meets its contract.
+-- `trial_put::free_block` meets its contract.
 use mathlib.Core.Path.{_≡_, refl, sym, _∙_}
 use Prim.Native.Nat.{ℕ, _-_, _≤_}
 use native.Mathlib.Omega.{arith}

@@ -1,4 +1,3 @@
 -- What applying leaves block by block, and its laws.
 pub mod Apply
 pub mod ApplyLaws
-pub mod FilterLaws

@@ -1,6 +1,4 @@
 // Applying: a plane filtered from its snapshot, each unit with its own pair. It validates nothing and is given the figure in force.
-pub mod block; // block.rt: one block
-
 ghost use mathlib.Core.Path.{_≡_};
 ghost use Prim.Native.Nat.{_/_, _+_, _<_};
 ghost use lib.ListN.{length};
@@ -32,7 +30,7 @@ fn apply_row(
     ensures { λ _. ⌜ now (dst .exit) ≡ rowApplied (pictureOf f (now (skip .entry)) (now (dirs .entry)) (now (vars .entry))) d (now (snapshot .entry)) (pairsOf (now (pris .entry)) (now (secs .entry))) by (now (dst .entry)) (f .width / 8) ⌝ }
 {
     for bx in 0..f.width / 8 {
-        block::apply_block(
+        apply_blocks::apply_block(
             dst,
             snapshot,
             f,

@@ -1,17 +1,12 @@
 -- What the block filter stores in a destination whose rows are the plane's. Definitions only.
 use Prim.Native.Nat.{ℕ, _+_, _-_, _*_, _≤_, _<_, max}
 use mathlib.Core.List.{List}
-use lib.ListN.{getD}
 use Rattle.cdef_spec.specs.declared.FilterParams.{FilterParams}
 use Rattle.cdef_spec.specs.Standard.{Tap}
 use Rattle.cdef_spec.specs.Document01.{unmarked}
 use Rattle.cdef_rows.specs.declared.Taps.{Taps}
 use Rattle.cdef_rows.specs.declared.Strength.{Strength}
 use Rattle.cdef_kernel.specs.Kernel.{tapsOf, priOf, secOf, kernelAt}
-
--- a row of eight samples, from column x on
-unfoldable pub rowTap : List ℕ → ℕ → ℕ → ℕ → Tap
-rowTap row x r c = unmarked (getD row (c - x) 0)
 
 -- the kernel's samples of a window, from row y and column x on
 unfoldable pub windowTap : List ℕ → Taps → Strength → Strength → ℕ → ℕ → ℕ → ℕ → Tap

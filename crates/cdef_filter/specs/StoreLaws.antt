@@ -1,13 +1,11 @@
 -- Laws of what is stored.
-use mathlib.Core.Path.{_≡_, refl, sym, ap, _∙_}
+use mathlib.Core.Path.{_≡_, _∙_}
 use mathlib.Core.List.{List}
-use Prim.Native.Nat.{ℕ, _+_, _-_, _*_, _≤_, _<_, min, max}
+use Prim.Native.Nat.{ℕ, _+_, _-_, _*_, _≤_, _<_}
 use native.Mathlib.Omega.{arith}
-use lib.ListN.{getD}
 use Rattle.cdef_spec.specs.declared.Block.{Block}
 use Rattle.cdef_spec.specs.declared.FilterParams.{FilterParams}
-use Rattle.cdef_spec.specs.Standard.{Tap}
-use Rattle.cdef_spec.specs.Document01.{Plane, unmarked, filtered}
+use Rattle.cdef_spec.specs.Document01.{Plane, filtered}
 use Rattle.cdef_spec.specs.LoopForm.{putRow, putBlock}
 use Rattle.cdef_spec.specs.PlaneLaws.{row-same, block-same}
 use Rattle.cdef_sample.specs.Bounds.{Held}
@@ -17,7 +15,8 @@ use Rattle.cdef_rows.specs.declared.Strength.{Strength}
 use Rattle.cdef_window.specs.Window.{windowAt}
 use Rattle.cdef_kernel.specs.Kernel.{kernelAt}
 use Rattle.cdef_kernel.specs.KernelLaws.{kernel-tap}
-use Rattle.cdef_filter.specs.Store.{rowTap, windowTap, blockTap}
+use Rattle.cdef_filter.specs.Store.{windowTap, blockTap}
+use Rattle.filter_store.specs.Row.{rowTap}
 
 -- row i of the kernel, stored at row y + i, is row y + i of the window's samples
 pub stored-row : (d : List ℕ) (m : ℕ) (w : List ℕ) (t : Taps) (f g : Strength) (y x i n : ℕ) → n ≤ 8 → (r : List ℕ) → r ≡ upto (λ (j : ℕ). kernelAt w ((i + 2) * 12 + 2 + j) t f g) 8

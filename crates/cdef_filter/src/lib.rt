@@ -1,39 +1,20 @@
 // The block filter: a block of a plane filtered into rows of a destination.
 
 ghost use mathlib.Core.Path.{_≡_};
-ghost use Prim.Native.Nat.{ℕ, _+_, _-_, _*_, _≤_, _<_, min};
-ghost use lib.ListN.{length, getD};
-ghost use Rattle.cdef_spec.specs.Standard.{Tap};
-ghost use Rattle.cdef_spec.specs.Document01.{unmarked, orElse, filtered};
-ghost use Rattle.cdef_spec.specs.LoopForm.{putRow, putBlock};
+ghost use Prim.Native.Nat.{_+_, _-_, _*_, _≤_, _<_, min};
+ghost use lib.ListN.{length};
+ghost use Rattle.cdef_spec.specs.Document01.{filtered};
+ghost use Rattle.cdef_spec.specs.LoopForm.{putBlock};
 ghost use Rattle.cdef_sample.specs.Bounds.{Held};
 ghost use Rattle.cdef_sample.specs.Upto.{upto};
 ghost use Rattle.cdef_rows.specs.Sums.{Near6, InRange};
 ghost use Rattle.cdef_window.specs.Window.{planeOf, windowAt};
 ghost use Rattle.cdef_window.specs.Spans.{InPlane};
-ghost use Rattle.cdef_filter.specs.Store.{rowTap, windowTap, blockTap, Usable};
+ghost use Rattle.cdef_filter.specs.Store.{windowTap, blockTap, Usable};
 use cdef_rows::Strength;
 use cdef_rows::Taps;
 use cdef_spec::Block;
 use cdef_spec::FilterParams;
-
-// The value of a sample after v is stored: the mark is never written.
-fn keep(old: u16, v: u16) -> u16
-    ensures { λ r. ⌜ r ≡ orElse old (unmarked v) ⌝ }
-{
-    if v == 16384 { old } else { v }
-}
-
-// Stores n samples of a row at row r and column x of a destination w wide.
-fn store_row(dst: &mut [u16], w: usize, r: usize, x: usize, n: usize, row: [u16; 8])
-    requires { ⌜ (r * w + (x + n) ≤ length (now dst)) × (n ≤ 8) ⌝ }
-    ensures { λ _. ⌜ now (dst .exit) ≡ putRow (now (dst .entry)) w (rowTap row x) r x n ⌝ }
-{
-    for j in 0..n {
-        let k = r * w + (x + j);
-        dst[k] = keep(dst[k], row[j]);
-    }
-}
 
 // Filters the rows of a window, cols samples of each, into a destination w wide, from its row y and column x on.
 fn filter_rows(
@@ -54,7 +35,7 @@ fn filter_rows(
 {
     for i in 0..rows {
         let row = cdef_kernel::kernel_row(win, (i + 2) * 12 + 2, t, f, g);
-        store_row(dst, w, y + i, x, cols, row);
+        filter_store::store_row(dst, w, y + i, x, cols, row);
     }
 }
 

@@ -1,12 +1,9 @@
 -- Blocks two samples or more inside a plane. Definitions only.
 use mathlib.Core.Path.{_≡_}
-use mathlib.Core.Bool.{Bool, _&&_}
 use mathlib.Core.Logic.{_⊎_}
 use mathlib.Core.List.{List}
 use Prim.Native.Nat.{ℕ, _+_, _-_, _≤_, _<_}
-use lib.Dec.{leb}
 use Rattle.cdef_spec.specs.declared.Block.{Block}
-use Rattle.cdef_spec.specs.declared.WorkingDamping.{WorkingDamping}
 use Rattle.cdef_spec.specs.declared.FilterParams.{FilterParams}
 use Rattle.cdef_spec.specs.Document01.{filtered}
 use Rattle.cdef_spec.specs.LoopForm.{putBlock}
@@ -24,10 +21,7 @@ paramsFrom pri sec dir damping depth = record { pri = pri; sec = sec; dir = dir;
 pub record Sided (n : ℕ) : Type 0 where
   pub side : (n ≡ 4) ⊎ (n ≡ 8)
 
--- two samples or more inside a plane w by h (x before y, as in Block): as a test, and its parts
-unfoldable pub innerBlock : ℕ → ℕ → ℕ → ℕ → ℕ → ℕ → Bool
-innerBlock w h x y bw bh = (leb 2 x && leb 2 y) && (leb (x + bw + 2) w && leb (y + bh + 2) h)
-
+-- two samples or more inside a plane w by h
 pub record Inner (w h x y bw bh : ℕ) : Type 0 where
   pub left : 2 ≤ x
   pub top : 2 ≤ y

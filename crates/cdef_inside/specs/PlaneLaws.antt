@@ -2,7 +2,7 @@
 use mathlib.Core.Path.{_≡_, refl, sym, ap, _∙_}
 use mathlib.Core.Bool.{true, _&&_}
 use mathlib.Core.List.{List}
-use Prim.Native.Nat.{ℕ, zero, suc, _+_, _-_, _*_, _/_, _%_, _^_, _≤_, _<_, min, max}
+use Prim.Native.Nat.{ℕ, zero, suc, _+_, _-_, _*_, _/_, _%_, _^_, _≤_, _<_, max}
 use native.Mathlib.Nat.{mul-le-mul, mul-le-mul-right, mul-comm}
 use native.Mathlib.Omega.{arith}
 use borrow.Author.Tests.{leb-true}
@@ -12,15 +12,15 @@ use Rattle.cdef_spec.specs.declared.Block.{Block}
 use Rattle.cdef_spec.specs.declared.FilterParams.{FilterParams}
 use Rattle.cdef_spec.specs.WordsLaws.{and-both}
 use Rattle.cdef_spec.specs.Standard.{Tap}
-use Rattle.cdef_spec.specs.Document01.{Plane, unmarked, filtered}
+use Rattle.cdef_spec.specs.Document01.{unmarked, filtered}
 use Rattle.cdef_spec.specs.CodeForm.{rowOf, colOf, sampleAt}
 use Rattle.cdef_spec.specs.PlaceLaws.{steps-low}
-use Rattle.cdef_spec.specs.LoopForm.{putRow, putBlock}
+use Rattle.cdef_spec.specs.LoopForm.{putBlock}
 use Rattle.cdef_spec.specs.PlaneLaws.{block-same}
 use Rattle.cdef_sample.specs.Sample.{orCentre}
 use Rattle.cdef_sample.specs.Bounds.{Held}
 use Rattle.cdef_sample.specs.Upto.{upto}
-use Rattle.cdef_rows.specs.Place.{onFrom, backFrom, tapOn, tapBack}
+use Rattle.cdef_rows.specs.Place.{tapOn, tapBack}
 use Rattle.cdef_rows.specs.Sums.{pairAt, lowPair, highPair, priAt, nearAt, farAt, secAt, lowAt, highAt, filteredAt}
 use Rattle.cdef_rows.specs.declared.Strength.{Strength}
 use Rattle.cdef_window.specs.Window.{planeOf, windowAt}
@@ -30,8 +30,9 @@ use Rattle.cdef_kernel.specs.PlaceLaws.{centre-is, on-tap, back-tap}
 use Rattle.cdef_kernel.specs.KernelLaws.{kernel-tap}
 use Rattle.cdef_plane_taps.specs.Steps.{stepIn, tapsIn, Reach}
 use Rattle.cdef_plane_taps.specs.StepLaws.{on-lands, back-lands, taps-reach}
-use Rattle.cdef_plane_rows.specs.Rows.{Along, Around, Strong, priIn, secIn, insideTap, Stored}
-use Rattle.cdef_inside.specs.Inside.{innerBlock, Inner}
+use Rattle.cdef_plane_rows.specs.Rows.{Along, Around, Strong, priIn, secIn, insideTap}
+use Rattle.cdef_inside.specs.Inside.{Inner}
+use Rattle.inside_test.specs.Inner.{innerBlock}
 
 -- row i and column j of the block b of a plane w by h
 module _ (l : List ℕ) (w h : ℕ) (b : Block) (i j : ℕ) (hw : w ≤ 4096) (hh : h ≤ 4096) (bw : b .width ≤ 8) (bh : b .height ≤ 8) (hi : i < b .height) (hj : j < b .width) (x2 : 2 ≤ b .x) (y2 : 2 ≤ b .y) (xw : b .x + b .width + 2 ≤ w) (yh : b .y + b .height + 2 ≤ h) where

@@ -6,31 +6,13 @@ ghost use Rattle.cdef_window.specs.Spans.{InPlane};
 ghost use Rattle.cdef_filter.specs.Store.{Usable};
 ghost use Rattle.cdef_plane_taps.specs.Plain.{AllLow};
 ghost use Rattle.cdef_plane_bytes.specs.Eights.{AllByte};
-ghost use Rattle.cdef_inside.specs.Inside.{Sided, Inner, innerBlock, blockFrom, paramsFrom, storedBlock};
+ghost use Rattle.cdef_inside.specs.Inside.{Sided, Inner, blockFrom, paramsFrom, storedBlock};
 
 mod rows; // rows.rt: rows of eight samples
 
-use cdef_plane_rows::fours;
 use cdef_spec::Block;
 use cdef_spec::FilterParams;
 use cdef_spec::WorkingDamping;
-
-// Whether a block lies two samples or more inside a plane w by h.
-fn inside(w: usize, h: usize, x: usize, y: usize, bw: usize, bh: usize) -> bool
-    requires { ⌜ (x ≤ 4096) × (y ≤ 4096) × (bw ≤ 8) × (bh ≤ 8) ⌝ }
-    ensures { λ r. ⌜ r ≡ innerBlock w h x y bw bh ⌝ }
-{
-    if x < 2 {
-        return false;
-    }
-    if y < 2 {
-        return false;
-    }
-    if w < x + bw + 2 {
-        return false;
-    }
-    y + bh + 2 <= h
-}
 
 // Filters a block inside the plane into a destination whose first row is the plane's row y0.
 fn filter_inside(
@@ -95,11 +77,11 @@ fn filter_inside(
         );
         return;
     }
-    fours::rows(dst, to, src, w, at, dir, f.s, f.sh, f.w0, g.s, g.sh);
+    plane_fours::rows(dst, to, src, w, at, dir, f.s, f.sh, f.w0, g.s, g.sh);
     if bh == 4 {
         return;
     }
-    fours::rows(
+    plane_fours::rows(
         dst,
         to + 4 * w,
         src,
@@ -135,7 +117,7 @@ pub fn filter_block(
     requires { ⌜ (y0 ≤ y) × ((y - y0 + min bh (h - y)) * w ≤ length (now dst)) × Sided bw × Sided bh ⌝ }
     ensures { λ _. ⌜ now (dst .exit) ≡ storedBlock (now (dst .entry)) (now (src .entry)) w h (paramsFrom pri sec dir damping depth) y0 y x (min bw (w - x)) (min bh (h - y)) ⌝ }
 {
-    if inside(w, h, x, y, bw, bh) {
+    if inside_test::inside(w, h, x, y, bw, bh) {
         filter_inside(
             dst,
             y0,

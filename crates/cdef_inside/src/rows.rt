@@ -64,5 +64,5 @@ pub fn eight_wide(
         eights::rows(dst, to, src, w, at, 2, t, s, sh, near, s2, sh2);
         return;
     }
-    cdef_plane_rows::eights::rows(dst, to, src, w, at, n, dir, s, sh, near, s2, sh2);
+    cdef_plane_rows::rows(dst, to, src, w, at, n, dir, s, sh, near, s2, sh2);
 }

@@ -1,4 +1,7 @@
 // Measuring: per unit, the distance between an original and a plane, filtered with one pair or unfiltered.
+pub mod block; // block.rt: one block
+pub mod totals; // totals.rt: a row of blocks
+
 ghost use mathlib.Core.Path.{_≡_};
 ghost use Prim.Native.Nat.{_≤_};
 ghost use lib.IntN.{pos};
@@ -35,7 +38,7 @@ pub fn measure_plane(
     cdef_totals::clear_totals(totals);
     let c = distance_weight::constants_of(f.depth);
     for by in 0..f.height / 8 {
-        measure_blocks::totals::measure_row(
+        totals::measure_row(
             totals,
             scratch,
             plane,

@@ -4,58 +4,7 @@ ghost use Prim.Native.Nat.{ℕ, _+_, _*_, _/_, _%_, _^_, _≤_, _<_};
 ghost use lib.ListN.{getD, length};
 ghost use Rattle.cdef_spec.specs.Words.{table};
 ghost use Rattle.cdef_spec.specs.Document01.{blockDirection, blockVariance};
-ghost use Rattle.cdef_pass.specs.Pass.{PassIn, Filled};
-
-// The block in row by and column bx of the blocks.
-fn one_block(
-    dirs: &mut [u8],
-    vars: &mut [u32],
-    plane: &[u16],
-    width: usize,
-    height: usize,
-    bx: usize,
-    by: usize,
-    depth: u8,
-)
-    requires { ⌜ PassIn (now plane) width height depth (now dirs) (now vars) × (bx < width / 8) × (by < height / 8) ⌝ }
-    requires { ⌜ Filled (now plane) width height depth (by * (width / 8) + bx) (now dirs) (now vars) ⌝ }
-    ensures { λ _. ⌜ Filled (now (plane .entry)) width height depth (by * (width / 8) + (bx + 1)) (now (dirs .exit)) (now (vars .exit)) ⌝ }
-{
-    let f = cdef_direction::cdef_direction(plane, width, height, bx * 8, by * 8, depth);
-    let at = by * (width / 8) + bx;
-    dirs[at] = f.direction;
-    vars[at] = f.variance;
-}
-
-// That block and the seven to its right, as lanes. `a` and `s` are overwritten.
-fn eight_blocks(
-    dirs: &mut [u8],
-    vars: &mut [u32],
-    plane: &[u16],
-    width: usize,
-    height: usize,
-    bx: usize,
-    by: usize,
-    depth: u8,
-    a: &mut [i16; 512],
-    s: &mut [i16; 512],
-)
-    requires { ⌜ PassIn (now plane) width height depth (now dirs) (now vars) × (bx + 8 ≤ width / 8) × (by < height / 8) ⌝ }
-    requires { ⌜ Filled (now plane) width height depth (by * (width / 8) + bx) (now dirs) (now vars) ⌝ }
-    requires { ⌜ (length (now a) ≡ 512) × (length (now s) ≡ 512) ⌝ }
-    ensures { λ _. ⌜ Filled (now (plane .entry)) width height depth (by * (width / 8) + (bx + 8)) (now (dirs .exit)) (now (vars .exit)) ⌝ }
-    ensures { λ _. ⌜ (length (now (a .exit)) ≡ 512) × (length (now (s .exit)) ≡ 512) ⌝ }
-{
-    cdef_lanes::lanes(s, a, plane, width, height, bx * 8, by * 8, depth);
-    let f = cdef_eight::eight(s);
-    let directions = f.directions;
-    let variances = f.variances;
-    let at = by * (width / 8) + bx;
-    for l in 0..8usize {
-        dirs[at + l] = directions[l];
-        vars[at + l] = variances[l];
-    }
-}
+ghost use Rattle.pass_one.specs.Pass.{PassIn, Filled};
 
 // A row of blocks: eight at a time, and the rest one by one.
 fn row(
@@ -77,10 +26,10 @@ fn row(
 {
     let whole = width / 64;
     for u in 0..whole {
-        eight_blocks(dirs, vars, plane, width, height, u * 8, by, depth, a, s);
+        pass_eight::eight_blocks(dirs, vars, plane, width, height, u * 8, by, depth, a, s);
     }
     for bx in whole * 8..width / 8 {
-        one_block(dirs, vars, plane, width, height, bx, by, depth);
+        pass_one::one_block(dirs, vars, plane, width, height, bx, by, depth);
     }
 }
 

@@ -1,23 +1,19 @@
 -- A sample computed in bytes is the sample of one computed from signed differences.
-use mathlib.Core.Path.{_≡_, refl, sym, ap, _∙_}
-use mathlib.Core.Bool.{Bool, true, false, cond}
-use mathlib.Core.Logic.{_⊎_, inl, inr, ⊎-elim}
-use Prim.Native.Nat.{ℕ, zero, suc, _+_, _-_, _*_, _/_, _^_, _≤_, _<_, min, max}
-use native.Mathlib.Decide.{decLt, decLe}
+use mathlib.Core.Path.{_≡_, sym, ap, _∙_}
+use Prim.Native.Nat.{ℕ, zero, suc, _+_, _-_, _*_, _/_, _^_, _≤_, _<_, min}
+use native.Mathlib.Decide.{decLt}
 use native.Mathlib.Nat.{mul-sub, mul-le-mul-left}
 use native.Mathlib.Omega.{arith}
-use borrow.Author.Tests.{lt-ltb, le-ltb, ltb-true, ltb-false}
-use lib.Dec.{ltb}
-use lib.IntN.{ℤ, pos, negsuc, negℤ, subℕ, _+ℤ_, _-ℤ_, _*ℤ_, +ℤ-idl, +ℤ-idr, +ℤ-assoc, +ℤ-comm, negℤ-+ℤ}
-use lib.Signed.{ltZ, shrZ, mag}
-use Rattle.cdef_sample.specs.Sample.{sizeOf, conOf, roundOf, movedOf, overOf, underOf, finishOf}
-use Rattle.cdef_sample.specs.SampleLaws.{con-below, con-above, finish-on, held-nat, moved-neg, moved-pos}
+use borrow.Author.Tests.{lt-ltb, le-ltb}
+use lib.IntN.{ℤ, pos, negsuc, negℤ, _+ℤ_, _-ℤ_, _*ℤ_, +ℤ-idl, +ℤ-idr, +ℤ-assoc, +ℤ-comm, negℤ-+ℤ}
+use Rattle.cdef_sample.specs.Sample.{sizeOf, conOf}
+use Rattle.cdef_sample.specs.SampleLaws.{con-below, con-above}
 use Rattle.cdef_rows.specs.Pairs.{weighed}
-use Rattle.cdef_rows.specs.declared.both.Pair.{Pair}
-use Rattle.cdef_rows.specs.declared.Strength.{Strength}
-use Rattle.cdef_plane_taps.specs.Plain.{pairPlain, priPlain, secPlain, lowTwo, highTwo, firstOf, lastOf}
+use Rattle.rows_limits.specs.declared.Pair.{Pair}
+use Rattle.cdef_plane_taps.specs.Plain.{pairPlain, priPlain, secPlain}
 use Rattle.cdef_plane_rows.specs.Rows.{priIn, secIn}
-use Rattle.cdef_plane_bytes.specs.Byte.{aboveOf, upPair, downPair, Mask, weighPri, weighSec, upPri, downPri, upSec, downSec, highFour, lowFour, excessOf, clippedOf, bothOf}
+use Rattle.plane_byte.specs.Byte.{aboveOf, upPair, downPair, weighPri, weighSec, upPri, downPri, upSec, downSec}
+use Rattle.plane_byte.specs.ByteBounds.{above-le, weigh-four, weigh-three}
 
 -- ---- a difference of two numbers
 
@@ -84,10 +80,6 @@ two-con a b d e c s sh = sym (gap-add (upPair a b c s sh) (downPair a b c s sh) 
 
 -- ---- bounds
 
-pub above-le : (a b s sh : ℕ) → aboveOf a b s sh ≤ s
-unfolding aboveOf
-above-le a b s sh = omega arith
-
 up-le : (a b c s sh : ℕ) → upPair a b c s sh ≤ s + s
 unfolding upPair
 up-le a b c s sh = omega (arith, above-le a c s sh, above-le b c s sh)
@@ -95,21 +87,6 @@ up-le a b c s sh = omega (arith, above-le a c s sh, above-le b c s sh)
 down-le : (a b c s sh : ℕ) → downPair a b c s sh ≤ s + s
 unfolding downPair
 down-le a b c s sh = omega (arith, above-le c a s sh, above-le c b s sh)
-
-weigh-four : (n f : ℕ) → n ≤ 255 → weighPri n f 0 ≡ 4 * n + 2 * f
-unfolding weighPri
-weigh-four n f h = omega arith
-
-weigh-three : (n f : ℕ) → f ≤ 255 → weighPri n f 255 ≡ 3 * n + 3 * f
-unfolding weighPri
-weigh-three n f h = omega arith
-
-pub weigh-le : (n f odd : ℕ) → n ≤ 30 → f ≤ 30 → Mask odd → weighPri n f odd ≤ 180
-weigh-le n f odd hn hf m = ⊎-elim (λ e. rw e (omega (arith, weigh-four n f (omega arith)))) (λ e. rw e (omega (arith, weigh-three n f (omega arith)))) (m .is)
-
-pub weigh-ok : (n f odd x y : ℕ) → n ≤ 30 → f ≤ 30 → Mask odd → x ≡ min f odd → y ≡ min n (255 - odd) → ((n + f) + (n + f) + n + (x + y) ≡ weighPri n f odd) × ((n + f) + (n + f) + n + (x + y) ≤ 180)
-unfolding weighPri
-weigh-ok n f odd x y hn hf m ex ey = (rw (ex, ey), rw (ex, ey) (weigh-le n f odd hn hf m))
 
 -- ---- the weighted sums
 

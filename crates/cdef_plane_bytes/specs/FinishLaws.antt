@@ -1,19 +1,19 @@
 -- A sample rounded and clipped in bytes is the sample rounded and clipped with a signed sum.
 use mathlib.Core.Path.{_≡_, refl, sym, ap, _∙_}
 use mathlib.Core.Bool.{Bool, true, false, cond}
-use Prim.Native.Nat.{ℕ, zero, suc, _+_, _-_, _*_, _/_, _≤_, _<_, min, max}
-use native.Mathlib.Decide.{decLt, decLe}
+use Prim.Native.Nat.{ℕ, suc, _+_, _-_, _*_, _/_, _≤_, _<_, min, max}
+use native.Mathlib.Decide.{decLt}
 use native.Mathlib.Omega.{arith}
 use borrow.Author.Tests.{lt-ltb, le-ltb, ltb-true, ltb-false}
 use lib.Dec.{ltb}
-use lib.IntN.{ℤ, pos, negsuc, negℤ, _+ℤ_, _-ℤ_}
-use lib.Signed.{ltZ, shrZ, mag}
-use Rattle.cdef_sample.specs.Sample.{movedOf, overOf, underOf, finishOf}
+use lib.IntN.{ℤ, pos, negsuc, _+ℤ_}
+use lib.Signed.{shrZ, mag}
+use Rattle.cdef_sample.specs.Sample.{movedOf, overOf, finishOf}
 use Rattle.cdef_sample.specs.SampleLaws.{finish-on, held-nat, moved-neg, moved-pos}
-use Rattle.cdef_rows.specs.declared.both.Pair.{Pair}
 use Rattle.cdef_plane_taps.specs.Plain.{priPlain, secPlain, lowTwo, highTwo, firstOf, lastOf}
 use Rattle.cdef_plane_rows.specs.Rows.{priIn, secIn}
-use Rattle.cdef_plane_bytes.specs.Byte.{upPri, downPri, upSec, downSec, highFour, lowFour, excessOf, clippedOf, bothOf}
+use Rattle.plane_byte.specs.Byte.{upPri, downPri, upSec, downSec, highFour, lowFour, excessOf, clippedOf, bothOf}
+use Rattle.plane_byte.specs.ByteBounds.{less-max, less-min}
 use Rattle.cdef_plane_bytes.specs.ByteLaws.{gap, gap-add, gap-below, gap-above, pair, pri-con, sec-con}
 
 -- ---- moved by the rounded sum
@@ -94,12 +94,6 @@ finish-gap c u d lo hi a b k = go (decLt u d)
 
 -- ---- the limits
 
-less-max : (a b c : ℕ) → max (a - c) (b - c) ≡ max a b - c
-less-max a b c = omega arith
-
-less-min : (a b c : ℕ) → max (c - a) (c - b) ≡ c - min a b
-less-min a b c = omega arith
-
 high-two : (a0 b0 a1 b1 c : ℕ) → highFour a0 b0 a1 b1 c ≡ highTwo (pair a0 b0) (pair a1 b1) - c
 unfolding highFour highTwo
 high-two a0 b0 a1 b1 c = rw (less-max a0 b0 c, less-max a1 b1 c) (less-max (max a0 b0) (max a1 b1) c)
@@ -107,16 +101,6 @@ high-two a0 b0 a1 b1 c = rw (less-max a0 b0 c, less-max a1 b1 c) (less-max (max 
 low-two : (a0 b0 a1 b1 c : ℕ) → lowFour a0 b0 a1 b1 c ≡ c - lowTwo (pair a0 b0) (pair a1 b1)
 unfolding lowFour lowTwo
 low-two a0 b0 a1 b1 c = rw (less-min a0 b0 c, less-min a1 b1 c) (less-min (min a0 b0) (min a1 b1) c)
-
-top-two : (a0 b0 a1 b1 : ℕ) → a0 < 256 → b0 < 256 → a1 < 256 → b1 < 256 → highTwo (pair a0 b0) (pair a1 b1) ≤ 255
-unfolding highTwo
-top-two a0 b0 a1 b1 h0 h1 h2 h3 = omega arith
-
-pub high-le : (a0 b0 a1 b1 c : ℕ) → a0 < 256 → b0 < 256 → a1 < 256 → b1 < 256 → c < 256 → highFour a0 b0 a1 b1 c + c ≤ 255
-high-le a0 b0 a1 b1 c h0 h1 h2 h3 hc = rw (high-two a0 b0 a1 b1 c) (omega (arith, top-two a0 b0 a1 b1 h0 h1 h2 h3))
-
-pub low-le : (a0 b0 a1 b1 c : ℕ) → lowFour a0 b0 a1 b1 c ≤ c
-low-le a0 b0 a1 b1 c = rw (low-two a0 b0 a1 b1 c) (omega arith)
 
 high-three : (x y z c : ℕ) → max (x - c) (max (y - c) (z - c)) ≡ max (max x c) (max y z) - c
 high-three x y z c = rw (less-max y z c) (less-max x (max y z) c ∙ with-centre (max y z))

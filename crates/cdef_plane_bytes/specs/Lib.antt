@@ -1,5 +1,4 @@
 -- Sixteen samples at once in bytes, and their laws.
-pub mod Byte
 pub mod ByteLaws
 pub mod FinishLaws
 pub mod Eights

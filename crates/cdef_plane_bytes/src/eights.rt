@@ -1,12 +1,11 @@
 // Rows of eight samples of a block, two at a time, their taps straight from the plane.
 ghost use mathlib.Core.Path.{_≡_};
 ghost use Prim.Native.Nat.{ℕ, _+_, _-_, _*_, _≤_, _<_};
-ghost use lib.ListN.{getD, length};
+ghost use lib.ListN.{length};
 ghost use Rattle.cdef_sample.specs.Upto.{upto};
 ghost use Rattle.cdef_rows.specs.Sums.{filteredAt};
 ghost use Rattle.cdef_plane_rows.specs.Rows.{Along, Around, priIn, secIn, placed, Stored};
 ghost use Rattle.cdef_plane_bytes.specs.Eights.{AllByte, Strong8, eightAt, centreRun8, onRun8, backRun8};
-use crate::byte;
 use crate::lanes;
 use cdef_rows::Taps;
 
@@ -34,7 +33,7 @@ fn run(src: &[u16], w: usize, k: usize) -> [u8; 16]
     let v = gather(src, w, k);
     let mut b = [0u8; 16];
     for j in 0..16usize {
-        b[j] = byte::narrow(v[j]);
+        b[j] = plane_byte::narrow(v[j]);
     }
     b
 }
@@ -146,5 +145,5 @@ pub fn rows(
         let v = both(src, w, at + 2 * i * w, t, s, sh, near, s2, sh2);
         keep(&mut all, i * 16, v);
     }
-    cdef_plane_rows::eights::store(dst, w, to, &all, 2 * n);
+    cdef_plane_rows::store(dst, w, to, &all, 2 * n);
 }

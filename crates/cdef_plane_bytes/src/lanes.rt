@@ -1,9 +1,9 @@
 // Sixteen samples from their taps, each list of taps in the samples' order.
 ghost use mathlib.Core.Path.{_≡_};
-ghost use Prim.Native.Nat.{ℕ, _≤_, _<_};
+ghost use Prim.Native.Nat.{_≤_, _<_};
 ghost use lib.ListN.{getD};
 ghost use Rattle.cdef_sample.specs.Upto.{upto};
-ghost use Rattle.cdef_plane_bytes.specs.Byte.{Mask, bothOf};
+ghost use Rattle.plane_byte.specs.Byte.{Mask, bothOf};
 use crate::byte;
 
 // The samples filtered with both strengths.

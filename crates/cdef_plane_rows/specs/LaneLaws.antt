@@ -17,7 +17,7 @@ use Rattle.cdef_rows.specs.Place.{onFrom, backFrom}
 use Rattle.cdef_rows.specs.Pairs.{pairOf}
 use Rattle.cdef_rows.specs.Sums.{InRange, priAt, secAt, lowAt, highAt, filteredAt}
 use Rattle.cdef_rows.proofs.Bounds.{size-pri, size-sec}
-use Rattle.cdef_rows.specs.declared.both.Pair.{Pair}
+use Rattle.rows_limits.specs.declared.Pair.{Pair}
 use Rattle.cdef_rows.specs.declared.Taps.{Taps}
 use Rattle.cdef_rows.specs.declared.Strength.{Strength}
 use Rattle.cdef_kernel.specs.Kernel.{kernelAt}

@@ -2,6 +2,4 @@
 pub mod Rows
 pub mod ReachLaws
 pub mod LaneLaws
-pub mod RunLaws
-pub mod FourLaws
 pub mod StoreLaws

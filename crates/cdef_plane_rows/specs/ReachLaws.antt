@@ -1,12 +1,11 @@
--- Where the taps of a row, or of four rows of four, lie.
-use mathlib.Core.Path.{_≡_, refl, sym, ap, _∙_}
-use Prim.Native.Nat.{ℕ, _+_, _-_, _*_, _/_, _%_, _^_, _≤_, _<_}
-use native.Mathlib.Nat.{mul-le-mul-right}
+-- Where the taps of a row lie.
+use mathlib.Core.Path.{_≡_}
+use Prim.Native.Nat.{ℕ, _+_, _%_, _^_, _≤_, _<_}
 use native.Mathlib.Omega.{arith}
 use Rattle.cdef_rows.specs.Place.{onFrom, backFrom}
 use Rattle.cdef_rows.specs.declared.Taps.{Taps}
 use Rattle.cdef_plane_taps.specs.StepLaws.{on-near, back-near, on-more, back-more}
-use Rattle.cdef_plane_rows.specs.Rows.{Reached, Reached6, Along, Around, fourAt}
+use Rattle.cdef_plane_rows.specs.Rows.{Reached, Reached6, Along, Around}
 
 -- the index from which an offset leads to k
 pub back-any : (k o r : ℕ) → o < 2 ^ 64 → r < 2 ^ 64 → (r + o) % 2 ^ 64 ≡ k → r ≡ backFrom k o
@@ -54,32 +53,3 @@ reached-all a j h = record {
   r0 = reached (a .r0) j h;
   r1 = reached (a .r1) j h;
 }
-
--- ---- sample j of four rows of four lies before the run's end
-
-pub four-in : (w j : ℕ) → j < 16 → j / 4 * w + j % 4 < 3 * w + 4
-four-in w j h =
-    let a : j / 4 ≤ 3 = omega arith in
-    let b : j / 4 * w ≤ 3 * w = mul-le-mul-right w a in
-    omega arith
-
-module _ (w : ℕ) {len k o : ℕ} (a : Along len k (3 * w + 4) o) (j : ℕ) (h : j < 16) where
-  pub on-four : onFrom (fourAt w k j) o ≡ fourAt w (onFrom k o) j
-  unfolding fourAt
-  on-four = on-along a (j / 4 * w + j % 4) (four-in w j h)
-
-  pub back-four : backFrom (fourAt w k j) o ≡ fourAt w (backFrom k o) j
-  unfolding fourAt
-  back-four = back-along a (j / 4 * w + j % 4) (four-in w j h)
-
--- sample j of row i
-pub four-place : (w k i j : ℕ) → j < 4 → fourAt w k (i * 4 + j) ≡ k + i * w + j
-unfolding fourAt
-four-place w k i j h =
-    let a : (i * 4 + j) / 4 ≡ i = omega arith in
-    let b : (i * 4 + j) % 4 ≡ j = omega arith in
-    rw (a, b) (omega arith)
-
--- a row of four before the run's end
-pub row-low : (w i : ℕ) → i < 4 → i * w ≤ 3 * w
-row-low w i h = let a : i ≤ 3 = omega arith in mul-le-mul-right w a

@@ -1,7 +1,7 @@
 -- What is stored, row by row, is the block of the kernel's samples.
 use mathlib.Core.Path.{_≡_, refl, sym, ap, _∙_}
 use mathlib.Core.List.{List}
-use Prim.Native.Nat.{ℕ, zero, suc, _+_, _-_, _*_, _/_, _%_, _≤_, _<_}
+use Prim.Native.Nat.{ℕ, zero, suc, _+_, _-_, _*_, _≤_, _<_}
 use native.Mathlib.Decide.{decLe, ℕ-discrete}
 use native.Mathlib.Numerals.{add-one}
 use native.Mathlib.Omega.{arith}
@@ -11,13 +11,12 @@ use lib.Seq.{getD-set-same, getD-set-other}
 use Rattle.cdef_spec.specs.Standard.{Tap, sample}
 use Rattle.cdef_spec.specs.Document01.{unmarked, orElse}
 use Rattle.cdef_spec.specs.LoopForm.{put, putRow, putBlock}
-use Rattle.cdef_sample.specs.Upto.{upto, getD-upto}
 use Rattle.cdef_rows.specs.Sums.{InRange}
 use Rattle.cdef_rows.specs.declared.Taps.{Taps}
 use Rattle.cdef_rows.specs.declared.Strength.{Strength}
 use Rattle.cdef_kernel.specs.Kernel.{kernelAt}
 use Rattle.cdef_plane_taps.specs.Plain.{AllLow}
-use Rattle.cdef_plane_rows.specs.Rows.{fourAt, placed, placedRows, KernelRows, insideTap, Stored}
+use Rattle.cdef_plane_rows.specs.Rows.{placed, placedRows, KernelRows, insideTap, Stored}
 use Rattle.cdef_plane_rows.specs.LaneLaws.{kernel-below}
 
 -- ---- one entry more
@@ -127,14 +126,3 @@ module _ (l : List ℕ) (low : AllLow l) (w at : ℕ) (t : Taps) (f g : Strength
 
   pub stored : (d last v : List ℕ) (to i n : ℕ) → i ≡ n → KernelRows l v w at t f g 8 i → last ≡ placedRows d w to v 8 n → Stored l d last w at to t f g 8 n
   stored d last v to i n e k h = record { block = λ y x p. h ∙ rows-inside d v to y x 8 n p (rw e at k) }
-
-  entry : (v : List ℕ) (n j : ℕ) → n < 4 → j < 4 → v ≡ upto (λ j. kernelAt l (fourAt w at j) t f g) 16 → getD v (n * 4 + j) 0 ≡ kernelAt l (at + n * w + j) t f g
-  unfolding fourAt
-  entry v n j hn k h =
-      let a : (n * 4 + j) / 4 ≡ n = omega arith in
-      let b : (n * 4 + j) % 4 ≡ j = omega arith in
-      let s : at + (n * w + j) ≡ at + n * w + j = omega arith in
-      rw (h, getD-upto (λ (j : ℕ). kernelAt l (at + (j / 4 * w + j % 4)) t f g) 16 (n * 4 + j) 0 (omega arith), a, b, s)
-
-  pub four-inside : (d v : List ℕ) (to y x : ℕ) → to ≡ y * w + x → v ≡ upto (λ j. kernelAt l (fourAt w at j) t f g) 16 → placedRows d w to v 4 4 ≡ putBlock d w (insideTap l w at t f g y x) y x 4 4
-  four-inside d v to y x e h = rows-inside d v to y x 4 4 e (record { all = λ i j hi hj. entry v i j hi hj h })

@@ -7,7 +7,7 @@ use lib.IntN.{ℤ, pos, negℤ, natAbs, _+ℤ_}
 use lib.Signed.{ltZ}
 use Rattle.cdef_sample.specs.Sample.{conOf, underOf, finishOf}
 use Rattle.cdef_rows.specs.declared.Strength.{Strength}
-use Rattle.cdef_rows.specs.declared.both.Pair.{Pair}
+use Rattle.rows_limits.specs.declared.Pair.{Pair}
 use Rattle.cdef_rows.specs.Pairs.{weighed}
 use Rattle.cdef_plane_taps.specs.declared.plain.Part.{Part}
 

@@ -17,7 +17,7 @@ use Rattle.cdef_rows.specs.Place.{onFrom, backFrom, tapOn, tapBack}
 use Rattle.cdef_spec.specs.SignedLaws.{size-add, size-scale}
 use Rattle.cdef_rows.specs.Sums.{InRange, pairAt, lowPair, highPair, priAt, nearAt, farAt, secAt, lowAt, highAt, filteredAt}
 use Rattle.cdef_rows.specs.Pairs.{pairOf, weighed}
-use Rattle.cdef_rows.specs.declared.both.Pair.{Pair}
+use Rattle.rows_limits.specs.declared.Pair.{Pair}
 use Rattle.cdef_rows.specs.declared.Taps.{Taps}
 use Rattle.cdef_rows.specs.declared.Strength.{Strength}
 use Rattle.cdef_plane_taps.specs.Plain.{heldOf, AllLow, pairPlain, priPlain, secPlain, lowTwo, highTwo, firstOf, lastOf}

@@ -6,7 +6,7 @@ ghost use Rattle.cdef_sample.specs.Sample.{conOf};
 ghost use Rattle.cdef_rows.specs.Sums.{InRange};
 ghost use Rattle.cdef_plane_taps.specs.Plain.{heldOf, Low, Bounded, pairPlain, priPlain, secPlain, lowTwo, highTwo, firstOf, lastOf};
 use cdef_rows::Strength;
-use cdef_rows::both::Pair;
+use rows_limits::Pair;
 
 // the primary taps' sum, and the least and the greatest of them and the centre
 pub struct Part {

@@ -20,8 +20,8 @@ use Rattle.cdef_sample.specs.Upto.{upto, upto-all-of}
 use Rattle.cdef_rows.specs.Sums.{InRange, pairAt, highPair, priAt, nearAt, farAt, secAt, lowAt, highAt}
 use Rattle.cdef_rows.specs.SumsLaws.{high-pair-le}
 use Rattle.cdef_rows.specs.Pairs.{conTap, pairSum, weighed, priSum, secSum}
-use Rattle.cdef_rows.specs.declared.both.Pair.{Pair}
-use Rattle.cdef_rows.specs.declared.both.Pairs.{Pairs}
+use Rattle.rows_limits.specs.declared.Pair.{Pair}
+use Rattle.rows_limits.specs.declared.Pairs.{Pairs}
 use Rattle.cdef_rows.specs.declared.Taps.{Taps}
 use Rattle.cdef_rows.specs.declared.Strength.{Strength}
 

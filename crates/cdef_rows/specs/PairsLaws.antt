@@ -13,7 +13,8 @@ use Rattle.cdef_sample.specs.SampleLaws.{con-above, finish-mark}
 use Rattle.cdef_sample.specs.Bounds.{Held}
 use Rattle.cdef_rows.specs.Place.{onFrom, backFrom, tapOn, tapBack}
 use Rattle.cdef_rows.specs.Sums.{pairAt, lowPair, highPair, priAt, nearAt, farAt, secAt, lowAt, highAt, filteredAt}
-use Rattle.cdef_rows.specs.Pairs.{HeldPair, HeldPairs, pairOf, pairsOf, conTap, pairSum, weighed, priSum, secSum, leastOf, unmarkedOf, mostOf, lowestOf, highestOf}
+use Rattle.cdef_rows.specs.Pairs.{pairOf, pairsOf, conTap, pairSum, weighed, priSum, secSum}
+use Rattle.rows_limits.specs.Limits.{HeldPair, HeldPairs, leastOf, unmarkedOf, mostOf, lowestOf, highestOf}
 use Rattle.cdef_rows.specs.declared.Taps.{Taps}
 use Rattle.cdef_rows.specs.declared.Strength.{Strength}
 
@@ -28,22 +29,6 @@ con-mark t c s sh e = rw (eq-eqb t 16384 e)
 pub con-tap : (t c s sh : ℕ) → (t ≡ 16384 → ⊥) → conTap t c s sh ≡ conOf t c s sh
 unfolding conTap
 con-tap t c s sh n = rw (ne-eqb t 16384 n)
-
-pub unmarked-mark : (t : ℕ) → t ≡ 16384 → unmarkedOf t ≡ 0
-unfolding unmarkedOf
-unmarked-mark t e = rw (eq-eqb t 16384 e)
-
-pub unmarked-tap : (t : ℕ) → (t ≡ 16384 → ⊥) → unmarkedOf t ≡ t
-unfolding unmarkedOf
-unmarked-tap t n = rw (ne-eqb t 16384 n)
-
-pub unmarked-le : (t : ℕ) → unmarkedOf t ≤ t
-unfolding unmarkedOf
-unmarked-le t = go (eqb t 16384)
-  where
-    go : (b : Bool) → cond b 0 t ≤ t
-    go true = omega arith
-    go false = omega arith
 
 -- the same limits together with a centre, as records, so that the numbers can be inferred
 record Low (c a b : ℕ) : Type 0 where

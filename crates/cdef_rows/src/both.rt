@@ -5,25 +5,12 @@ ghost use lib.IntN.{natAbs};
 ghost use Rattle.cdef_sample.specs.Bounds.{Held};
 ghost use Rattle.cdef_rows.specs.Place.{Near};
 ghost use Rattle.cdef_rows.specs.Sums.{Near6, InRange, filteredAt};
-ghost use Rattle.cdef_rows.specs.Pairs.{HeldPair, HeldPairs, pairOf, pairsOf, conTap, pairSum, weighed, priSum, secSum, leastOf, unmarkedOf, mostOf, lowestOf, highestOf};
+ghost use Rattle.cdef_rows.specs.Pairs.{pairOf, pairsOf, conTap, pairSum, weighed, priSum, secSum};
+ghost use Rattle.rows_limits.specs.Limits.{HeldPair, HeldPairs};
 use crate::Strength;
 use crate::Taps;
-
-// a tap and its opposite, as the window holds them
-pub struct Pair {
-    pub on: u16,
-    pub back: u16,
-}
-
-// the taps of a sample
-pub struct Pairs {
-    pub p0: Pair,
-    pub p1: Pair,
-    pub q0: Pair,
-    pub q1: Pair,
-    pub r0: Pair,
-    pub r1: Pair,
-}
+use rows_limits::Pair;
+use rows_limits::Pairs;
 
 fn load_pair(w: &[u16; 144], k: usize, o: usize) -> Pair
     requires { ⌜ (26 ≤ k) × (k ≤ 117) × Near o ⌝ }
@@ -95,51 +82,6 @@ fn sec_sum(e: Pairs, c: u16, f: Strength) -> i16
     weigh(a, b, f)
 }
 
-// The lesser of two taps. The mark is above each sample.
-fn least_of(p: Pair) -> u16
-    requires { ⌜ HeldPair p ⌝ }
-    ensures { λ r. ⌜ (r ≡ leastOf p) × (r ≤ 16384) ⌝ }
-{
-    cdef_sample::least(p.on, p.back)
-}
-
-// A tap; 0 where it is marked.
-fn unmarked(t: u16) -> u16
-    ensures { λ r. ⌜ r ≡ unmarkedOf t ⌝ }
-{
-    if t == 16384 { 0 } else { t }
-}
-
-// The greater of two taps that are not marked.
-fn most_of(p: Pair) -> u16
-    requires { ⌜ HeldPair p ⌝ }
-    ensures { λ r. ⌜ (r ≡ mostOf p) × (r ≤ 16384) ⌝ }
-{
-    cdef_sample::most(unmarked(p.on), unmarked(p.back))
-}
-
-// The least of the taps and the centre.
-fn lowest(e: Pairs, c: u16) -> u16
-    requires { ⌜ HeldPairs e × (c ≤ 16384) ⌝ }
-    ensures { λ r. ⌜ (r ≡ lowestOf e c) × (r ≤ 16384) ⌝ }
-{
-    let p = cdef_sample::least(least_of(e.p0), least_of(e.p1));
-    let q = cdef_sample::least(least_of(e.q0), least_of(e.q1));
-    let r = cdef_sample::least(least_of(e.r0), least_of(e.r1));
-    cdef_sample::least(cdef_sample::least(p, q), cdef_sample::least(r, c))
-}
-
-// The greatest of them.
-fn highest(e: Pairs, c: u16) -> u16
-    requires { ⌜ HeldPairs e × (c ≤ 16384) ⌝ }
-    ensures { λ r. ⌜ (r ≡ highestOf e c) × (r ≤ 16384) ⌝ }
-{
-    let p = cdef_sample::most(most_of(e.p0), most_of(e.p1));
-    let q = cdef_sample::most(most_of(e.q0), most_of(e.q1));
-    let r = cdef_sample::most(most_of(e.r0), most_of(e.r1));
-    cdef_sample::most(cdef_sample::most(p, q), cdef_sample::most(r, c))
-}
-
 // The filtered sample at k. It has one caller, a loop, so that the compiler inlines it there.
 pub fn both_at(w: &[u16; 144], k: usize, t: Taps, f: Strength, g: Strength) -> u16
     requires { ⌜ (26 ≤ k) × (k ≤ 117) × Held (now w) × Near6 t × InRange f × InRange g ⌝ }
@@ -148,5 +90,10 @@ pub fn both_at(w: &[u16; 144], k: usize, t: Taps, f: Strength, g: Strength) -> u
     let c = w[k];
     let e = load_pairs(w, k, t);
     let sum = cdef_sample::add(pri_sum(e, c, f), sec_sum(e, c, g));
-    cdef_sample::finish(c, sum, lowest(e, c), highest(e, c))
+    cdef_sample::finish(
+        c,
+        sum,
+        rows_limits::lowest(e, c),
+        rows_limits::highest(e, c),
+    )
 }

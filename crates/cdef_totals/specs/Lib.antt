@@ -3,3 +3,6 @@ pub mod FoldLaws
 pub mod TotalBounds
 -- A list set to zero.
 pub mod ZeroLaws
+-- A distance added to a total.
+pub mod Small
+pub mod AddLaws

@@ -1,26 +1,23 @@
 -- Bounds of the sums that the trials share.
-use mathlib.Core.Path.{_≡_, refl, _∙_}
+use mathlib.Core.Path.{_≡_, refl}
 use mathlib.Core.List.{List}
 use Prim.Native.Nat.{ℕ, _*_, _≤_}
 use native.Mathlib.Omega.{arith}
 use lib.IntN.{ℤ}
 use lib.ListN.{getD, length, take}
-use Rattle.cdef_spec.specs.Standard.{Tap}
-use Rattle.cdef_spec.specs.LoopForm.{putRow}
-use Rattle.cdef_spec.specs.PlaneLaws.{length-put-row}
 use Rattle.cdef_sample.specs.Bounds.{Held}
 use Rattle.cdef_sample.specs.Upto.{upto}
 use Rattle.cdef_rows.specs.declared.Taps.{Taps}
 use Rattle.cdef_rows.specs.declared.Strength.{Strength}
 use Rattle.cdef_rows.specs.Sums.{InRange, priAt, secAt, lowAt, highAt}
 use Rattle.cdef_rows.proofs.Bounds.{size-pri, size-sec, low-le, high-le}
-use Rattle.cdef_trial.specs.Trial.{placeOf, HeldTo, WithinTo, PriKnown, PriWithin, firstLaid, fourLaid}
-use Rattle.cdef_trial.specs.declared.PriSums.{PriSums}
-use Rattle.cdef_trial.specs.PutLaws.{held-to, within-to}
-
--- a store keeps the length
-pub long-after : (d e : List ℕ) (f : ℕ → ℕ → Tap) (t n : ℕ) → e ≡ putRow d 64 f t 0 n → length d ≡ 768 → length e ≡ 768
-long-after d e f t n q l = rw q (length-put-row 64 f d t 0 n ∙ l)
+use Rattle.cdef_trial.specs.Trial.{firstLaid}
+use Rattle.trial_four.specs.Four.{PriWithin, fourLaid}
+use Rattle.trial_put.specs.Put.{HeldTo, WithinTo}
+use Rattle.trial_sums.specs.Known.{placeOf, PriKnown}
+use Rattle.trial_sums.specs.declared.PriSums.{PriSums}
+use Rattle.trial_four.proofs.Stored.{long-after}
+use Rattle.trial_put.specs.PutLaws.{held-to, within-to}
 
 pub wider : {l : List ℤ} {m n : ℕ} → WithinTo l m n → m ≤ 7680 → WithinTo l 7680 n
 wider {l} {m} {n} w h = record { all = λ k b. omega (arith, w .all k b) }

@@ -7,11 +7,13 @@ use lib.ListN.{getD, take}
 use Rattle.cdef_sample.specs.Upto.{upto}
 use Rattle.cdef_rows.specs.declared.Strength.{Strength}
 use Rattle.cdef_rows.specs.Sums.{secAt}
-use Rattle.cdef_trial.specs.declared.Twelve.{Twelve}
-use Rattle.cdef_trial.specs.declared.PriSums.{PriSums}
-use Rattle.cdef_trial.specs.declared.Limits.{Limits}
-use Rattle.cdef_trial.specs.Trial.{placeOf, fourLaid, fourPut, PriKnown, LimitsKnown}
-use Rattle.cdef_trial.specs.PutLaws.{sec-from, both-from}
+use Rattle.trial_strengths.specs.declared.Twelve.{Twelve}
+use Rattle.trial_sums.specs.declared.PriSums.{PriSums}
+use Rattle.trial_sums.specs.declared.Limits.{Limits}
+use Rattle.cdef_trial.specs.Trial.{fourPut}
+use Rattle.trial_four.specs.Four.{fourLaid}
+use Rattle.trial_sums.specs.Known.{placeOf, PriKnown, LimitsKnown}
+use Rattle.cdef_trial.specs.FromLaws.{sec-from, both-from}
 
 pub four-is : (d win : List ℕ) (u : Twelve) (g : Strength) (t w h : ℕ) → w ≤ 8 → (c : List ℕ) (p : PriSums) (e : Limits) (z s : List ℤ)
     → take (h * 8) c ≡ upto (λ (k : ℕ). getD win (placeOf k) 0) (h * 8) → PriKnown win (u .own) (u .p1) (u .p2) (u .p3) h p → LimitsKnown win (u .own) h e

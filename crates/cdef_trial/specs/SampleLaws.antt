@@ -23,7 +23,7 @@ use Rattle.cdef_window.specs.Window.{windowAt}
 use Rattle.cdef_kernel.specs.Kernel.{tapsOf, priOf, secOf}
 use Rattle.cdef_kernel.specs.KernelLaws.{centre-sample, pri-sample, sec-sample, both-sample}
 use Rattle.cdef_trial.specs.Trial.{centreTap, priTap, secTap, fullTap, priBy, secBy, trialTap}
-use Rattle.cdef_trial.specs.Strengths.{adjustedBy, twelveOf}
+use Rattle.trial_strengths.specs.Strengths.{adjustedBy, twelveOf}
 
 -- the filter parameters of a trial of the pair a, b
 abbrev tried : TrialWay → ℕ → ℕ → WorkingDamping → ℕ → ℕ → FilterParams

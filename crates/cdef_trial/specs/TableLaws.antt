@@ -23,7 +23,7 @@ use Rattle.cdef_sample.specs.Bounds.{Held}
 use Rattle.cdef_sample.specs.Upto.{upto}
 use Rattle.cdef_window.specs.Window.{windowAt}
 use Rattle.cdef_trial.specs.Trial.{trialTap}
-use Rattle.cdef_trial.specs.Strengths.{twelveOf}
+use Rattle.trial_strengths.specs.Strengths.{twelveOf}
 use Rattle.cdef_trial.specs.SampleLaws.{trial-tap}
 
 module _ (p : Plane) (b : Block) (way : TrialWay) (dir : ℕ) (damping : WorkingDamping) (depth : ℕ) (d : List ℕ) (hw : b .width ≤ 8) (hh : b .height ≤ 8) (hd : dir < 8) (held : Held (upto (windowAt p b) 144)) (long : length d ≡ 768) where

@@ -7,13 +7,16 @@ use Rattle.cdef_spec.specs.Standard.{Tap}
 use Rattle.cdef_spec.specs.LoopForm.{putRow, putBlock}
 use Rattle.cdef_spec.specs.PlaneLaws.{row-same}
 use Rattle.cdef_sample.specs.Upto.{upto}
-use Rattle.cdef_trial.specs.declared.Twelve.{Twelve}
-use Rattle.cdef_trial.specs.declared.PriSums.{PriSums}
-use Rattle.cdef_trial.specs.declared.Limits.{Limits}
-use Rattle.cdef_trial.specs.declared.SecSums.{SecSums}
-use Rattle.cdef_trial.specs.Trial.{placeOf, freeTap, centreTap, priTap, secTap, fullTap, priBy, secBy, trialTap, firstLaid, fourLaid, fourPut, PriKnown, Known}
+use Rattle.trial_strengths.specs.declared.Twelve.{Twelve}
+use Rattle.trial_sums.specs.declared.PriSums.{PriSums}
+use Rattle.trial_sums.specs.declared.Limits.{Limits}
+use Rattle.trial_sums.specs.declared.SecSums.{SecSums}
+use Rattle.cdef_trial.specs.Trial.{centreTap, priTap, secTap, fullTap, priBy, secBy, trialTap, firstLaid, fourPut, Known}
+use Rattle.trial_four.specs.Four.{fourLaid}
+use Rattle.trial_put.specs.Put.{freeTap}
+use Rattle.trial_sums.specs.Known.{placeOf, PriKnown}
 use Rattle.cdef_trial.specs.FourLaws.{four-is}
-use Rattle.cdef_trial.specs.PutLaws.{centre-from, pri-from}
+use Rattle.cdef_trial.specs.FromLaws.{centre-from, pri-from}
 
 module _ (win : List ℕ) (u : Twelve) (w n : ℕ) where
   -- a store by a trial's own tap is one by the taps of all twelve

@@ -10,8 +10,7 @@ ghost use Rattle.cdef_sample.specs.Upto.{upto};
 ghost use Rattle.cdef_window.specs.Window.{planeOf, windowAt};
 ghost use Rattle.cdef_window.specs.Spans.{InPlane};
 ghost use Rattle.cdef_trial.specs.Trial.{trialTap};
-ghost use Rattle.cdef_trial.specs.Strengths.{twelveOf};
-use crate::strengths;
+ghost use Rattle.trial_strengths.specs.Strengths.{twelveOf};
 use cdef_spec::Block;
 use cdef_spec::TrialWay;
 use cdef_spec::WorkingDamping;
@@ -30,7 +29,7 @@ pub fn trial_window(
     requires { ⌜ (dir < 8) × (damping .0 ≤ 31) × (8 ≤ depth) × (depth ≤ 12) ⌝ }
     ensures { λ _. ⌜ now (out .exit) ≡ putBlock (now (out .entry)) 64 (trialTap (now (win .entry)) (twelveOf way dir damping depth) (b .width)) 0 0 (b .height * b .width) 12 ⌝ }
 {
-    let u = strengths::strengths(way, dir, damping, depth);
+    let u = trial_strengths::strengths(way, dir, damping, depth);
     crate::candidates(out, b.width, b.height, win, u);
 }
 

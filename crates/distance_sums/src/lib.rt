@@ -46,16 +46,6 @@ pub fn products(a: &[u16; 64], b: &[u16; 64]) -> u32
     t
 }
 
-// (a - b)². The remainder changes nothing, as above.
-fn squared_difference(a: u16, b: u16) -> u32
-    requires { ⌜ (a < 4096) × (b < 4096) ⌝ }
-    ensures { λ r. ⌜ r ≡ squaredDifference a b ⌝ }
-{
-    let d = if a < b { b - a } else { a - b };
-    let w = (d % 4096) as u32;
-    w * w
-}
-
 // The sum of squared differences of 64 samples and 64 others.
 pub fn block_squares(a: &[u16; 64], b: &[u16; 64]) -> u32
     requires { ⌜ Below (now a) 4096 × Below (now b) 4096 ⌝ }
@@ -63,7 +53,7 @@ pub fn block_squares(a: &[u16; 64], b: &[u16; 64]) -> u32
 {
     let mut t = 0u32;
     for k in 0..64usize {
-        t = t + squared_difference(a[k], b[k]);
+        t = t + arith_square::squared_difference(a[k], b[k]);
     }
     t
 }
@@ -76,7 +66,7 @@ fn row_squares(o: &[u16], from: usize, d: &[u16], to: usize, n: usize) -> u32
 {
     let mut t = 0u32;
     for j in 0..n {
-        t = t + squared_difference(o[from + j], d[to + j]);
+        t = t + arith_square::squared_difference(o[from + j], d[to + j]);
     }
     t
 }

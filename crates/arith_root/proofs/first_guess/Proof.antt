@@ -1,4 +1,4 @@
--- `cdef_distance::root::first_guess` meets its contract.
+-- `arith_root::first_guess` meets its contract.
 use borrow.Author.Needs.{needs}
 use Prim.Native.Nat.{ℕ, _*_, _/_, _^_, _≤_}
 use native.Mathlib.Nat.{mul-le-mul-right}

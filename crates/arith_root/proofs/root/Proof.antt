@@ -1,4 +1,4 @@
--- `cdef_distance::root::root` meets its contract.
+-- `arith_root::root` meets its contract.
 use borrow.Author.Needs.{needs}
 use mathlib.Core.Path.{_≡_, sym, ap, subst}
 use mathlib.Core.Logic.{⊎-elim}

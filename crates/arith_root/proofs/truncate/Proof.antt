@@ -1,4 +1,4 @@
--- `cdef_distance::root::truncate` meets its contract.
+-- `arith_root::truncate` meets its contract.
 use borrow.Author.Needs.{needs}
 use mathlib.Core.Path.{sym, _∙_, subst}
 use Prim.Native.Nat.{ℕ, _+_, _-_, _*_, _/_, _%_, _^_, _≤_, _<_}

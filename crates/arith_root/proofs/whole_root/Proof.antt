@@ -1,4 +1,4 @@
--- `cdef_distance::root::whole_root` meets its contract.
+-- `arith_root::whole_root` meets its contract.
 use Prim.Native.Nat.{ℕ, zero, suc, _+_, _*_, _/_, _^_, _≤_, _<_}
 use native.Mathlib.Nat.{le-div-iff-mul-le, div-le-self, zero-lt-suc}
 use native.Mathlib.Omega.{arith}

@@ -1,4 +1,4 @@
--- `cdef_distance::root::wide_root` meets its contract.
+-- `arith_root::wide_root` meets its contract.
 use borrow.Author.Needs.{needs}
 use native.Mathlib.Omega.{arith}
 use Prim.Native.Nat.{ℕ, _-_, _*_, _/_, _%_, _^_}

@@ -13,7 +13,7 @@ use Rattle.cdef_apply.proofs.apply_row.Statement.{statement}
 use Rattle.cdef_apply.proofs.apply_row.Tie as tie
 use Rattle.cdef_apply.proofs.apply_row.Reads as reads
 use Rattle.cdef_apply.proofs.apply_row.Lts as lts
-use Rattle.cdef_apply.proofs.block.apply_block.Reads as apply-block-reads
+use Rattle.apply_blocks.proofs.apply_block.Reads as apply-block-reads
 
 abbrev Inv-loop : tie.InvT-loop
 Inv-loop dst₀ snapshot f w h skip dirs vars pris secs d by bx₀ bx-end dst bx = (dst ≡ rowApplied (pictureOf f skip dirs vars) d snapshot (pairsOf pris secs) by dst₀ bx) × (length dst ≡ length dst₀) × (bx ≤ f .width / 8)

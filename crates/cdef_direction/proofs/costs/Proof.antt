@@ -1,4 +1,4 @@
--- `cdef_direction::costs::costs` meets its contract.
+-- `cdef_direction::costs` meets its contract.
 use native.Mathlib.Omega.{arith}
 use Rattle.cdef_direction.specs.Found.{costList}
 use Rattle.cdef_direction.proofs.costs.Statement.{statement}

@@ -11,13 +11,14 @@ use Rattle.cdef_rows.specs.declared.Strength.{Strength}
 use Rattle.cdef_kernel.specs.Kernel.{kernelAt}
 use Rattle.cdef_spec.specs.LoopForm.{putRow, putBlock}
 use Rattle.cdef_spec.specs.PlaneLaws.{block-none, block-more}
-use Rattle.cdef_filter.specs.Store.{rowTap, windowTap}
+use Rattle.cdef_filter.specs.Store.{windowTap}
+use Rattle.filter_store.specs.Row.{rowTap}
 use Rattle.cdef_filter.specs.StoreLaws.{stored-row}
 use Rattle.cdef_filter.proofs.filter_rows.Statement.{statement}
 use Rattle.cdef_filter.proofs.filter_rows.Tie as tie
 use Rattle.cdef_filter.proofs.filter_rows.Reads as reads
 use Rattle.cdef_filter.proofs.filter_rows.Lts as lts
-use Rattle.cdef_filter.proofs.store_row.Reads as store-row-reads
+use Rattle.filter_store.proofs.store_row.Reads as store-row-reads
 use Rattle.cdef_kernel.proofs.kernel_row.Reads as kernel-row-reads
 
 abbrev Inv-loop : tie.InvT-loop

@@ -12,7 +12,7 @@ use Rattle.cdef_inside.proofs.filter_block.Reads as reads
 use Rattle.cdef_inside.proofs.filter_block.Lts as lts
 use Rattle.cdef_filter.proofs.cdef_filter_block.Reads as cdef-filter-block-reads
 use Rattle.cdef_inside.proofs.filter_inside.Reads as filter-inside-reads
-use Rattle.cdef_inside.proofs.inside.Reads as inside-reads
+use Rattle.inside_test.proofs.inside.Reads as inside-reads
 
 inner : (c : tie.Then1) → let a = c .before .before .before .before .args in Inner (a .w) (a .h) (a .x) (a .y) (a .bw) (a .bh)
 inner c = inner-is _ _ _ _ _ _ (sym (c .before .inside .ensures) ∙ c .if1 .taken)

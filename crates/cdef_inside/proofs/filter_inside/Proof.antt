@@ -25,7 +25,7 @@ use Rattle.cdef_inside.proofs.filter_inside.Tie as tie
 use Rattle.cdef_inside.proofs.filter_inside.Reads as reads
 use Rattle.cdef_inside.proofs.filter_inside.Lts as lts
 use Rattle.cdef_inside.proofs.rows.eight_wide.Reads as eight-wide-reads
-use Rattle.cdef_plane_rows.proofs.fours.rows.Reads as fours-rows-reads
+use Rattle.plane_fours.proofs.rows.Reads as fours-rows-reads
 use Rattle.cdef_kernel.proofs.from_one.Reads as from-one-reads
 use Rattle.cdef_kernel.proofs.primary.Reads as primary-reads
 use Rattle.cdef_kernel.proofs.secondary.Reads as secondary-reads

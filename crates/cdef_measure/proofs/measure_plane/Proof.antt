@@ -7,8 +7,8 @@ use lib.ListN.{length, replicate}
 use Rattle.cdef_spec.specs.Picture.{units}
 use Rattle.cdef_spec.specs.LoopForm.{signed, measureRows}
 use Rattle.cdef_frame.specs.Frame.{pictureOf}
-use Rattle.measure_blocks.specs.Measure.{Lent, measuredDistance}
-use Rattle.measure_blocks.specs.AddLaws.{rows-step, row-small, scratch-is, totals-none, totals-all}
+use Rattle.cdef_measure.specs.Measure.{Lent, measuredDistance}
+use Rattle.cdef_measure.specs.AddLaws.{rows-step, row-small, scratch-is, totals-none, totals-all}
 use Rattle.cdef_measure.proofs.measure_plane.Statement.{statement}
 use Rattle.cdef_measure.proofs.measure_plane.Tie as tie
 use Rattle.cdef_measure.proofs.measure_plane.Reads as reads
@@ -16,7 +16,7 @@ use Rattle.cdef_measure.proofs.measure_plane.Lts as lts
 use Rattle.distance_weight.proofs.constants_of.Reads as constants-of-reads
 use Rattle.measure_rows.proofs.clear_scratch.Reads as clear-scratch-reads
 use Rattle.cdef_totals.proofs.clear_totals.Reads as clear-totals-reads
-use Rattle.measure_blocks.proofs.totals.measure_row.Reads as measure-row-reads
+use Rattle.cdef_measure.proofs.totals.measure_row.Reads as measure-row-reads
 
 abbrev Inv-loop : tie.InvT-loop
 Inv-loop totals₀ scratch₀ plane original f v skip dirs vars p d c by₀ by-end totals scratch by =

@@ -3,8 +3,8 @@ use mathlib.Core.Path.{_≡_, refl, ap, _∙_}
 use Prim.Native.Nat.{ℕ, _-_, _*_, _/_, _≤_}
 use native.Mathlib.Omega.{arith}
 use lib.ListN.{length}
-use Rattle.cdef_pass.specs.Pass.{PassIn, Filled}
-use Rattle.cdef_pass.specs.PassLaws.{pass-same, filled-none, filled-at, filled}
+use Rattle.pass_one.specs.Pass.{PassIn, Filled}
+use Rattle.pass_one.specs.PassLaws.{pass-same, filled-none, filled-at, filled}
 use Rattle.cdef_pass.proofs.direction_pass.Statement.{statement}
 use Rattle.cdef_pass.proofs.direction_pass.Tie as tie
 

@@ -3,8 +3,8 @@ use mathlib.Core.Path.{_≡_, refl, _∙_}
 use Prim.Native.Nat.{_+_, _-_, _*_, _/_, _≤_}
 use native.Mathlib.Omega.{arith}
 use lib.ListN.{length}
-use Rattle.cdef_pass.specs.Pass.{Filled}
-use Rattle.cdef_pass.specs.PassLaws.{pass-same, filled-at}
+use Rattle.pass_one.specs.Pass.{Filled}
+use Rattle.pass_one.specs.PassLaws.{pass-same, filled-at}
 use Rattle.cdef_pass.proofs.row.Statement.{statement}
 use Rattle.cdef_pass.proofs.row.Tie as tie
 

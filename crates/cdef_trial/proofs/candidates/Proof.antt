@@ -11,11 +11,11 @@ use Rattle.cdef_trial.proofs.candidates.Tie as tie
 use Rattle.cdef_trial.proofs.candidates.Reads as reads
 use Rattle.cdef_trial.proofs.candidates.Lts as lts
 use Rattle.cdef_trial.proofs.first_four.Reads as first-four-reads
-use Rattle.cdef_trial.proofs.four.Reads as four-reads
-use Rattle.cdef_trial.proofs.sums.centre_block.Reads as centre-block-reads
-use Rattle.cdef_trial.proofs.sums.limit_blocks.Reads as limit-blocks-reads
-use Rattle.cdef_trial.proofs.sums.pri_blocks.Reads as pri-blocks-reads
-use Rattle.cdef_trial.proofs.sums.sec_blocks.Reads as sec-blocks-reads
+use Rattle.trial_four.proofs.four.Reads as four-reads
+use Rattle.trial_sums.proofs.centre_block.Reads as centre-block-reads
+use Rattle.trial_sums.proofs.limit_blocks.Reads as limit-blocks-reads
+use Rattle.trial_sums.proofs.pri_blocks.Reads as pri-blocks-reads
+use Rattle.trial_sums.proofs.sec_blocks.Reads as sec-blocks-reads
 
 centre-block-requires : tie.Need-centre-block-requires
 centre-block-requires c κs = search needs

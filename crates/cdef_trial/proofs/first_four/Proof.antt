@@ -2,14 +2,15 @@
 use mathlib.Core.Path.{_∙_}
 use native.Mathlib.Omega.{arith}
 use borrow.Author.Needs.{needs}
-use Rattle.cdef_trial.proofs.Shared.{long-after, wider}
+use Rattle.trial_four.proofs.Stored.{long-after}
+use Rattle.cdef_trial.proofs.Shared.{wider}
 use borrow.Author.Needs.{needs}
 use Rattle.cdef_trial.proofs.first_four.Statement.{statement}
 use Rattle.cdef_trial.proofs.first_four.Tie as tie
 use Rattle.cdef_trial.proofs.first_four.Reads as reads
 use Rattle.cdef_trial.proofs.first_four.Lts as lts
-use Rattle.cdef_trial.proofs.put.put_free.Reads as put-free-reads
-use Rattle.cdef_trial.proofs.put.put_trial.Reads as put-trial-reads
+use Rattle.trial_put.proofs.put_free.Reads as put-free-reads
+use Rattle.trial_put.proofs.put_trial.Reads as put-trial-reads
 
 put-trial-requires : tie.Need-put-trial-requires
 put-trial-requires c κs = search needs

@@ -1,4 +1,4 @@
--- `cdef_direction::looked::cut_taken` meets its contract.
+-- `check_samples::cut_taken` meets its contract.
 use mathlib.Core.Path.{_≡_, _∙_}
 use mathlib.Core.List.{List}
 use Prim.Native.Nat.{ℕ, _+_, _-_, _*_, _/_, _^_, _≤_, _<_, min}

@@ -1,4 +1,4 @@
--- `cdef_direction::looked::row_bits` meets its contract.
+-- `check_samples::row_bits` meets its contract.
 use mathlib.Core.Path.{_≡_, _∙_}
 use Prim.Native.Nat.{_-_, _≤_}
 use native.Mathlib.Omega.{arith}

@@ -1,4 +1,4 @@
--- `cdef_direction::costs::best` meets its contract.
+-- `direction_best::best` meets its contract.
 use mathlib.Core.Path.{_≡_, refl}
 use mathlib.Core.Logic.{⊎-elim}
 use Prim.Native.Nat.{ℕ, _+_, _-_, _≤_, _<_}

@@ -1,4 +1,4 @@
--- `cdef_direction::costs::cost_straight` meets its contract.
+-- `direction_costs::cost_straight` meets its contract.
 use mathlib.Core.Path.{sym}
 use native.Mathlib.Omega.{arith}
 use Rattle.direction_costs.specs.Costs.{entry}

@@ -1,4 +1,4 @@
--- `cdef_direction::costs::one` meets its contract.
+-- `direction_costs::one` meets its contract.
 use mathlib.Core.Path.{_≡_, ap, _∙_}
 use Prim.Native.Nat.{_*_}
 use native.Mathlib.Omega.{arith}

@@ -1,4 +1,4 @@
--- `cdef_direction::costs::square_of` meets its contract.
+-- `direction_costs::square_of` meets its contract.
 use native.Mathlib.Omega.{arith}
 use mathlib.Core.Path.{ap}
 use lib.IntN.{natAbs}

@@ -1,4 +1,4 @@
--- `cdef_direction::costs::two` meets its contract.
+-- `direction_costs::two` meets its contract.
 use mathlib.Core.Path.{_≡_, ap, _∙_}
 use Prim.Native.Nat.{_+_, _*_}
 use native.Mathlib.Omega.{arith}

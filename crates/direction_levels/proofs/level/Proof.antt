@@ -1,4 +1,4 @@
--- `cdef_direction::levels::level` meets its contract.
+-- `direction_levels::level` meets its contract.
 use Rattle.direction_levels.proofs.Less128.{level-fits, level-back}
 use borrow.Author.Needs.{needs}
 use Rattle.direction_levels.proofs.level.Statement.{statement}

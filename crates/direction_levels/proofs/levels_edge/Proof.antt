@@ -1,4 +1,4 @@
--- `cdef_direction::levels::levels_edge` meets its contract.
+-- `direction_levels::levels_edge` meets its contract.
 use mathlib.Core.Path.{_≡_, refl, sym, ap}
 use Prim.Native.Nat.{ℕ, _+_, _-_, _*_, _/_, _%_, _≤_, _<_, min}
 use native.Mathlib.Omega.{arith}

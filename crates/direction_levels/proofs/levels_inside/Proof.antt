@@ -1,4 +1,4 @@
--- `cdef_direction::levels::levels_inside` meets its contract.
+-- `direction_levels::levels_inside` meets its contract.
 use mathlib.Core.Path.{_≡_, refl, sym}
 use Prim.Native.Nat.{ℕ, _+_, _-_, _*_, _/_, _%_, _≤_, _<_}
 use native.Mathlib.Omega.{arith}

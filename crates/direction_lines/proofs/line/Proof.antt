@@ -1,4 +1,4 @@
--- `cdef_direction::lines::line` meets its contract.
+-- `direction_lines::line` meets its contract.
 use Prim.Native.Nat.{_+_, _*_}
 use native.Mathlib.Omega.{arith}
 use lib.IntN.{_+ℤ_}

@@ -1,4 +1,4 @@
--- `cdef_direction::lines::pad` meets its contract.
+-- `direction_lines::pad` meets its contract.
 use mathlib.Core.Path.{sym, _∙_}
 use Prim.Native.Nat.{_+_, _-_, _*_}
 use native.Mathlib.Omega.{arith}

@@ -1,4 +1,4 @@
--- `cdef_direction::lines::pair` meets its contract.
+-- `direction_lines::pair` meets its contract.
 use mathlib.Core.Path.{refl}
 use Prim.Native.Nat.{ℕ, _+_}
 use native.Mathlib.Omega.{arith}

@@ -1,4 +1,4 @@
--- `cdef_distance::sums::block_of` meets its contract.
+-- `distance_sums::block_of` meets its contract.
 use mathlib.Core.Path.{_≡_, refl, sym}
 use Prim.Native.Nat.{ℕ, _+_, _-_, _*_, _/_, _%_, _≤_}
 use native.Mathlib.Omega.{arith}

@@ -1,4 +1,4 @@
--- `cdef_distance::sums::products` meets its contract.
+-- `distance_sums::products` meets its contract.
 use mathlib.Core.Path.{_≡_, ap, _∙_}
 use Prim.Native.Nat.{ℕ, _+_, _-_, _*_, _%_, _≤_}
 use native.Mathlib.Nat.{mul-le-mul, mod-eq-of-lt}

@@ -1,4 +1,4 @@
--- `cdef_distance::sums::row_squares` meets its contract.
+-- `distance_sums::row_squares` meets its contract.
 use mathlib.Core.Path.{_≡_, _∙_}
 use Prim.Native.Nat.{_+_, _-_, _*_, _≤_}
 use native.Mathlib.Omega.{arith}

@@ -1,4 +1,4 @@
--- `cdef_distance::sums::squares` meets its contract.
+-- `distance_sums::squares` meets its contract.
 use mathlib.Core.Path.{_≡_, _∙_}
 use Prim.Native.Nat.{ℕ, _+_, _-_, _*_, _≤_, _<_}
 use native.Mathlib.Omega.{arith}

@@ -1,4 +1,4 @@
--- `cdef_distance::weight::cdef_dist_from_sums` meets its contract: every number is far below 2 ^ 64, and both spreads and the squares are within the limit.
+-- `distance_weight::cdef_dist_from_sums` meets its contract: every number is far below 2 ^ 64, and both spreads and the squares are within the limit.
 use Prim.Native.Nat.{_≤_}
 use native.Mathlib.Omega.{arith}
 use Rattle.cdef_spec.specs.Distance.{squaresLimit}

@@ -1,4 +1,4 @@
--- `cdef_distance::weight::constants_of` meets its contract: neither shift loses a bit, and both numbers are below 2 ^ 53.
+-- `distance_weight::constants_of` meets its contract: neither shift loses a bit, and both numbers are below 2 ^ 53.
 use mathlib.Core.Path.{_≡_, sym, subst}
 use Prim.Native.Nat.{ℕ, _-_, _*_, _%_, _^_, _≤_}
 use native.Mathlib.Nat.{lt-of-le-of-lt, mod-eq-of-lt}

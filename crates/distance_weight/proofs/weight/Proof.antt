@@ -1,4 +1,4 @@
--- `cdef_distance::weight::weight` meets its contract: the code is the definition's sequence, with 0.5 by its bits, and the square root is that of a normal number.
+-- `distance_weight::weight` meets its contract: the code is the definition's sequence, with 0.5 by its bits, and the square root is that of a normal number.
 use mathlib.Core.Path.{ap, _∙_}
 use Prim.Native.Nat.{ℕ, _≤_}
 use native.Mathlib.Omega.{arith}

@@ -1,4 +1,4 @@
--- `cdef_distance::weight::weighted` meets its contract: the value that is truncated is the definition's, at least 0.5 and below 2 ^ 53.
+-- `distance_weight::weighted` meets its contract: the value that is truncated is the definition's, at least 0.5 and below 2 ^ 53.
 use mathlib.Core.Path.{_≡_, sym, ap, _∙_, subst}
 use Prim.Native.Nat.{ℕ, _≤_}
 use native.Mathlib.Omega.{arith}

@@ -1,4 +1,4 @@
--- `cdef_measure::clear_scratch` meets its contract.
+-- `measure_rows::clear_scratch` meets its contract.
 use mathlib.Core.Path.{_≡_, refl}
 use Prim.Native.Nat.{ℕ, _-_, _≤_, _<_}
 use native.Mathlib.Omega.{arith}

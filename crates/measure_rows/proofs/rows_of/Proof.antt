@@ -1,4 +1,4 @@
--- `cdef_measure::rows_of` meets its contract.
+-- `measure_rows::rows_of` meets its contract.
 use native.Mathlib.Omega.{arith}
 use borrow.Author.Needs.{needs}
 use Rattle.measure_rows.specs.SelectedLaws.{rows-scratch, rows-plane}

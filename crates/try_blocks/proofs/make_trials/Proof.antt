@@ -1,4 +1,4 @@
--- `cdef_try::make_trials` meets its contract.
+-- `try_blocks::make_trials` meets its contract.
 use mathlib.Core.Path.{_∙_}
 use Prim.Native.Nat.{_+_, _*_, _≤_, _<_}
 use native.Mathlib.Omega.{arith}

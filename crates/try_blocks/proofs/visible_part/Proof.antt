@@ -1,4 +1,4 @@
--- `cdef_try::visible_part` meets its contract.
+-- `try_blocks::visible_part` meets its contract.
 use native.Mathlib.Omega.{arith}
 use borrow.Author.Needs.{needs}
 use mathlib.Core.List.{[]}

@@ -1,4 +1,4 @@
--- `cdef_try::add_trials` meets its contract.
+-- `try_totals::add_trials` meets its contract.
 use mathlib.Core.Path.{_≡_, refl, ap, _∙_}
 use Prim.Native.Nat.{ℕ}
 use native.Mathlib.Omega.{arith}

@@ -12,7 +12,7 @@ use Rattle.cdef_inside.proofs.rows.eight_wide.Reads as reads
 use Rattle.cdef_inside.proofs.rows.eight_wide.Lts as lts
 use Rattle.cdef_inside.proofs.rows.in_bytes.Reads as in-bytes-reads
 use Rattle.cdef_plane_bytes.proofs.eights.rows.Reads as eights-rows-reads
-use Rattle.cdef_plane_rows.proofs.eights.rows.Reads as eights-rows-reads′
+use Rattle.cdef_plane_rows.proofs.rows.Reads as eights-rows-reads′
 use Rattle.cdef_plane_taps.proofs.steps.taps.Reads as taps-reads
 
 fit : (c : tie.Then1) → let a = c .before .before .before .before .args in Bytes (a .depth) (a .s) (a .sh) (a .s2) (a .sh2)

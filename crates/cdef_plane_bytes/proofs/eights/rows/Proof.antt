@@ -13,7 +13,7 @@ use Rattle.cdef_plane_bytes.proofs.eights.rows.Reads as reads
 use Rattle.cdef_plane_bytes.proofs.eights.rows.Lts as lts
 use Rattle.cdef_plane_bytes.proofs.eights.both.Reads as both-reads
 use Rattle.cdef_plane_bytes.proofs.eights.keep.Reads as keep-reads
-use Rattle.cdef_plane_rows.proofs.eights.store.Reads as store-reads
+use Rattle.cdef_plane_rows.proofs.store.Reads as store-reads
 
 -- where two rows fit, each does
 room : (w to len n : ℕ) → ((i : ℕ) → i < n → to + 2 * i * w + (w + 8) ≤ len) → (r : ℕ) → r < 2 * n → to + r * w + 8 ≤ len

@@ -11,7 +11,7 @@ use Rattle.cdef_plane_bytes.proofs.eights.run.Statement.{statement}
 use Rattle.cdef_plane_bytes.proofs.eights.run.Tie as tie
 use Rattle.cdef_plane_bytes.proofs.eights.run.Reads as reads
 use Rattle.cdef_plane_bytes.proofs.eights.run.Lts as lts
-use Rattle.cdef_plane_bytes.proofs.byte.narrow.Reads as narrow-reads
+use Rattle.plane_byte.proofs.narrow.Reads as narrow-reads
 use Rattle.cdef_plane_bytes.proofs.eights.gather.Reads as gather-reads
 
 abbrev Inv-loop : tie.InvT-loop

@@ -3,7 +3,8 @@ use mathlib.Core.Path.{_∙_}
 use native.Mathlib.Omega.{arith}
 use lib.ListN.{getD}
 use lib.IntN.{_+ℤ_}
-use Rattle.cdef_rows.specs.Pairs.{HeldPairs, priSum, secSum}
+use Rattle.cdef_rows.specs.Pairs.{priSum, secSum}
+use Rattle.rows_limits.specs.Limits.{HeldPairs}
 use Rattle.cdef_rows.specs.PairsLaws.{held-pairs, both-is}
 use Rattle.cdef_rows.proofs.Bounds.{size-pri-sum, size-sec-sum, small-back}
 use Rattle.cdef_sample.proofs.Joins.{Is, add-ok, add-is, back-is}
@@ -12,9 +13,9 @@ use Rattle.cdef_rows.proofs.both.both_at.Statement.{statement}
 use Rattle.cdef_rows.proofs.both.both_at.Tie as tie
 use Rattle.cdef_rows.proofs.both.both_at.Reads as reads
 use Rattle.cdef_rows.proofs.both.both_at.Lts as lts
-use Rattle.cdef_rows.proofs.both.highest.Reads as highest-reads
+use Rattle.rows_limits.proofs.highest.Reads as highest-reads
 use Rattle.cdef_rows.proofs.both.load_pairs.Reads as load-pairs-reads
-use Rattle.cdef_rows.proofs.both.lowest.Reads as lowest-reads
+use Rattle.rows_limits.proofs.lowest.Reads as lowest-reads
 use Rattle.cdef_rows.proofs.both.pri_sum.Reads as pri-sum-reads
 use Rattle.cdef_rows.proofs.both.sec_sum.Reads as sec-sum-reads
 use Rattle.cdef_sample.proofs.add.Reads as add-reads

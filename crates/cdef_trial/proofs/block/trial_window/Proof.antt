@@ -1,13 +1,13 @@
 -- `cdef_trial::trial_window` meets its contract.
 use mathlib.Core.Path.{_∙_}
-use Rattle.cdef_trial.specs.StrengthLaws.{twelve-ready}
+use Rattle.trial_strengths.specs.StrengthLaws.{twelve-ready}
 use borrow.Author.Needs.{needs}
 use Rattle.cdef_trial.proofs.block.trial_window.Statement.{statement}
 use Rattle.cdef_trial.proofs.block.trial_window.Tie as tie
 use Rattle.cdef_trial.proofs.block.trial_window.Reads as reads
 use Rattle.cdef_trial.proofs.block.trial_window.Lts as lts
 use Rattle.cdef_trial.proofs.candidates.Reads as candidates-reads
-use Rattle.cdef_trial.proofs.strengths.strengths.Reads as strengths-reads
+use Rattle.trial_strengths.proofs.strengths.Reads as strengths-reads
 
 strengths-requires : tie.Need-strengths-requires
 strengths-requires c κs = search needs

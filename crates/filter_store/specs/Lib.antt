@@ -1,0 +1,2 @@
+-- A row of a block, as it is stored.
+pub mod Row

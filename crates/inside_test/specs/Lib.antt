@@ -1,0 +1,2 @@
+-- Blocks two samples or more inside a plane.
+pub mod Inner

@@ -1,0 +1,2 @@
+-- Laws of eight blocks side by side.
+pub mod EightLaws

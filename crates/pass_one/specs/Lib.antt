@@ -1,0 +1,3 @@
+-- What a block's entries are, and the laws of the pass over the blocks.
+pub mod Pass
+pub mod PassLaws

@@ -1,0 +1,3 @@
+-- One sample from its taps in bytes, and its bounds.
+pub mod Byte
+pub mod ByteBounds

@@ -1,0 +1,3 @@
+-- A trial block as it is stored, and its laws.
+pub mod Put
+pub mod PutLaws

@@ -14,7 +14,7 @@ use Rattle.cdef_spec.specs.Document01.{primaries, secondaries, oneOf, isTrialPa
 use Rattle.cdef_spec.specs.Picture.{pairAt}
 use Rattle.cdef_spec.specs.FrameCalls.{pairsOf}
 use Rattle.cdef_spec.specs.OutcomeLaws.{length-pairs, pair-of}
-use Rattle.cdef_sample.specs.Upto.{upto, length-upto, getD-upto}
+use Rattle.arith_sample.specs.Upto.{upto, length-upto, getD-upto}
 use Rattle.agree_parts.specs.Parts.{trialPairs, copied}
 
 -- ---- a pair of the twelve

@@ -12,9 +12,9 @@ use Rattle.cdef_spec.specs.WordsLaws.{getD-table}
 use Rattle.cdef_spec.specs.Picture.{blockAt, units, unitAt, pairAt, isOff, written}
 use Rattle.cdef_spec.specs.GeometryLaws.{unit-low}
 use Rattle.cdef_spec.specs.FrameCalls.{pairsOf}
-use Rattle.cdef_frame.specs.declared.Frame.{Frame}
-use Rattle.cdef_frame.specs.Frame.{pictureOf}
-use Rattle.cdef_frame.specs.Lent.{Paired, unitsOf}
+use Rattle.frame_shape.specs.declared.Frame.{Frame}
+use Rattle.frame_shape.specs.Frame.{pictureOf}
+use Rattle.frame_shape.specs.Lent.{Paired, unitsOf}
 use Rattle.apply_blocks.specs.Blocks.{blockFiltered, blockApplied}
 
 -- ---- a unit's pair

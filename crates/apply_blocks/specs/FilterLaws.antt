@@ -12,13 +12,13 @@ use Rattle.cdef_spec.specs.Document01.{filtered}
 use Rattle.cdef_spec.specs.Picture.{blockWidth, blockHeight, planeWidth, planeHeight, blockAt, paramsFor, filteredBy}
 use Rattle.cdef_spec.specs.LoopForm.{putBlock}
 use Rattle.cdef_spec.specs.PlaneLaws.{block-same}
-use Rattle.cdef_window.specs.Window.{planeOf}
-use Rattle.cdef_window.specs.Spans.{InPlane}
-use Rattle.cdef_frame.specs.declared.Frame.{Frame}
-use Rattle.cdef_frame.specs.Frame.{Shaped, kindOf, pictureOf, blockOf}
-use Rattle.cdef_frame.specs.FrameLaws.{side-facts, width-is, height-is}
-use Rattle.cdef_frame.specs.Lent.{Sampled, samplesOf}
-use Rattle.cdef_frame.specs.BlockLaws.{cols-in, rows-in, number-low, block-in}
+use Rattle.filter_window.specs.Window.{planeOf}
+use Rattle.filter_window.specs.Spans.{InPlane}
+use Rattle.frame_shape.specs.declared.Frame.{Frame}
+use Rattle.frame_shape.specs.Frame.{Shaped, kindOf, pictureOf, blockOf}
+use Rattle.frame_shape.specs.FrameLaws.{side-facts, width-is, height-is}
+use Rattle.frame_shape.specs.Lent.{Sampled, samplesOf}
+use Rattle.frame_shape.specs.BlockLaws.{cols-in, rows-in, number-low, block-in}
 use Rattle.apply_blocks.specs.Blocks.{blockFiltered}
 
 -- ---- the block (by, bx)

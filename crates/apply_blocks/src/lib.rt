@@ -6,12 +6,12 @@ ghost use Prim.Native.Nat.{ℕ, _/_, _+_, _*_, _≤_, _<_};
 ghost use lib.ListN.{getD, length};
 ghost use Rattle.cdef_spec.specs.FrameCalls.{pairsOf};
 ghost use Rattle.cdef_spec.specs.Picture.{pairAt};
-ghost use Rattle.cdef_frame.specs.Frame.{Shaped, pictureOf};
-ghost use Rattle.cdef_frame.specs.Lent.{Listed, Sampled, Paired, InForce, blocksOf, samplesOf};
+ghost use Rattle.frame_shape.specs.Frame.{Shaped, pictureOf};
+ghost use Rattle.frame_shape.specs.Lent.{Listed, Sampled, Paired, InForce, blocksOf, samplesOf};
 ghost use Rattle.apply_blocks.specs.Blocks.{blockFiltered, blockApplied};
-use cdef_frame::Frame;
 use cdef_spec::SignalledDamping;
 use cdef_spec::UnitPair;
+use frame_shape::Frame;
 
 // The pair of unit u.
 fn pair_of(pris: &[u8], secs: &[u8], u: usize) -> UnitPair
@@ -43,9 +43,9 @@ fn filter_with(
     requires { ⌜ (w ≡ f .width / (1 + f .sx)) × (h ≡ f .height / (1 + f .sy)) × (by < f .height / 8) × (bx < f .width / 8) × (length (now dst) ≡ samplesOf f) ⌝ }
     ensures { λ _. ⌜ ((s : List ℕ) → now (dst .exit) ≡ blockFiltered (pictureOf f s (now (dirs .entry)) (now (vars .entry))) d (now (snapshot .entry)) p by bx (now (dst .entry))) ⌝ }
 {
-    let block = cdef_frame::geometry::block_of(f, by, bx);
-    let q = cdef_frame::params::params_for(f, dirs, vars, by * (f.width / 8) + bx, p, d);
-    cdef_inside::filter_block(
+    let block = frame_shape::geometry::block_of(f, by, bx);
+    let q = frame_shape::params::params_for(f, dirs, vars, by * (f.width / 8) + bx, p, d);
+    plane_block::filter_block(
         dst,
         0,
         snapshot,
@@ -86,8 +86,8 @@ pub fn apply_block(
     if skip[by * (f.width / 8) + bx] != 0 {
         return;
     }
-    let p = pair_of(pris, secs, cdef_frame::geometry::unit_at(f, by, bx));
-    if cdef_frame::params::is_off(p) {
+    let p = pair_of(pris, secs, frame_shape::geometry::unit_at(f, by, bx));
+    if frame_shape::params::is_off(p) {
         return;
     }
     filter_with(dst, snapshot, f, w, h, dirs, vars, p, d, by, bx);

@@ -3,11 +3,11 @@ ghost use mathlib.Core.Path.{_≡_};
 ghost use Rattle.cdef_spec.specs.Answers.{readAnswer};
 ghost use Rattle.cdef_spec.specs.Picture.{lumaPicture, chromaPicture};
 ghost use Rattle.cdef_spec.specs.FrameCalls.{measuringOutcome};
-use cdef_frame::Frame;
 use cdef_spec::Answer;
 use cdef_spec::DampingChoice;
 use cdef_spec::UnitPair;
 use cdef_spec::Visible;
+use frame_shape::Frame;
 
 // Measuring in luma. The scratch, plane width * block height numbers, is returned all zero.
 pub fn measure_luma(
@@ -35,7 +35,7 @@ pub fn measure_luma(
         width: width,
         height: height,
     };
-    let no = cdef_frame_calls::measure_frame(
+    let no = frame_calls::measure_frame(
         totals,
         scratch,
         plane,
@@ -79,7 +79,7 @@ pub fn measure_chroma(
         height: height,
     };
     let none = [0u32; 1];
-    let no = cdef_frame_calls::measure_frame(
+    let no = frame_calls::measure_frame(
         totals,
         scratch,
         plane,

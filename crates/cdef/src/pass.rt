@@ -19,6 +19,6 @@ pub fn direction_pass(
     if no != 0 {
         return Answer::Refused(no);
     }
-    cdef_pass::direction_pass(dirs, vars, plane, width, height, depth);
+    pass_plane::direction_pass(dirs, vars, plane, width, height, depth);
     Answer::Done
 }

@@ -3,10 +3,10 @@ ghost use mathlib.Core.Path.{_≡_};
 ghost use Rattle.cdef_spec.specs.Answers.{readAnswer};
 ghost use Rattle.cdef_spec.specs.Picture.{lumaPicture, chromaPicture};
 ghost use Rattle.cdef_spec.specs.FrameCalls.{tryingOutcome};
-use cdef_frame::Frame;
 use cdef_spec::Answer;
 use cdef_spec::DampingChoice;
 use cdef_spec::Visible;
+use frame_shape::Frame;
 
 // Trying in luma. Whole blocks have the weighted distance, blocks cropped to the visible part plain squares.
 pub fn try_luma(
@@ -32,7 +32,7 @@ pub fn try_luma(
         width: width,
         height: height,
     };
-    let no = cdef_frame_calls::try_frame(
+    let no = frame_calls::try_frame(
         totals,
         snapshot,
         original,
@@ -72,7 +72,7 @@ pub fn try_chroma(
         height: height,
     };
     let none = [0u32; 1];
-    let no = cdef_frame_calls::try_frame(
+    let no = frame_calls::try_frame(
         totals,
         snapshot,
         original,

@@ -19,6 +19,6 @@ pub fn direction(
     if no != 0 {
         return DirectionAnswer::NoDirection(no);
     }
-    let f = cdef_direction::cdef_direction(plane, width, height, x, y, depth);
+    let f = direction_block::cdef_direction(plane, width, height, x, y, depth);
     DirectionAnswer::Direction(f.direction, f.variance)
 }

@@ -21,7 +21,7 @@ pub fn distance(
         return DistanceAnswer::NoDistance(no);
     }
     let c = distance_weight::constants_of(depth);
-    let d = cdef_distance::cdef_dist_8x8(orig, other, width, height, x, y, c);
+    let d = distance_block::cdef_dist_8x8(orig, other, width, height, x, y, c);
     DistanceAnswer::Distance(d as i64)
 }
 
@@ -41,6 +41,6 @@ pub fn squares(
     if no != 0 {
         return DistanceAnswer::NoDistance(no);
     }
-    let d = cdef_distance::block_sse_8x8(orig, other, width, height, x, y);
+    let d = distance_block::block_sse_8x8(orig, other, width, height, x, y);
     DistanceAnswer::Distance(d as i64)
 }

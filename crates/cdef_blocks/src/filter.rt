@@ -23,11 +23,11 @@ pub fn filter_block(
     if no != 0 {
         return Answer::Refused(no);
     }
-    let win = cdef_window::window(plane, width, height, block);
+    let win = filter_window::window(plane, width, height, block);
     let no9 = check_block::window_no(&win, params.depth);
     if no9 != 0 {
         return Answer::Refused(no9);
     }
-    cdef_filter::filter_window(dst, y0, &win, width, height, block, params);
+    filter_block::filter_window(dst, y0, &win, width, height, block, params);
     Answer::Done
 }

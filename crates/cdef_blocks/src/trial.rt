@@ -22,15 +22,25 @@ pub fn trial(
 ) -> Answer
     ensures { λ r. ⌜ trialOutcome (record { samples = now (plane .entry); width = width; height = height }) block way dir damping depth (now (out .entry)) ≡ record { answer = readAnswer r; out = now (out .exit) } ⌝ }
 {
-    let no = check_block::trial::trial_no(out, plane, width, height, block, way, dir, damping, depth);
+    let no = check_block::trial::trial_no(
+        out,
+        plane,
+        width,
+        height,
+        block,
+        way,
+        dir,
+        damping,
+        depth,
+    );
     if no != 0 {
         return Answer::Refused(no);
     }
-    let win = cdef_window::window(plane, width, height, block);
+    let win = filter_window::window(plane, width, height, block);
     let no9 = check_block::window_no(&win, depth);
     if no9 != 0 {
         return Answer::Refused(no9);
     }
-    cdef_trial::block::trial_window(out, &win, block, way, dir, damping, depth);
+    trial_block::block::trial_window(out, &win, block, way, dir, damping, depth);
     Answer::Done
 }

@@ -3,9 +3,9 @@ ghost use mathlib.Core.Path.{_≡_};
 ghost use Rattle.cdef_spec.specs.Answers.{readAnswer};
 ghost use Rattle.cdef_spec.specs.Picture.{lumaPicture, chromaPicture};
 ghost use Rattle.cdef_spec.specs.FrameCalls.{applyingListsOutcome};
-use cdef_frame::Frame;
 use cdef_spec::Answer;
 use cdef_spec::DampingChoice;
+use frame_shape::Frame;
 
 // Applying in luma, a primary and a secondary strength per unit. The destination's length is checked; its old contents are not examined.
 pub fn apply_luma(
@@ -31,7 +31,7 @@ pub fn apply_luma(
         width: width,
         height: height,
     };
-    let no = cdef_frame_calls::apply_frame(dst, snapshot, f, skip, dirs, vars, pris, secs, damping);
+    let no = frame_calls::apply_frame(dst, snapshot, f, skip, dirs, vars, pris, secs, damping);
     cdef_answer::answer_of(no)
 }
 
@@ -61,16 +61,6 @@ pub fn apply_chroma(
         height: height,
     };
     let none = [0u32; 1];
-    let no = cdef_frame_calls::apply_frame(
-        dst,
-        snapshot,
-        f,
-        skip,
-        dirs,
-        &none,
-        pris,
-        secs,
-        damping,
-    );
+    let no = frame_calls::apply_frame(dst, snapshot, f, skip, dirs, &none, pris, secs, damping);
     cdef_answer::answer_of(no)
 }

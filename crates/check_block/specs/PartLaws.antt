@@ -18,8 +18,8 @@ use Rattle.cdef_spec.specs.Questions.{Question, ask, firstNo, depthTaken, sideT
 use Rattle.cdef_spec.specs.QuestionLaws.{first-yes, first-join, none, more, depth-high}
 use Rattle.cdef_spec.specs.BlockCalls.{filterNo, filterOutcome}
 use Rattle.cdef_spec.specs.LoopForm.{putBlock}
-use Rattle.cdef_filter.specs.Store.{Usable}
-use Rattle.cdef_filter.specs.TableLaws.{block-table}
+use Rattle.filter_block.specs.Store.{Usable}
+use Rattle.filter_block.specs.TableLaws.{block-table}
 use Rattle.check_block.specs.Parts.{planeFirst, filterFirst}
 use Rattle.check_sides.specs.SideLaws.{side-le, full-length, corner-low, block-side-le}
 

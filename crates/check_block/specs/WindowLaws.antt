@@ -10,11 +10,11 @@ use Rattle.cdef_spec.specs.Words.{every}
 use Rattle.cdef_spec.specs.Document01.{Plane}
 use Rattle.cdef_spec.specs.Questions.{ask, firstNo, sampleOrMark, widenedTaken}
 use Rattle.cdef_spec.specs.QuestionLaws.{first-yes}
-use Rattle.cdef_sample.specs.Bounds.{Held}
-use Rattle.cdef_sample.specs.Upto.{upto}
-use Rattle.cdef_window.specs.Window.{windowAt}
-use Rattle.cdef_window.specs.Spans.{InPlane}
-use Rattle.cdef_filter.specs.TakenLaws.{window-taken-is, window-held}
+use Rattle.arith_sample.specs.Bounds.{Held}
+use Rattle.arith_sample.specs.Upto.{upto}
+use Rattle.filter_window.specs.Window.{windowAt}
+use Rattle.filter_window.specs.Spans.{InPlane}
+use Rattle.filter_block.specs.TakenLaws.{window-taken-is, window-held}
 use Rattle.check_block.specs.PartLaws.{PlaneFacts, BlockFacts}
 
 module _ (p : Plane) (b : Block) (depth : ℕ) (f : PlaneFacts p depth) (g : BlockFacts p b) where

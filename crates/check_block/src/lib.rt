@@ -47,14 +47,7 @@ pub fn block_taken(width: usize, height: usize, b: Block) -> bool
 }
 
 // 1, 2, 4, 5 and 9 of the direction of a block.
-pub fn direction_no(
-    plane: &[u16],
-    width: usize,
-    height: usize,
-    x: usize,
-    y: usize,
-    depth: u8,
-) -> u8
+pub fn direction_no(plane: &[u16], width: usize, height: usize, x: usize, y: usize, depth: u8) -> u8
     ensures { λ r. ⌜ r ≡ directionNo (record { samples = now (plane .entry); width = width; height = height }) depth y x ⌝ }
 {
     let no = plane_no(plane, width, height, depth);
@@ -75,8 +68,8 @@ pub fn window_no(win: &[u16; 144], depth: u8) -> u8
     requires { ⌜ depth ≤ 12 ⌝ }
     ensures { λ r. ⌜ r ≡ firstNo (ask 9 (every 144 (λ k. sampleOrMark depth (getD (now (win .entry)) k 0))) ∷ []) ⌝ }
 {
-    if !cdef_window::window_taken(win, depth) {
-        return 9;
+    if check_samples::window_taken(win, depth) {
+        return 0;
     }
-    0
+    9
 }

@@ -9,9 +9,9 @@ use Rattle.cdef_spec.specs.declared.UnitPair.{UnitPair}
 use Rattle.cdef_spec.specs.declared.Visible.{Visible}
 use Rattle.cdef_spec.specs.Document01.{inForce}
 use Rattle.cdef_spec.specs.FrameCalls.{scratchLength}
-use Rattle.cdef_frame.specs.declared.Frame.{Frame}
-use Rattle.cdef_frame.specs.Frame.{Shaped, pictureOf}
-use Rattle.cdef_frame.specs.Lent.{Listed, Sampled, Seen, InForce, Paired, unitsOf, samplesOf}
+use Rattle.frame_shape.specs.declared.Frame.{Frame}
+use Rattle.frame_shape.specs.Frame.{Shaped, pictureOf}
+use Rattle.frame_shape.specs.Lent.{Listed, Sampled, Seen, InForce, Paired, unitsOf, samplesOf}
 
 pub record TryingFacts (f : Frame) (damping : DampingChoice) (v : Visible) (snapshot original skip dirs vars : List ℕ) (totals : List ℤ) : Type 0 where
   pub shaped : Shaped f

@@ -18,10 +18,10 @@ use Rattle.cdef_spec.specs.Picture.{luma, chroma, planeWidth, planeHeight, unit
 use Rattle.cdef_spec.specs.Questions.{firstNo, allBelow, allTaken, depthTaken, lumaSideTaken, flagsTaken, fullPlanes, variancesListed, pictureListed, visibleTaken, variancesTaken, signalledTaken, pictureTaken, primaryTaken, secondaryTaken, pairTaken, allSamplesBelow}
 use Rattle.cdef_spec.specs.QuestionLaws.{below-get, first-yes, Taken, questions-yes, depth-high}
 use Rattle.cdef_spec.specs.FrameCalls.{tryingNo, measuringNo, applyingListsNo, scratchLength}
-use Rattle.cdef_frame.specs.declared.Frame.{Frame}
-use Rattle.cdef_frame.specs.Frame.{Shaped, kindOf, pictureOf}
-use Rattle.cdef_frame.specs.FrameLaws.{width-is, height-is, kind-luma}
-use Rattle.cdef_frame.specs.Lent.{Listed, Seen, InForce, blocksOf, unitsOf, samplesOf}
+use Rattle.frame_shape.specs.declared.Frame.{Frame}
+use Rattle.frame_shape.specs.Frame.{Shaped, kindOf, pictureOf}
+use Rattle.frame_shape.specs.FrameLaws.{width-is, height-is, kind-luma}
+use Rattle.frame_shape.specs.Lent.{Listed, Seen, InForce, blocksOf, unitsOf, samplesOf}
 use Rattle.check_picture.specs.Parts.{shapeFirst}
 use Rattle.check_frame.specs.Facts.{TryingFacts, MeasuringFacts, ApplyingFacts}
 

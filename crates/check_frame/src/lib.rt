@@ -8,11 +8,11 @@ ghost use lib.ListN.{length};
 ghost use Rattle.cdef_spec.specs.Picture.{units};
 ghost use Rattle.cdef_spec.specs.Questions.{visibleTaken, allTaken, primaryTaken, secondaryTaken};
 ghost use Rattle.cdef_spec.specs.FrameCalls.{tryingNo, measuringNo, applyingListsNo, scratchLength};
-ghost use Rattle.cdef_frame.specs.Frame.{Shaped, pictureOf};
-use cdef_frame::Frame;
+ghost use Rattle.frame_shape.specs.Frame.{Shaped, pictureOf};
 use cdef_spec::DampingChoice;
 use cdef_spec::UnitPair;
 use cdef_spec::Visible;
+use frame_shape::Frame;
 
 // Trying, 7: twelve totals per unit, and the visible size.
 fn trying_listed(f: Frame, v: Visible, totals: &[i64]) -> bool
@@ -65,7 +65,7 @@ fn measuring_listed(f: Frame, v: Visible, totals: &[i64], scratch: &[u16]) -> bo
     if totals.len() != check_picture::units(f) {
         return false;
     }
-    let wide = cdef_frame::geometry::plane_width(f);
+    let wide = frame_shape::geometry::plane_width(f);
     if scratch.len() != wide * (8 / (1 + f.sy as usize)) {
         return false;
     }

@@ -14,7 +14,7 @@ use Rattle.cdef_spec.specs.Document01.{Plane}
 use Rattle.cdef_spec.specs.Questions.{Question, ask, firstNo, allBelow, lumaSideTaken, full}
 use Rattle.cdef_spec.specs.QuestionLaws.{below-get, first-yes, depth-high}
 use Rattle.cdef_spec.specs.FrameCalls.{directionPassNo}
-use Rattle.cdef_frame.specs.FrameLaws.{side-facts}
+use Rattle.frame_shape.specs.FrameLaws.{side-facts}
 use Rattle.check_picture.specs.Parts.{sidesFirst}
 use Rattle.check_picture.specs.PartLaws.{sides-stop, sides-passed}
 

@@ -6,11 +6,11 @@ ghost use lib.Dec.{eqb};
 ghost use lib.ListN.{length};
 ghost use Rattle.cdef_spec.specs.Picture.{planeWidth, planeHeight, units as unitsIn};
 ghost use Rattle.cdef_spec.specs.Questions.{firstNo, flagsTaken, pictureListed, visibleTaken, variancesTaken, pictureTaken};
-ghost use Rattle.cdef_frame.specs.Frame.{Shaped, kindOf, pictureOf};
+ghost use Rattle.frame_shape.specs.Frame.{Shaped, kindOf, pictureOf};
 ghost use Rattle.check_picture.specs.Parts.{sidesFirst, shapeFirst, listsNext, valuesNext, samplesLast};
-use cdef_frame::Frame;
 use cdef_spec::SignalledDamping;
 use cdef_spec::Visible;
+use frame_shape::Frame;
 
 // 1 and 2: the depth and the sides.
 pub fn sides_no(depth: u8, width: usize, height: usize) -> u8
@@ -60,7 +60,7 @@ fn full(f: Frame, plane: &[u16]) -> bool
     requires { ⌜ Shaped f ⌝ }
     ensures { λ r. ⌜ ((s d vs : List ℕ) → r ≡ eqb (length (now (plane .entry))) (planeWidth (pictureOf f s d vs) * planeHeight (pictureOf f s d vs))) ⌝ }
 {
-    plane.len() == cdef_frame::geometry::plane_width(f) * cdef_frame::geometry::plane_height(f)
+    plane.len() == frame_shape::geometry::plane_width(f) * frame_shape::geometry::plane_height(f)
 }
 
 // 7: per block a flag, a direction and, in luma, a variance.

@@ -1,8 +1,10 @@
-// Whether the samples examined are below 2^depth.
+// Question 9: whether the samples examined are below 2^depth; in a window also the mark.
 ghost use mathlib.Core.Path.{_≡_};
-ghost use Prim.Native.Nat.{ℕ, _+_, _*_, _≤_, _<_};
-ghost use lib.ListN.{length};
-ghost use Rattle.cdef_spec.specs.Questions.{cutTaken};
+ghost use Prim.Native.Nat.{ℕ, _+_, _*_, _^_, _≤_, _<_};
+ghost use lib.Dec.{eqb};
+ghost use lib.ListN.{getD, length};
+ghost use Rattle.cdef_spec.specs.Words.{every};
+ghost use Rattle.cdef_spec.specs.Questions.{cutTaken, sampleOrMark};
 ghost use Rattle.check_samples.specs.Looked.{orRow, orRows};
 
 // The bits that are set in any of n samples, from `at` on.
@@ -35,10 +37,37 @@ pub fn cut_taken(plane: &[u16], width: usize, height: usize, x: usize, y: usize,
     requires { ⌜ (width ≤ 4096) × (height ≤ 4096) × (x < width) × (y < height) × (depth ≤ 12) ⌝ }
     ensures { λ r. ⌜ r ≡ cutTaken (record { samples = now (plane .entry); width = width; height = height }) depth y x ⌝ }
 {
-    let cols = cdef_sample::lesser(8, width - x);
-    let rows = cdef_sample::lesser(8, height - y);
+    let cols = arith_sample::lesser(8, width - x);
+    let rows = arith_sample::lesser(8, height - y);
     if rows + cols < 16 {
         return block_bits(plane, width, y, x, rows, cols) >> (depth as u32) == 0;
     }
     block_bits(plane, width, y, x, 8, 8) >> (depth as u32) == 0
+}
+
+// 1 where a sample is neither below `top` nor the mark, else 0.
+fn wrong(v: u16, top: u16, depth: u8) -> u16
+    requires { ⌜ top ≡ 2 ^ depth ⌝ }
+    ensures { λ r. ⌜ (eqb r 0 ≡ sampleOrMark depth v) × (r ≤ 1) ⌝ }
+{
+    if v < top {
+        return 0;
+    }
+    if v == 16384 {
+        return 0;
+    }
+    1
+}
+
+// Whether each entry is a sample of the depth or the mark.
+pub fn window_taken(w: &[u16; 144], depth: u8) -> bool
+    requires { ⌜ depth ≤ 12 ⌝ }
+    ensures { λ r. ⌜ r ≡ every 144 (λ k. sampleOrMark depth (getD (now (w .entry)) k 0)) ⌝ }
+{
+    let top = 1u16 << depth;
+    let mut bad = 0u16;
+    for k in 0..144usize {
+        bad += wrong(w[k], top, depth);
+    }
+    bad == 0
 }

@@ -5,7 +5,7 @@ use native.Mathlib.Omega.{arith}
 use lib.IntN.{pos, _-ℤ_}
 use mir.Syntax.{w16}
 use mir.Val.{SFits, toZ, ofZ}
-use Rattle.cdef_sample.proofs.Sums16.{fits, back, back-nat}
+use Rattle.arith_sample.proofs.Sums16.{fits, back, back-nat}
 use Rattle.direction_levels.specs.LevelLaws.{less-128}
 
 module _ (a : ℕ) (h : a < 256) where

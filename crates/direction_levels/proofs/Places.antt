@@ -12,7 +12,7 @@ use mir.Syntax.{w16}
 use mir.Val.{toZ, ofZ}
 use Rattle.cdef_spec.specs.Document01.{Plane, edgeSample, directionInput}
 use Rattle.cdef_spec.specs.Questions.{cutTaken}
-use Rattle.cdef_sample.proofs.Sums16.{back}
+use Rattle.arith_sample.proofs.Sums16.{back}
 use Rattle.direction_levels.specs.LevelLaws.{less-128, shifted-low}
 
 pub place-low : (w h r c : ℕ) → r < h → c < w → r * w + c < w * h

@@ -2,7 +2,7 @@
 use Prim.Native.Nat.{ℕ, _/_, _%_}
 use mathlib.Core.List.{List}
 use lib.IntN.{ℤ}
-use Rattle.cdef_sample.specs.Upto.{upto}
+use Rattle.arith_sample.specs.Upto.{upto}
 
 -- the 64 samples of a block, row by row
 unfoldable pub blockOf : (ℕ → ℕ → ℤ) → List ℤ

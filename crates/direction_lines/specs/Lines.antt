@@ -6,7 +6,7 @@ use lib.Dec.{leb, ltb}
 use lib.ListN.{getD}
 use lib.IntN.{ℤ, pos, _+ℤ_}
 use Rattle.cdef_spec.specs.Standard.{partial}
-use Rattle.cdef_sample.specs.Upto.{upto}
+use Rattle.arith_sample.specs.Upto.{upto}
 use Rattle.direction_lines.specs.declared.Partials.{Partials}
 
 -- a block, transposed

@@ -12,8 +12,8 @@ use lib.IntN.{ℤ, pos, natAbs, _+ℤ_, +ℤ-assoc, +ℤ-comm, +ℤ-idl, +ℤ-id
 use Rattle.cdef_spec.specs.SignedLaws.{size-add}
 use Rattle.cdef_spec.specs.Words.{sumℤ}
 use Rattle.cdef_spec.specs.Standard.{lineOf, partial}
-use Rattle.cdef_sample.specs.Bounds.{Within}
-use Rattle.cdef_sample.specs.Upto.{upto, length-upto, getD-upto, upto-ext, upto-all-of}
+use Rattle.arith_sample.specs.Bounds.{Within}
+use Rattle.arith_sample.specs.Upto.{upto, length-upto, getD-upto, upto-ext, upto-all-of}
 use Rattle.direction_lines.specs.Lines.{turnedOf, padAt, paddedOf, pairAt, lineAt, linesOf, partialsOf}
 use Rattle.direction_levels.specs.Levels.{blockOf}
 

@@ -1,7 +1,7 @@
 // Line sums: the rows of a block are padded with zeros, and each line is the sum of eight shifted rows.
 ghost use mathlib.Core.Path.{_≡_};
 ghost use Prim.Native.Nat.{_+_, _*_, _≤_, _<_};
-ghost use Rattle.cdef_sample.specs.Bounds.{Within};
+ghost use Rattle.arith_sample.specs.Bounds.{Within};
 ghost use Rattle.direction_lines.specs.Lines.{turnedOf, padAt, paddedOf, pairAt, lineAt, linesOf};
 
 // The line sums of the eight directions; past a direction's last line they are 0.
@@ -68,7 +68,7 @@ fn pair(z: &[i16; 192], k: usize, one: usize) -> i16
     ensures { λ r. ⌜ r ≡ pairAt (now (z .entry)) k one ⌝ }
 {
     let l = k + one;
-    cdef_sample::add(z[k], z[l])
+    arith_sample::add(z[k], z[l])
 }
 
 // Eight rows: four pairs, each `two` entries on.
@@ -76,9 +76,9 @@ fn line(z: &[i16; 192], k: usize, one: usize, two: usize) -> i16
     requires { ⌜ (k + 3 * two + one < 192) × Within (now z) 128 ⌝ }
     ensures { λ r. ⌜ r ≡ lineAt (now (z .entry)) k one two ⌝ }
 {
-    let a = cdef_sample::add(pair(z, k, one), pair(z, k + two, one));
-    let b = cdef_sample::add(pair(z, k + 2 * two, one), pair(z, k + 3 * two, one));
-    cdef_sample::add(a, b)
+    let a = arith_sample::add(pair(z, k, one), pair(z, k + two, one));
+    let b = arith_sample::add(pair(z, k + 2 * two, one), pair(z, k + 3 * two, one));
+    arith_sample::add(a, b)
 }
 
 // Sixteen lines, from `first` on.

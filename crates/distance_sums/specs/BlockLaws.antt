@@ -9,7 +9,7 @@ use lib.Pow.{pow-mono}
 use Rattle.cdef_spec.specs.Words.{sum, sum2}
 use Rattle.cdef_spec.specs.WordsLaws.{sum2-same}
 use Rattle.cdef_spec.specs.Distance.{squaredDifference, squares}
-use Rattle.cdef_sample.specs.Upto.{getD-upto}
+use Rattle.arith_sample.specs.Upto.{getD-upto}
 use Rattle.distance_sums.specs.SumLaws.{sum-none, sum-more, sum-high, sum-64, difference-high}
 use Rattle.distance_sums.specs.Blocks.{at, cell, blockOf, Below, Within}
 

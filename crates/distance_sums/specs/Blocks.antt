@@ -4,7 +4,7 @@ use Prim.Native.Nat.{ℕ, _+_, _*_, _/_, _%_, _≤_, _<_}
 use lib.ListN.{getD, length}
 use Rattle.cdef_spec.specs.declared.DistanceConstants.{DistanceConstants}
 use Rattle.cdef_spec.specs.Distance.{spread, squares, weighted}
-use Rattle.cdef_sample.specs.Upto.{upto}
+use Rattle.arith_sample.specs.Upto.{upto}
 
 -- row i and column j of the block at `start`
 unfoldable pub at : List ℕ → ℕ → ℕ → ℕ → ℕ → ℕ

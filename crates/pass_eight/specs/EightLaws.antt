@@ -8,13 +8,13 @@ use lib.ListN.{getD, length}
 use Rattle.cdef_spec.specs.Standard.{direction, variance}
 use Rattle.cdef_spec.specs.Document01.{Plane, directionInput, blockDirection, blockVariance}
 use Rattle.cdef_spec.specs.DirectionLocal.{direction-same, variance-same}
-use Rattle.cdef_sample.specs.Upto.{getD-upto, upto-at}
-use Rattle.cdef_lanes.specs.Lanes.{lanesOf}
-use Rattle.cdef_eight.specs.declared.Found8.{Found8}
-use Rattle.cdef_lane_sums.specs.Lines.{laneOf}
-use Rattle.cdef_lane_costs.specs.Costs.{written}
-use Rattle.cdef_lane_costs.specs.CostsLaws.{written-upto}
-use Rattle.cdef_eight.specs.Best.{foundBySamples}
+use Rattle.arith_sample.specs.Upto.{getD-upto, upto-at}
+use Rattle.direction_lanes.specs.Lanes.{lanesOf}
+use Rattle.direction_eight.specs.declared.Found8.{Found8}
+use Rattle.direction_lane_sums.specs.Lines.{laneOf}
+use Rattle.direction_lane_costs.specs.Costs.{written}
+use Rattle.direction_lane_costs.specs.CostsLaws.{written-upto}
+use Rattle.direction_eight.specs.Best.{foundBySamples}
 use Rattle.pass_one.specs.Pass.{directionAt, varianceAt, Filled}
 use Rattle.pass_one.specs.PassLaws.{at-block}
 

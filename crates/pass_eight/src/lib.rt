@@ -23,8 +23,8 @@ pub fn eight_blocks(
     ensures { λ _. ⌜ Filled (now (plane .entry)) width height depth (by * (width / 8) + (bx + 8)) (now (dirs .exit)) (now (vars .exit)) ⌝ }
     ensures { λ _. ⌜ (length (now (a .exit)) ≡ 512) × (length (now (s .exit)) ≡ 512) ⌝ }
 {
-    cdef_lanes::lanes(s, a, plane, width, height, bx * 8, by * 8, depth);
-    let f = cdef_eight::eight(s);
+    direction_lanes::lanes(s, a, plane, width, height, bx * 8, by * 8, depth);
+    let f = direction_eight::eight(s);
     let directions = f.directions;
     let variances = f.variances;
     let at = by * (width / 8) + bx;

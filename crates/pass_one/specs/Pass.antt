@@ -4,7 +4,7 @@ use mathlib.Core.List.{List}
 use Prim.Native.Nat.{ℕ, _*_, _/_, _%_, _^_, _≤_, _<_}
 use lib.ListN.{getD, length, take}
 use Rattle.cdef_spec.specs.Document01.{Plane, blockDirection, blockVariance}
-use Rattle.cdef_sample.specs.Upto.{upto}
+use Rattle.arith_sample.specs.Upto.{upto}
 
 abbrev pub directionAt : Plane → ℕ → ℕ → ℕ → ℕ
 directionAt p depth cols b = blockDirection p depth (b / cols * 8) (b % cols * 8)

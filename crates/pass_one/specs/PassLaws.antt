@@ -12,7 +12,7 @@ use Rattle.cdef_spec.specs.Words.{table}
 use Rattle.cdef_spec.specs.WordsLaws.{length-table, getD-table, every-make}
 use Rattle.cdef_spec.specs.Document01.{Plane, blockDirection, blockVariance}
 use Rattle.cdef_spec.specs.Questions.{sampleTaken, lookedAt, cutTaken}
-use Rattle.cdef_sample.specs.Upto.{upto, length-upto, getD-upto, upto-none, upto-more, upto-at, upto-all}
+use Rattle.arith_sample.specs.Upto.{upto, length-upto, getD-upto, upto-none, upto-more, upto-at, upto-all}
 use Rattle.pass_one.specs.Pass.{PassIn, Filled}
 
 -- where every sample fits the depth, so do those of each block

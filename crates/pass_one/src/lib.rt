@@ -17,7 +17,7 @@ pub fn one_block(
     requires { ⌜ Filled (now plane) width height depth (by * (width / 8) + bx) (now dirs) (now vars) ⌝ }
     ensures { λ _. ⌜ Filled (now (plane .entry)) width height depth (by * (width / 8) + (bx + 1)) (now (dirs .exit)) (now (vars .exit)) ⌝ }
 {
-    let f = cdef_direction::cdef_direction(plane, width, height, bx * 8, by * 8, depth);
+    let f = direction_block::cdef_direction(plane, width, height, bx * 8, by * 8, depth);
     let at = by * (width / 8) + bx;
     dirs[at] = f.direction;
     vars[at] = f.variance;

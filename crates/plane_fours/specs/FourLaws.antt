@@ -3,13 +3,13 @@ use mathlib.Core.Path.{_≡_, _∙_}
 use mathlib.Core.List.{List}
 use Prim.Native.Nat.{ℕ}
 use lib.ListN.{getD}
-use Rattle.cdef_sample.specs.Sample.{freeOf}
-use Rattle.cdef_sample.specs.Upto.{upto, upto-ext}
-use Rattle.cdef_rows.specs.Sums.{priAt, secAt, filteredAt}
-use Rattle.cdef_rows.specs.declared.Taps.{Taps}
-use Rattle.cdef_rows.specs.declared.Strength.{Strength}
-use Rattle.cdef_plane_taps.specs.Plain.{AllLow}
-use Rattle.cdef_plane_taps.specs.PlainLaws.{pri-plain, sec-plain, both-plain}
+use Rattle.arith_sample.specs.Sample.{freeOf}
+use Rattle.arith_sample.specs.Upto.{upto, upto-ext}
+use Rattle.filter_rows.specs.Sums.{priAt, secAt, filteredAt}
+use Rattle.filter_rows.specs.declared.Taps.{Taps}
+use Rattle.filter_rows.specs.declared.Strength.{Strength}
+use Rattle.plane_taps.specs.Plain.{AllLow}
+use Rattle.plane_taps.specs.PlainLaws.{pri-plain, sec-plain, both-plain}
 use Rattle.plane_fours.specs.declared.lanes.Parts.{Parts}
 use Rattle.plane_fours.specs.Fours.{fourAt, centreRun, onRun, backRun, priLanes, secLanes, firstLanes, firstRun, lastLanes}
 use Rattle.plane_fours.specs.RunLaws.{pair-is, centre-is, part-is}

@@ -5,14 +5,14 @@ use Prim.Native.Nat.{ℕ, _+_, _*_, _/_, _%_, _<_}
 use native.Mathlib.Omega.{arith}
 use lib.ListN.{getD}
 use Rattle.cdef_spec.specs.LoopForm.{putBlock}
-use Rattle.cdef_sample.specs.Upto.{upto, getD-upto}
-use Rattle.cdef_rows.specs.Sums.{InRange}
-use Rattle.cdef_rows.specs.declared.Taps.{Taps}
-use Rattle.cdef_rows.specs.declared.Strength.{Strength}
-use Rattle.cdef_kernel.specs.Kernel.{kernelAt}
-use Rattle.cdef_plane_taps.specs.Plain.{AllLow}
-use Rattle.cdef_plane_rows.specs.Rows.{placedRows, insideTap}
-use Rattle.cdef_plane_rows.specs.StoreLaws.{rows-inside}
+use Rattle.arith_sample.specs.Upto.{upto, getD-upto}
+use Rattle.filter_rows.specs.Sums.{InRange}
+use Rattle.filter_rows.specs.declared.Taps.{Taps}
+use Rattle.filter_rows.specs.declared.Strength.{Strength}
+use Rattle.filter_kernel.specs.Kernel.{kernelAt}
+use Rattle.plane_taps.specs.Plain.{AllLow}
+use Rattle.plane_rows.specs.Rows.{placedRows, insideTap}
+use Rattle.plane_rows.specs.StoreLaws.{rows-inside}
 use Rattle.plane_fours.specs.Fours.{fourAt}
 
 module _ (l : List ℕ) (low : AllLow l) (w at : ℕ) (t : Taps) (f g : Strength) (rf : InRange f) (rg : InRange g) where

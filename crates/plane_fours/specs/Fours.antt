@@ -3,14 +3,14 @@ use mathlib.Core.List.{List}
 use Prim.Native.Nat.{ℕ, _+_, _*_, _/_, _%_}
 use lib.ListN.{getD}
 use lib.IntN.{pos}
-use Rattle.cdef_sample.specs.Sample.{freeOf}
-use Rattle.cdef_sample.specs.Upto.{upto}
-use Rattle.cdef_rows.specs.Place.{onFrom, backFrom}
-use Rattle.rows_limits.specs.declared.Pair.{Pair}
-use Rattle.cdef_rows.specs.declared.Taps.{Taps}
-use Rattle.cdef_rows.specs.declared.Strength.{Strength}
-use Rattle.cdef_plane_taps.specs.Plain.{AllLow, Bounded, priPlain, secPlain, firstOf, lastOf}
-use Rattle.cdef_plane_taps.specs.declared.plain.Part.{Part}
+use Rattle.arith_sample.specs.Sample.{freeOf}
+use Rattle.arith_sample.specs.Upto.{upto}
+use Rattle.filter_rows.specs.Place.{onFrom, backFrom}
+use Rattle.filter_limits.specs.declared.Pair.{Pair}
+use Rattle.filter_rows.specs.declared.Taps.{Taps}
+use Rattle.filter_rows.specs.declared.Strength.{Strength}
+use Rattle.plane_taps.specs.Plain.{AllLow, Bounded, priPlain, secPlain, firstOf, lastOf}
+use Rattle.plane_taps.specs.declared.plain.Part.{Part}
 use Rattle.plane_fours.specs.declared.lanes.Parts.{Parts}
 
 -- the index of sample j (row j / 4, column j % 4) of the square whose first sample is at k, in a plane w wide

@@ -5,15 +5,15 @@ use Prim.Native.Nat.{ℕ, _<_, _≤_}
 use native.Mathlib.Omega.{arith}
 use lib.ListN.{getD}
 use lib.IntN.{ℤ, pos, natAbs}
-use Rattle.cdef_sample.specs.Upto.{upto, getD-upto, upto-all-of}
-use Rattle.cdef_rows.specs.Place.{onFrom, backFrom}
-use Rattle.cdef_rows.specs.Pairs.{pairOf}
-use Rattle.cdef_rows.specs.Sums.{InRange}
-use Rattle.rows_limits.specs.declared.Pair.{Pair}
-use Rattle.cdef_rows.specs.declared.Strength.{Strength}
-use Rattle.cdef_plane_taps.specs.Plain.{AllLow, Low, Bounded, firstOf}
+use Rattle.arith_sample.specs.Upto.{upto, getD-upto, upto-all-of}
+use Rattle.filter_rows.specs.Place.{onFrom, backFrom}
+use Rattle.filter_rows.specs.Pairs.{pairOf}
+use Rattle.filter_rows.specs.Sums.{InRange}
+use Rattle.filter_limits.specs.declared.Pair.{Pair}
+use Rattle.filter_rows.specs.declared.Strength.{Strength}
+use Rattle.plane_taps.specs.Plain.{AllLow, Low, Bounded, firstOf}
 use Rattle.plane_fours.specs.Fours.{fourAt, centreRun, onRun, backRun, pairIn, partIn, firstLanes, BoundedAll}
-use Rattle.cdef_plane_rows.specs.LaneLaws.{below, first-low}
+use Rattle.plane_rows.specs.LaneLaws.{below, first-low}
 
 module _ (l : List ℕ) (w k n : ℕ) (h : n < 16) where
   pub pair-is : (o : ℕ) → pairIn (onRun l w k o) (backRun l w k o) n ≡ pairOf l (fourAt w k n) o

@@ -1,13 +1,13 @@
 // Sixteen samples from their taps, each list of taps in the samples' order.
 ghost use mathlib.Core.Path.{_≡_};
 ghost use Prim.Native.Nat.{_<_};
-ghost use Rattle.cdef_rows.specs.Sums.{InRange};
-ghost use Rattle.cdef_plane_taps.specs.Plain.{AllLow};
+ghost use Rattle.filter_rows.specs.Sums.{InRange};
+ghost use Rattle.plane_taps.specs.Plain.{AllLow};
 ghost use Rattle.plane_fours.specs.Fours.{LowPairs, BoundedAll, pairIn, firstLanes, lastLanes, priLanes, secLanes};
-use cdef_plane_taps::plain;
-use cdef_plane_taps::plain::Part;
-use cdef_rows::Strength;
-use rows_limits::Pair;
+use filter_limits::Pair;
+use filter_rows::Strength;
+use plane_taps::plain;
+use plane_taps::plain::Part;
 
 // the primary taps' sums, and the least and the greatest of them and the centre, of sixteen samples
 pub struct Parts {
@@ -105,7 +105,7 @@ pub fn pri(
     let mut out = [0u16; 16];
     for j in 0..16usize {
         let s = plain::pri_sum(pair(a0, b0, j), pair(a1, b1, j), c[j], f);
-        out[j] = cdef_sample::raised(c[j], s);
+        out[j] = arith_sample::raised(c[j], s);
     }
     out
 }
@@ -133,7 +133,7 @@ pub fn sec(
         let r0 = pair(a2, b2, j);
         let r1 = pair(a3, b3, j);
         let s = plain::sec_sum(q0, q1, r0, r1, c[j], f);
-        out[j] = cdef_sample::raised(c[j], s);
+        out[j] = arith_sample::raised(c[j], s);
     }
     out
 }

@@ -2,17 +2,17 @@
 ghost use mathlib.Core.Path.{_≡_};
 ghost use Prim.Native.Nat.{_+_, _*_, _≤_, _<_};
 ghost use lib.ListN.{getD, length};
-ghost use Rattle.cdef_sample.specs.Sample.{freeOf};
-ghost use Rattle.cdef_sample.specs.Upto.{upto};
-ghost use Rattle.cdef_rows.specs.Sums.{InRange, priAt, secAt, filteredAt};
-ghost use Rattle.cdef_kernel.specs.Kernel.{kernelAt};
-ghost use Rattle.cdef_plane_taps.specs.Plain.{AllLow};
-ghost use Rattle.cdef_plane_taps.specs.Steps.{tapsIn};
-ghost use Rattle.cdef_plane_rows.specs.Rows.{Around, Along, Strong, priIn, secIn, placedRows, Stored};
+ghost use Rattle.arith_sample.specs.Sample.{freeOf};
+ghost use Rattle.arith_sample.specs.Upto.{upto};
+ghost use Rattle.filter_rows.specs.Sums.{InRange, priAt, secAt, filteredAt};
+ghost use Rattle.filter_kernel.specs.Kernel.{kernelAt};
+ghost use Rattle.plane_taps.specs.Plain.{AllLow};
+ghost use Rattle.plane_taps.specs.Steps.{tapsIn};
+ghost use Rattle.plane_rows.specs.Rows.{Around, Along, Strong, priIn, secIn, placedRows, Stored};
 ghost use Rattle.plane_fours.specs.Fours.{fourAt, centreRun, onRun, backRun, firstRun};
 use crate::lanes::Parts;
-use cdef_rows::Strength;
-use cdef_rows::Taps;
+use filter_rows::Strength;
+use filter_rows::Taps;
 
 mod lanes; // lanes.rt: sixteen samples from their taps
 
@@ -157,7 +157,7 @@ pub fn rows(
     requires { ⌜ Around (length (now src)) at (3 * w + 4) (tapsIn w dir) × (to + (3 * w + 4) ≤ length (now dst)) ⌝ }
     ensures { λ _. ⌜ Stored (now (src .entry)) (now (dst .entry)) (now (dst .exit)) w at to (tapsIn w dir) (priIn s sh near) (secIn s2 sh2) 4 4 ⌝ }
 {
-    let t = cdef_plane_taps::steps::taps(dir, w);
+    let t = plane_taps::steps::taps(dir, w);
     let f = Strength {
         s: s,
         sh: sh,

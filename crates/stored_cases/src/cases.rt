@@ -52,7 +52,10 @@ fn same_constrain(l: Line) -> bool {
 // strength variance code answer
 fn same_adjust(l: Line) -> bool {
     let size = l.size;
-    let answer = cdef_blocks::numbers::adjust(case_text::as_u32(size[0]), case_text::as_u32(size[1]));
+    let answer = cdef_blocks::numbers::adjust(
+        case_text::as_u32(size[0]),
+        case_text::as_u32(size[1]),
+    );
     match answer {
         StrengthAnswer::Strength(s) => size[2] == 0 && (s as u64) == size[3],
         StrengthAnswer::NoStrength(n) => (n as u64) == size[2] && size[3] == 0,

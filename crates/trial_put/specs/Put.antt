@@ -4,7 +4,7 @@ use Prim.Native.Nat.{ℕ, _+_, _*_, _/_, _%_, _≤_, _<_}
 use lib.IntN.{ℤ, pos, natAbs, _+ℤ_}
 use lib.ListN.{getD}
 use Rattle.cdef_spec.specs.Standard.{Tap, sample}
-use Rattle.cdef_sample.specs.Sample.{finishOf, freeOf}
+use Rattle.arith_sample.specs.Sample.{finishOf, freeOf}
 
 -- the first n entries are bounded
 pub record HeldTo (l : List ℕ) (n : ℕ) : Type 0 where

@@ -13,8 +13,8 @@ use Rattle.cdef_spec.specs.Document01.{orElse}
 use Rattle.cdef_spec.specs.LoopForm.{put, putRow}
 use Rattle.cdef_spec.specs.GeometryLaws.{row-of}
 use Rattle.cdef_spec.specs.PlaneLaws.{row-more, row-same}
-use Rattle.cdef_sample.specs.Sample.{finishOf, freeOf}
-use Rattle.cdef_sample.specs.Upto.{upto, getD-upto}
+use Rattle.arith_sample.specs.Sample.{finishOf, freeOf}
+use Rattle.arith_sample.specs.Upto.{upto, getD-upto}
 use Rattle.trial_sums.specs.KnownLaws.{place-is}
 use Rattle.trial_put.specs.Put.{HeldTo, WithinTo, laid, seen, laidTap, freeTap, bothTap}
 use Rattle.trial_sums.specs.Known.{placeOf}

@@ -3,8 +3,8 @@ ghost use mathlib.Core.Path.{_≡_};
 ghost use Prim.Native.Nat.{_≤_};
 ghost use lib.IntN.{pos, _+ℤ_};
 ghost use lib.ListN.{getD, take};
-ghost use Rattle.cdef_sample.specs.Sample.{finishOf, freeOf};
-ghost use Rattle.cdef_sample.specs.Upto.{upto};
+ghost use Rattle.arith_sample.specs.Sample.{finishOf, freeOf};
+ghost use Rattle.arith_sample.specs.Upto.{upto};
 ghost use Rattle.trial_put.specs.Put.{HeldTo, WithinTo};
 
 // Both sums, clipped.
@@ -21,7 +21,7 @@ pub fn both_block(
 {
     let mut out = [0u16; 64];
     for k in 0..n {
-        out[k] = cdef_sample::finish(c[k], cdef_sample::add(p[k], s[k]), lo[k], hi[k]);
+        out[k] = arith_sample::finish(c[k], arith_sample::add(p[k], s[k]), lo[k], hi[k]);
     }
     out
 }
@@ -33,7 +33,7 @@ pub fn free_block(n: usize, c: &[u16; 64], s: &[i16; 64]) -> [u16; 64]
 {
     let mut out = [0u16; 64];
     for k in 0..n {
-        out[k] = cdef_sample::free(c[k], s[k]);
+        out[k] = arith_sample::free(c[k], s[k]);
     }
     out
 }

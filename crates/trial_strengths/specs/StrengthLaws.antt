@@ -6,11 +6,11 @@ use Rattle.cdef_spec.specs.declared.TrialWay.{TrialWay}
 use Rattle.cdef_spec.specs.declared.TrialWay.the-variants.{Luma, Chroma}
 use Rattle.cdef_spec.specs.declared.WorkingDamping.{WorkingDamping}
 use Rattle.cdef_spec.specs.Words.{_<<_}
-use Rattle.cdef_rows.specs.declared.Taps.{Taps}
-use Rattle.cdef_rows.specs.declared.Strength.{Strength}
-use Rattle.cdef_kernel.specs.Kernel.{tapsOf, priOf, secOf}
-use Rattle.cdef_kernel.specs.PlaceLaws.{taps-near}
-use Rattle.cdef_kernel.specs.ShapeLaws.{pri-in, sec-in}
+use Rattle.filter_rows.specs.declared.Taps.{Taps}
+use Rattle.filter_rows.specs.declared.Strength.{Strength}
+use Rattle.filter_kernel.specs.Kernel.{tapsOf, priOf, secOf}
+use Rattle.filter_kernel.specs.PlaceLaws.{taps-near}
+use Rattle.filter_kernel.specs.ShapeLaws.{pri-in, sec-in}
 use Rattle.arith_strength.specs.StrengthLaws.{limit-low, adjust-low}
 use Rattle.trial_strengths.specs.declared.Twelve.{Twelve}
 use Rattle.trial_strengths.specs.Strengths.{Ready}

@@ -5,8 +5,8 @@ use Rattle.cdef_spec.specs.declared.TrialWay.the-variants.{Luma, Chroma}
 use Rattle.cdef_spec.specs.declared.WorkingDamping.{WorkingDamping}
 use Rattle.cdef_spec.specs.Words.{_<<_}
 use Rattle.cdef_spec.specs.Standard.{adjustPri}
-use Rattle.cdef_kernel.specs.Kernel.{tapsOf, priOf, secOf}
-use Rattle.cdef_rows.specs.Sums.{Near6, InRange}
+use Rattle.filter_kernel.specs.Kernel.{tapsOf, priOf, secOf}
+use Rattle.filter_rows.specs.Sums.{Near6, InRange}
 use Rattle.trial_strengths.specs.declared.Twelve.{Twelve}
 
 -- a primary strength, adjusted in luma and unchanged in chroma

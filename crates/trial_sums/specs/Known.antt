@@ -3,10 +3,10 @@ use mathlib.Core.List.{List}
 use Prim.Native.Nat.{ℕ, _+_, _*_, _/_, _%_}
 use lib.ListN.{take}
 use mathlib.Core.Path.{_≡_}
-use Rattle.cdef_sample.specs.Upto.{upto}
-use Rattle.cdef_rows.specs.declared.Taps.{Taps}
-use Rattle.cdef_rows.specs.declared.Strength.{Strength}
-use Rattle.cdef_rows.specs.Sums.{priAt, secAt, lowAt, highAt}
+use Rattle.arith_sample.specs.Upto.{upto}
+use Rattle.filter_rows.specs.declared.Taps.{Taps}
+use Rattle.filter_rows.specs.declared.Strength.{Strength}
+use Rattle.filter_rows.specs.Sums.{priAt, secAt, lowAt, highAt}
 use Rattle.trial_sums.specs.declared.PriSums.{PriSums}
 use Rattle.trial_sums.specs.declared.SecSums.{SecSums}
 use Rattle.trial_sums.specs.declared.Limits.{Limits}

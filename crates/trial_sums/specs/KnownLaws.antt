@@ -4,7 +4,7 @@ use mathlib.Core.List.{List}
 use Prim.Native.Nat.{ℕ, _+_, _*_, _<_}
 use native.Mathlib.Omega.{arith}
 use lib.ListN.{length, getD, take, set}
-use Rattle.cdef_sample.specs.Upto.{upto, getD-upto, upto-more, upto-at}
+use Rattle.arith_sample.specs.Upto.{upto, getD-upto, upto-more, upto-at}
 use Rattle.trial_sums.specs.Known.{placeOf}
 
 pub place-is : (i j : ℕ) → j < 8 → placeOf (i * 8 + j) ≡ (i + 2) * 12 + 2 + j

@@ -2,12 +2,12 @@
 ghost use mathlib.Core.Path.{_≡_};
 ghost use Prim.Native.Nat.{_*_, _≤_};
 ghost use lib.ListN.{getD, take};
-ghost use Rattle.cdef_sample.specs.Bounds.{Held};
-ghost use Rattle.cdef_sample.specs.Upto.{upto};
-ghost use Rattle.cdef_rows.specs.Sums.{Near6, InRange};
+ghost use Rattle.arith_sample.specs.Bounds.{Held};
+ghost use Rattle.arith_sample.specs.Upto.{upto};
+ghost use Rattle.filter_rows.specs.Sums.{Near6, InRange};
 ghost use Rattle.trial_sums.specs.Known.{placeOf, PriKnown, SecKnown, LimitsKnown};
-use cdef_rows::Strength;
-use cdef_rows::Taps;
+use filter_rows::Strength;
+use filter_rows::Taps;
 
 // The sums of three primary strengths.
 pub struct PriSums {
@@ -34,7 +34,7 @@ pub fn centre_block(w: &[u16; 144], rows: usize) -> [u16; 64]
 {
     let mut out = [0u16; 64];
     for i in 0..rows {
-        let row = cdef_rows::centre_row(w, (i + 2) * 12 + 2);
+        let row = filter_rows::centre_row(w, (i + 2) * 12 + 2);
         let to = i * 8;
         for j in 0..8usize {
             out[to + j] = row[j];
@@ -61,9 +61,9 @@ pub fn pri_blocks(
         let from = (i + 2) * 12 + 2;
         let to = i * 8;
         for j in 0..8usize {
-            p1[to + j] = cdef_rows::pri_at(w, from + j, t, f);
-            p2[to + j] = cdef_rows::pri_at(w, from + j, t, g);
-            p3[to + j] = cdef_rows::pri_at(w, from + j, t, h);
+            p1[to + j] = filter_rows::pri_at(w, from + j, t, f);
+            p2[to + j] = filter_rows::pri_at(w, from + j, t, g);
+            p3[to + j] = filter_rows::pri_at(w, from + j, t, h);
         }
     }
     PriSums {
@@ -83,13 +83,13 @@ pub fn sec_blocks(w: &[u16; 144], rows: usize, t: Taps, f: Strength, g: Strength
         let from = (i + 2) * 12 + 2;
         let to = i * 8;
         for j in 0..8usize {
-            s1[to + j] = cdef_sample::add(
-                cdef_rows::sec_near(w, from + j, t, f),
-                cdef_rows::sec_far(w, from + j, t, f),
+            s1[to + j] = arith_sample::add(
+                filter_rows::sec_near(w, from + j, t, f),
+                filter_rows::sec_far(w, from + j, t, f),
             );
-            s2[to + j] = cdef_sample::add(
-                cdef_rows::sec_near(w, from + j, t, g),
-                cdef_rows::sec_far(w, from + j, t, g),
+            s2[to + j] = arith_sample::add(
+                filter_rows::sec_near(w, from + j, t, g),
+                filter_rows::sec_far(w, from + j, t, g),
             );
         }
     }
@@ -103,7 +103,7 @@ pub fn limit_blocks(w: &[u16; 144], rows: usize, t: Taps) -> Limits
     let mut lo = [0u16; 64];
     let mut hi = [0u16; 64];
     for i in 0..rows {
-        let row = cdef_rows::limit_row(w, (i + 2) * 12 + 2, t);
+        let row = filter_rows::limit_row(w, (i + 2) * 12 + 2, t);
         let to = i * 8;
         for j in 0..8usize {
             lo[to + j] = row.lo[j];

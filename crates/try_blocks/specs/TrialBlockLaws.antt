@@ -13,11 +13,11 @@ use Rattle.cdef_spec.specs.Document01.{lumaDamping, chromaDamping}
 use Rattle.cdef_spec.specs.declared.TrialWay.{TrialWay}
 use Rattle.cdef_spec.specs.declared.WorkingDamping.{WorkingDamping}
 use Rattle.cdef_spec.specs.BlockCalls.{trialPlace}
-use Rattle.cdef_window.specs.Window.{planeOf as sized}
+use Rattle.filter_window.specs.Window.{planeOf as sized}
 use Rattle.cdef_spec.specs.Picture.{PlaneKind, luma, chroma, Picture, planeWidth, planeHeight, blockWidth, blockHeight, visibleRows, visibleCols}
-use Rattle.cdef_frame.specs.declared.Frame.{Frame}
-use Rattle.cdef_frame.specs.Frame.{kindOf, pictureOf, blockOf, wayOf, dirOf, dampingOf}
-use Rattle.cdef_frame.specs.Lent.{InForce}
+use Rattle.frame_shape.specs.declared.Frame.{Frame}
+use Rattle.frame_shape.specs.Frame.{kindOf, pictureOf, blockOf, wayOf, dirOf, dampingOf}
+use Rattle.frame_shape.specs.Lent.{InForce}
 use Rattle.try_blocks.specs.TrialBlocks.{trialBlocks, visiblePart}
 
 -- ---- a direction in the plane, and a working damping

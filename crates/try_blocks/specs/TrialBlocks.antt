@@ -7,7 +7,7 @@ use Rattle.cdef_spec.specs.declared.Visible.{Visible}
 use Rattle.cdef_spec.specs.Words.{table}
 use Rattle.cdef_spec.specs.BlockCalls.{trialPlace}
 use Rattle.cdef_spec.specs.Picture.{Picture, blockWidth, blockHeight, blockAt, visibleRows, visibleCols, planeOf}
-use Rattle.cdef_frame.specs.Frame.{blockOf, wayOf, dirOf, dampingOf}
+use Rattle.frame_shape.specs.Frame.{blockOf, wayOf, dirOf, dampingOf}
 
 -- the twelve trial blocks of a block, 64 entries each
 unfoldable pub trialBlocks : Picture → SignalledDamping → List ℕ → ℕ → ℕ → List ℕ → List ℕ

@@ -4,15 +4,15 @@ ghost use mathlib.Core.List.{List};
 ghost use Prim.Native.Nat.{ℕ, _*_, _/_, _≤_, _<_};
 ghost use lib.ListN.{length};
 ghost use Rattle.cdef_spec.specs.Picture.{blockWidth, blockHeight, visibleRows, visibleCols};
-ghost use Rattle.cdef_frame.specs.Frame.{Shaped, pictureOf};
-ghost use Rattle.cdef_frame.specs.Lent.{Listed, Sampled, Seen, InForce};
+ghost use Rattle.frame_shape.specs.Frame.{Shaped, pictureOf};
+ghost use Rattle.frame_shape.specs.Lent.{Listed, Sampled, Seen, InForce};
 ghost use Rattle.try_blocks.specs.TrialBlocks.{trialBlocks, visiblePart};
-use cdef_frame::Frame;
-use cdef_frame::geometry;
-use cdef_frame::params;
 use cdef_spec::Block;
 use cdef_spec::SignalledDamping;
 use cdef_spec::Visible;
+use frame_shape::Frame;
+use frame_shape::geometry;
+use frame_shape::params;
 
 // Room for twelve trial blocks.
 pub fn room() -> [u16; 768]
@@ -43,7 +43,17 @@ pub fn make_trials(
     let way = params::way_of(f, vars, k);
     let dir = params::dir_of(f, dirs, k);
     let damping = params::damping_of(f, d);
-    cdef_trial::block::cdef_block_candidates(blocks, snapshot, w, h, b, way, dir, damping, f.depth);
+    trial_block::block::cdef_block_candidates(
+        blocks,
+        snapshot,
+        w,
+        h,
+        b,
+        way,
+        dir,
+        damping,
+        f.depth,
+    );
 }
 
 // The visible part of a block that begins inside the visible area.
@@ -58,7 +68,7 @@ pub fn visible_part(f: Frame, v: Visible, by: usize, bx: usize) -> Block
     Block {
         x: b.x,
         y: b.y,
-        width: cdef_sample::lesser(b.width, cols),
-        height: cdef_sample::lesser(b.height, rows),
+        width: arith_sample::lesser(b.width, cols),
+        height: arith_sample::lesser(b.height, rows),
     }
 }

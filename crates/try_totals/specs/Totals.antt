@@ -8,7 +8,7 @@ use lib.ListN.{getD}
 use Rattle.cdef_spec.specs.declared.DistanceConstants.{DistanceConstants}
 use Rattle.cdef_spec.specs.LoopForm.{signed}
 use Rattle.distance_sums.specs.Blocks.{at, cell, weightedBy}
-use Rattle.cdef_cut.specs.Cut.{cutDistance}
+use Rattle.distance_visible.specs.Cut.{cutDistance}
 
 -- signed numbers without their signs
 unfoldable pub plainOf : List ℤ → List ℕ

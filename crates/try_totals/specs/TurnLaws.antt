@@ -10,8 +10,8 @@ use lib.IntN.{ℤ, pos, _+ℤ_}
 use lib.ListN.{getD, set, length}
 use Rattle.cdef_spec.specs.LoopForm.{signed, addTurns}
 use Rattle.cdef_spec.specs.TotalLaws.{length-signed, getD-signed, add-signed, length-turns}
-use Rattle.cdef_totals.specs.FoldLaws.{turns-none, turns-more}
-use Rattle.cdef_totals.specs.TotalBounds.{turns-low}
+use Rattle.arith_totals.specs.FoldLaws.{turns-none, turns-more}
+use Rattle.arith_totals.specs.TotalBounds.{turns-low}
 use Rattle.try_totals.specs.Totals.{plainOf, Low}
 
 -- ---- signs

@@ -15,9 +15,9 @@ use Rattle.cdef_spec.specs.LoopForm.{addTurns}
 use Rattle.distance_weight.specs.Weighing.{OfDepth, SumsOf, spreadOf}
 use Rattle.distance_sums.specs.Blocks.{at, cell, blockOf, Below, Within, weightedBy}
 use Rattle.distance_sums.specs.BlockLaws.{block-at, block-cell, block-below}
-use Rattle.cdef_distance.specs.WeightedLaws.{weighted-same, weighted-64, sums-64, weighted-64-low}
-use Rattle.cdef_cut.specs.CutLaws.{cut-whole}
-use Rattle.cdef_totals.specs.FoldLaws.{turns-same}
+use Rattle.distance_block.specs.WeightedLaws.{weighted-same, weighted-64, sums-64, weighted-64-low}
+use Rattle.distance_visible.specs.CutLaws.{cut-whole}
+use Rattle.arith_totals.specs.FoldLaws.{turns-same}
 use Rattle.try_totals.specs.Totals.{trialDistances, wholeDistances}
 
 -- ---- 64 samples in a row are the 8 by 8 block there

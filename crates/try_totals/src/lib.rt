@@ -29,7 +29,7 @@ fn add_cut(
     ensures { λ _. ⌜ now (totals .exit) ≡ signed (addTurns (plainOf (now (totals .entry))) base (trialDistances luma c rows cols (now (original .entry)) at pitch (now (blocks .entry)) step) 12) ⌝ }
 {
     for t in 0..12usize {
-        let n = cdef_cut::distance_cut(
+        let n = distance_visible::distance_cut(
             original,
             at,
             pitch,

@@ -1,4 +1,4 @@
--- `cdef_agree::at_or_zero` meets its contract.
+-- `agree_parts::at_or_zero` meets its contract.
 use mathlib.Core.Path.{sym}
 use native.Mathlib.Omega.{arith}
 use borrow.Author.Needs.{needs}

@@ -1,10 +1,10 @@
--- `cdef_agree::copy` meets its contract.
+-- `agree_parts::copy` meets its contract.
 use mathlib.Core.Path.{_≡_, refl, sym, _∙_}
 use Prim.Native.Nat.{ℕ, _-_, _≤_}
 use native.Mathlib.Omega.{arith}
 use borrow.Author.Needs.{needs}
 use lib.ListN.{getD, length, take, length-set}
-use Rattle.cdef_sample.specs.Upto.{upto, upto-none, upto-more, upto-all}
+use Rattle.arith_sample.specs.Upto.{upto, upto-none, upto-more, upto-all}
 use Rattle.agree_parts.specs.PartLaws.{not-copied, copy-done}
 use Rattle.agree_parts.proofs.copy.Statement.{statement}
 use Rattle.agree_parts.proofs.copy.Tie as tie

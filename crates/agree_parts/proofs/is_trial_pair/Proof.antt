@@ -1,4 +1,4 @@
--- `cdef_agree::is_trial_pair` meets its contract.
+-- `agree_parts::is_trial_pair` meets its contract.
 use native.Mathlib.Omega.{arith}
 use borrow.Author.Needs.{needs}
 use Rattle.agree_parts.specs.PartLaws.{no-secondary, primary-four, primary-low}

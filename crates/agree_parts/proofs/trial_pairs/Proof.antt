@@ -1,4 +1,4 @@
--- `cdef_agree::trial_pairs` meets its contract.
+-- `agree_parts::trial_pairs` meets its contract.
 use mathlib.Core.Path.{_≡_, refl, _∙_}
 use Prim.Native.Nat.{_-_, _≤_}
 use native.Mathlib.Omega.{arith}

@@ -6,7 +6,7 @@ use mathlib.Core.List.{[]}
 use Prim.Native.Nat.{_/_, _^_}
 use lib.ListN.{length}
 use Rattle.cdef_spec.specs.FrameCalls.{pairsOf}
-use Rattle.cdef_frame.specs.BlockLaws.{number-low, counts-low}
+use Rattle.frame_shape.specs.BlockLaws.{number-low, counts-low}
 use Rattle.apply_blocks.specs.BlockLaws.{pair-low, unit-in, skipped, off, on}
 use Rattle.apply_blocks.specs.FilterLaws.{number-small}
 use borrow.Author.Needs.{needs}
@@ -15,9 +15,9 @@ use Rattle.apply_blocks.proofs.apply_block.Tie as tie
 use Rattle.apply_blocks.proofs.apply_block.Reads as reads
 use Rattle.apply_blocks.proofs.apply_block.Lts as lts
 use Rattle.apply_blocks.proofs.filter_with.Reads as filter-with-reads
-use Rattle.cdef_frame.proofs.params.is_off.Reads as is-off-reads
+use Rattle.frame_shape.proofs.params.is_off.Reads as is-off-reads
 use Rattle.apply_blocks.proofs.pair_of.Reads as pair-of-reads
-use Rattle.cdef_frame.proofs.geometry.unit_at.Reads as unit-at-reads
+use Rattle.frame_shape.proofs.geometry.unit_at.Reads as unit-at-reads
 
 -- the block's index
 number : (s : tie.Start) → let a = s .args in (a .by * (a .f .width / 8) + a .bx < length (a .skip .now)) × (a .by * (a .f .width / 8) + a .bx < 2 ^ 20)

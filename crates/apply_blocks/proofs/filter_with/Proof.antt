@@ -5,18 +5,18 @@ use native.Mathlib.Omega.{arith}
 use borrow.Author.Needs.{needs}
 use mathlib.Core.List.{[]}
 use Prim.Native.Nat.{_/_, _^_}
-use Rattle.cdef_frame.specs.Lent.{blocksOf}
-use Rattle.cdef_frame.specs.BlockLaws.{number-low, counts-low, block-sides, sample-low, sample-byte}
-use Rattle.cdef_frame.specs.UsableLaws.{usable, depth-kept}
+use Rattle.frame_shape.specs.Lent.{blocksOf}
+use Rattle.frame_shape.specs.BlockLaws.{number-low, counts-low, block-sides, sample-low, sample-byte}
+use Rattle.frame_shape.specs.UsableLaws.{usable, depth-kept}
 use Rattle.apply_blocks.specs.FilterLaws.{number-small, in-plane, room, filtered-is}
 use borrow.Author.Needs.{needs}
 use Rattle.apply_blocks.proofs.filter_with.Statement.{statement}
 use Rattle.apply_blocks.proofs.filter_with.Tie as tie
 use Rattle.apply_blocks.proofs.filter_with.Reads as reads
 use Rattle.apply_blocks.proofs.filter_with.Lts as lts
-use Rattle.cdef_inside.proofs.filter_block.Reads as filter-block-reads
-use Rattle.cdef_frame.proofs.geometry.block_of.Reads as block-of-reads
-use Rattle.cdef_frame.proofs.params.params_for.Reads as params-for-reads
+use Rattle.plane_block.proofs.filter_block.Reads as filter-block-reads
+use Rattle.frame_shape.proofs.geometry.block_of.Reads as block-of-reads
+use Rattle.frame_shape.proofs.params.params_for.Reads as params-for-reads
 
 -- the block's index
 number : (s : tie.Start) → let a = s .args in (a .by * (a .f .width / 8) + a .bx < blocksOf (a .f)) × (a .by * (a .f .width / 8) + a .bx < 2 ^ 20)

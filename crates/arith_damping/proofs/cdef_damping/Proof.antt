@@ -1,4 +1,4 @@
--- `cdef_leaf::damping::cdef_damping` meets its contract.
+-- `arith_damping::cdef_damping` meets its contract.
 use mathlib.Core.Path.{_≡_}
 use mathlib.Core.Logic.{⊎-elim}
 use native.Mathlib.Omega.{arith}

@@ -1,4 +1,4 @@
--- `cdef_leaf::damping::choice_of` meets its contract.
+-- `arith_damping::choice_of` meets its contract.
 use native.Mathlib.Omega.{arith}
 use borrow.Author.Tests.{eq-eqb, ne-eqb}
 use Rattle.arith_damping.specs.Choice.{choiceOf}

@@ -1,4 +1,4 @@
--- `cdef_leaf::damping::chroma_damping` meets its contract.
+-- `arith_damping::chroma_damping` meets its contract.
 use mathlib.Core.Path.{refl}
 use Rattle.cdef_spec.specs.Document01.{chromaDamping}
 use borrow.Author.Needs.{needs}

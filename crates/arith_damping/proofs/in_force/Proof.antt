@@ -1,4 +1,4 @@
--- `cdef_leaf::damping::in_force` meets its contract.
+-- `arith_damping::in_force` meets its contract.
 use Rattle.cdef_spec.specs.Document01.{inForce}
 use borrow.Author.Needs.{needs}
 use Rattle.arith_damping.proofs.in_force.Statement.{statement}

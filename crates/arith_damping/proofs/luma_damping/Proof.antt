@@ -1,4 +1,4 @@
--- `cdef_leaf::damping::luma_damping` meets its contract.
+-- `arith_damping::luma_damping` meets its contract.
 use mathlib.Core.Path.{refl}
 use Rattle.cdef_spec.specs.Document01.{lumaDamping}
 use borrow.Author.Needs.{needs}

@@ -1,4 +1,4 @@
--- `cdef_leaf::adjust_pri` meets its contract.
+-- `arith_strength::adjust_pri` meets its contract.
 use borrow.Author.Needs.{needs}
 use mathlib.Core.Path.{_≡_, refl}
 use mathlib.Core.Bool.{Bool, true, false, cond}

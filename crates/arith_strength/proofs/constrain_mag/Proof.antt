@@ -1,4 +1,4 @@
--- `cdef_leaf::constrain_mag` meets its contract.
+-- `arith_strength::constrain_mag` meets its contract.
 use borrow.Author.Needs.{needs}
 use mathlib.Core.Path.{_≡_, sym, _∙_}
 use mathlib.Core.Logic.{⊎-elim}

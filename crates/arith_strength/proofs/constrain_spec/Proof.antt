@@ -1,4 +1,4 @@
--- `cdef_leaf::constrain_spec` meets its contract.
+-- `arith_strength::constrain_spec` meets its contract.
 use borrow.Author.Needs.{needs}
 use mathlib.Core.Path.{_≡_, sym, ap, _∙_}
 use native.Mathlib.Omega.{arith}

@@ -1,4 +1,4 @@
--- `cdef_leaf::log2_floor` meets its contract: 31 less the leading zeros is the index of the highest set bit.
+-- `arith_strength::log2_floor` meets its contract: 31 less the leading zeros is the index of the highest set bit.
 use mathlib.Core.Path.{_≡_, sym, _∙_}
 use native.Mathlib.Omega.{arith}
 use Prim.Native.Nat.{ℕ, suc, _+_, _-_, _^_, _<_}

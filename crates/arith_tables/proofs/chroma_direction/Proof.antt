@@ -1,4 +1,4 @@
--- `cdef_leaf::tables::chroma_direction` meets its contract.
+-- `arith_tables::chroma_direction` meets its contract.
 use mathlib.Core.Path.{_≡_, sym, _∙_}
 use Prim.Native.Nat.{ℕ, _<_}
 use native.Mathlib.Omega.{arith}

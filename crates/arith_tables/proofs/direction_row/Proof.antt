@@ -1,4 +1,4 @@
--- `cdef_leaf::tables::direction_row` meets its contract.
+-- `arith_tables::direction_row` meets its contract.
 use mathlib.Core.Path.{sym, _∙_}
 use borrow.Author.Tests.{ne-eqb}
 use Rattle.arith_tables.proofs.Entries.{row-is}

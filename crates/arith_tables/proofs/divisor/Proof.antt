@@ -1,4 +1,4 @@
--- `cdef_leaf::tables::divisor` meets its contract.
+-- `arith_tables::divisor` meets its contract.
 use mathlib.Core.Path.{refl}
 use borrow.Author.Needs.{needs}
 use Rattle.arith_tables.proofs.divisor.Statement.{statement}

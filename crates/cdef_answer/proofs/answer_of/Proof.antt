@@ -1,4 +1,4 @@
--- `cdef::answer_of` meets its contract.
+-- `cdef_answer::answer_of` meets its contract.
 use native.Mathlib.Omega.{arith}
 use borrow.Author.Needs.{needs}
 use borrow.Author.Tests.{eq-eqb, ne-eqb}

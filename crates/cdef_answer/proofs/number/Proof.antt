@@ -1,4 +1,4 @@
--- `cdef_agree::number` meets its contract.
+-- `cdef_answer::number` meets its contract.
 use mathlib.Core.Path.{sym, ap}
 use native.Mathlib.Omega.{arith}
 use borrow.Author.Needs.{needs}

@@ -1,4 +1,4 @@
--- `cdef::apply_chroma` meets its contract.
+-- `cdef_lists::apply_chroma` meets its contract.
 use mathlib.Core.Path.{ap, _∙_}
 use Prim.Native.Nat.{ℕ}
 use native.Mathlib.Omega.{arith}
@@ -6,15 +6,15 @@ use Rattle.cdef_answer.specs.JoinLaws.{applying-joined}
 use borrow.Author.Needs.{needs}
 use Rattle.cdef_spec.specs.Answers.{nothing, resultOf}
 use Rattle.cdef_spec.specs.FrameCalls.{applyingListsOutcome}
-use Rattle.cdef_frame.specs.Frame.{kindOf, pictureOf}
+use Rattle.frame_shape.specs.Frame.{kindOf, pictureOf}
 use borrow.Author.Needs.{needs}
 use Rattle.cdef_lists.proofs.apply_chroma.Statement.{statement}
 use Rattle.cdef_lists.proofs.apply_chroma.Tie as tie
 use Rattle.cdef_lists.proofs.apply_chroma.Reads as reads
 use Rattle.cdef_lists.proofs.apply_chroma.Lts as lts
 use Rattle.cdef_answer.proofs.answer_of.Reads as answer-of-reads
-use Rattle.cdef_frame_calls.proofs.apply_frame.Reads as apply-frame-reads
-use Rattle.cdef_frame_calls.specs.FlagLaws.{chroma-off}
+use Rattle.frame_calls.proofs.apply_frame.Reads as apply-frame-reads
+use Rattle.frame_calls.specs.FlagLaws.{chroma-off}
 
 slice-aggregate-apply-frame : tie.Need-slice-aggregate-apply-frame
 slice-aggregate-apply-frame c = search needs

@@ -1,4 +1,4 @@
--- `cdef::apply_luma` meets its contract.
+-- `cdef_lists::apply_luma` meets its contract.
 use mathlib.Core.Path.{ap, _∙_}
 use Prim.Native.Nat.{ℕ}
 use native.Mathlib.Omega.{arith}
@@ -6,14 +6,14 @@ use Rattle.cdef_answer.specs.JoinLaws.{applying-joined}
 use borrow.Author.Needs.{needs}
 use Rattle.cdef_spec.specs.Answers.{nothing, resultOf}
 use Rattle.cdef_spec.specs.FrameCalls.{applyingListsOutcome}
-use Rattle.cdef_frame.specs.Frame.{kindOf, pictureOf}
+use Rattle.frame_shape.specs.Frame.{kindOf, pictureOf}
 use borrow.Author.Needs.{needs}
 use Rattle.cdef_lists.proofs.apply_luma.Statement.{statement}
 use Rattle.cdef_lists.proofs.apply_luma.Tie as tie
 use Rattle.cdef_lists.proofs.apply_luma.Reads as reads
 use Rattle.cdef_lists.proofs.apply_luma.Lts as lts
 use Rattle.cdef_answer.proofs.answer_of.Reads as answer-of-reads
-use Rattle.cdef_frame_calls.proofs.apply_frame.Reads as apply-frame-reads
+use Rattle.frame_calls.proofs.apply_frame.Reads as apply-frame-reads
 
 apply-frame-requires : tie.Need-apply-frame-requires
 apply-frame-requires c κs = search needs

@@ -1,4 +1,4 @@
--- `cdef_asked::block_questions::block_taken` meets its contract.
+-- `check_block::block_taken` meets its contract.
 use mathlib.Core.Path.{_≡_}
 use mathlib.Core.Bool.{true, false}
 use mathlib.Core.List.{List}

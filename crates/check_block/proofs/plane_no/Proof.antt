@@ -1,4 +1,4 @@
--- `cdef_asked::block_questions::plane_no` meets its contract.
+-- `check_block::plane_no` meets its contract.
 use mathlib.Core.Path.{_≡_}
 use mathlib.Core.Bool.{true, false}
 use Rattle.cdef_spec.specs.Document01.{Plane}

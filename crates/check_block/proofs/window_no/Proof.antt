@@ -1,6 +1,6 @@
 -- `check_block::window_no` meets its contract.
+use mathlib.Core.Path.{sym, _∙_}
 use Rattle.cdef_spec.specs.Questions.{firstNo}
-use Rattle.check_sides.specs.Said.{no-so, yes-so}
 use borrow.Author.Needs.{needs}
 use Rattle.check_block.proofs.window_no.Statement.{statement}
 use Rattle.check_block.proofs.window_no.Tie as tie
@@ -10,11 +10,11 @@ window-taken-requires c κs = search needs
 
 returns : tie.Need-returns
 unfolding firstNo
-returns c = rw (no-so (c .before .window-taken .ensures) (c .if1 .taken))
+returns c = rw (sym (c .before .window-taken .ensures) ∙ c .if1 .taken)
 
 returns-2 : tie.Need-returns-2
 unfolding firstNo
-returns-2 c = rw (yes-so (c .before .window-taken .ensures) (c .if1 .left))
+returns-2 c = rw (sym (c .before .window-taken .ensures) ∙ c .if1 .left)
 
 pub window-no-spec : {M : Type 1} → statement M
 window-no-spec = tie.close (tie.spec window-taken-requires returns returns-2)

@@ -1,4 +1,4 @@
--- `cdef_frame_asked::calls::applying_listed` meets its contract.
+-- `check_frame::applying_listed` meets its contract.
 use borrow.Author.Needs.{needs}
 use borrow.Author.Tests.{ne-eqb, eq-eqb}
 use Rattle.check_frame.proofs.applying_listed.Statement.{statement}

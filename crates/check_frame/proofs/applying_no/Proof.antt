@@ -9,7 +9,7 @@ use Rattle.cdef_spec.specs.Document01.{inForce}
 use Rattle.cdef_spec.specs.Picture.{Picture, units}
 use Rattle.cdef_spec.specs.Questions.{firstNo, allTaken, primaryTaken, secondaryTaken}
 use Rattle.cdef_spec.specs.FrameCalls.{applyingListsNo}
-use Rattle.cdef_frame.specs.Frame.{Shaped, pictureOf}
+use Rattle.frame_shape.specs.Frame.{Shaped, pictureOf}
 use Rattle.check_picture.specs.Parts.{shapeFirst, listsNext, valuesNext}
 use Rattle.check_picture.specs.PartLaws.{lists-as, values-as, at-shape, at-lists, at-values, at-samples}
 use Rattle.check_frame.specs.YesLaws.{shape-facts}

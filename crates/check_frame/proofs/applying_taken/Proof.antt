@@ -1,4 +1,4 @@
--- `cdef_frame_asked::calls::applying_taken` meets its contract.
+-- `check_frame::applying_taken` meets its contract.
 use borrow.Author.Needs.{needs}
 use Rattle.check_sides.specs.Said.{no-so, yes-so}
 use Rattle.check_frame.proofs.applying_taken.Statement.{statement}

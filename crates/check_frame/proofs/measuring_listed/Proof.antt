@@ -1,4 +1,4 @@
--- `cdef_frame_asked::calls::measuring_listed` meets its contract.
+-- `check_frame::measuring_listed` meets its contract.
 use mathlib.Core.Path.{_≡_}
 use Prim.Native.Nat.{ℕ, _+_, _*_, _≤_}
 use native.Mathlib.Omega.{arith}
@@ -8,8 +8,8 @@ use mathlib.Core.List.{List, []}
 use native.Mathlib.Nat.{mul-le-mul, div-le-self}
 use borrow.Author.Tests.{ne-eqb, eq-eqb}
 use Rattle.cdef_spec.specs.FrameCalls.{scratchLength}
-use Rattle.cdef_frame.specs.Frame.{pictureOf}
-use Rattle.cdef_frame.specs.FrameLaws.{side-facts, width-is, block-height-is}
+use Rattle.frame_shape.specs.Frame.{pictureOf}
+use Rattle.frame_shape.specs.FrameLaws.{side-facts, width-is, block-height-is}
 use Rattle.check_frame.proofs.measuring_listed.Statement.{statement}
 use Rattle.check_frame.proofs.measuring_listed.Tie as tie
 

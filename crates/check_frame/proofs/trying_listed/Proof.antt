@@ -1,4 +1,4 @@
--- `cdef_frame_asked::calls::trying_listed` meets its contract.
+-- `check_frame::trying_listed` meets its contract.
 use borrow.Author.Needs.{needs}
 use borrow.Author.Tests.{ne-eqb, eq-eqb}
 use Rattle.check_frame.proofs.trying_listed.Statement.{statement}

@@ -1,4 +1,4 @@
--- `cdef_frame_lists::lists::all_secondary` meets its contract.
+-- `check_lists::all_secondary` meets its contract.
 use mathlib.Core.Path.{_≡_}
 use Prim.Native.Nat.{_-_, _≤_}
 use native.Mathlib.Omega.{arith}

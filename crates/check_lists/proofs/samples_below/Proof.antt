@@ -1,4 +1,4 @@
--- `cdef_frame_lists::lists::samples_below` meets its contract.
+-- `check_lists::samples_below` meets its contract.
 use mathlib.Core.Path.{_≡_}
 use Prim.Native.Nat.{_-_, _≤_}
 use native.Mathlib.Omega.{arith}

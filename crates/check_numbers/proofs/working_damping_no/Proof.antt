@@ -1,4 +1,4 @@
--- `cdef_asked::questions::working_damping_no` meets its contract.
+-- `check_numbers::working_damping_no` meets its contract.
 use mathlib.Core.Path.{_≡_}
 use mathlib.Core.Bool.{true}
 use Rattle.cdef_spec.specs.Questions.{firstNo, depthTaken}

@@ -1,4 +1,4 @@
--- `cdef_frame_asked::calls::direction_pass_no` meets its contract.
+-- `check_pass::direction_pass_no` meets its contract.
 use mathlib.Core.Path.{_≡_, sym, _∙_}
 use native.Mathlib.Omega.{arith}
 use borrow.Author.Needs.{needs}

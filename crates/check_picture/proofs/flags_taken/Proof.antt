@@ -1,8 +1,8 @@
--- `cdef_frame_picture::picture::flags_taken` meets its contract.
+-- `check_picture::flags_taken` meets its contract.
 use native.Mathlib.Omega.{arith}
 use borrow.Author.Tests.{lt-ltb, le-ltb}
 use Rattle.cdef_spec.specs.Questions.{flagsTaken}
-use Rattle.cdef_frame.specs.FrameLaws.{kind-luma, kind-chroma}
+use Rattle.frame_shape.specs.FrameLaws.{kind-luma, kind-chroma}
 use Rattle.check_picture.proofs.flags_taken.Statement.{statement}
 use Rattle.check_picture.proofs.flags_taken.Tie as tie
 

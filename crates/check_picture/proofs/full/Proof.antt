@@ -1,10 +1,10 @@
--- `cdef_frame_picture::picture::full` meets its contract.
+-- `check_picture::full` meets its contract.
 use Prim.Native.Nat.{_+_, _≤_}
 use native.Mathlib.Omega.{arith}
 use borrow.Author.Needs.{needs}
 use native.Mathlib.Nat.{mul-le-mul, div-le-self}
 use mathlib.Core.List.{[]}
-use Rattle.cdef_frame.specs.FrameLaws.{side-facts, width-is, height-is}
+use Rattle.frame_shape.specs.FrameLaws.{side-facts, width-is, height-is}
 use Rattle.check_picture.proofs.full.Statement.{statement}
 use Rattle.check_picture.proofs.full.Tie as tie
 

@@ -9,7 +9,7 @@ use lib.Dec.{eqb}
 use lib.ListN.{length}
 use Rattle.cdef_spec.specs.Picture.{Picture, planeWidth, planeHeight}
 use Rattle.cdef_spec.specs.Questions.{firstNo, fullPlanes, pictureListed}
-use Rattle.cdef_frame.specs.Frame.{pictureOf}
+use Rattle.frame_shape.specs.Frame.{pictureOf}
 use Rattle.check_sides.specs.Said.{no-so, yes-so}
 use Rattle.check_picture.proofs.lists_no.Statement.{statement}
 use Rattle.check_picture.proofs.lists_no.Tie as tie

@@ -1,11 +1,11 @@
--- `cdef_frame_picture::picture::picture_listed` meets its contract.
+-- `check_picture::picture_listed` meets its contract.
 use Prim.Native.Nat.{_/_, _≤_}
 use native.Mathlib.Omega.{arith}
 use native.Mathlib.Nat.{mul-le-mul}
 use borrow.Author.Tests.{ne-eqb, eq-eqb}
 use Rattle.cdef_spec.specs.Questions.{pictureListed, variancesListed}
-use Rattle.cdef_frame.specs.Frame.{pictureOf}
-use Rattle.cdef_frame.specs.FrameLaws.{side-facts, kind-luma, kind-chroma}
+use Rattle.frame_shape.specs.Frame.{pictureOf}
+use Rattle.frame_shape.specs.FrameLaws.{side-facts, kind-luma, kind-chroma}
 use Rattle.check_picture.proofs.picture_listed.Statement.{statement}
 use Rattle.check_picture.proofs.picture_listed.Tie as tie
 

@@ -1,9 +1,9 @@
--- `cdef_frame_picture::picture::picture_taken` meets its contract.
+-- `check_picture::picture_taken` meets its contract.
 use mathlib.Core.Path.{_≡_}
 use borrow.Author.Needs.{needs}
 use mathlib.Core.Bool.{true}
 use Rattle.cdef_spec.specs.Questions.{allBelow, pictureTaken}
-use Rattle.cdef_frame.specs.Frame.{pictureOf}
+use Rattle.frame_shape.specs.Frame.{pictureOf}
 use Rattle.check_sides.specs.Said.{no-so, yes-so}
 use Rattle.check_picture.proofs.picture_taken.Statement.{statement}
 use Rattle.check_picture.proofs.picture_taken.Tie as tie

@@ -1,4 +1,4 @@
--- `cdef_frame_picture::picture::plane_no` meets its contract.
+-- `check_picture::plane_no` meets its contract.
 use borrow.Author.Needs.{needs}
 use Rattle.cdef_spec.specs.Questions.{firstNo, allSamplesBelow}
 use Rattle.check_sides.specs.Said.{no-so, yes-so}

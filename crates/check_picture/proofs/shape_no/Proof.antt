@@ -1,8 +1,8 @@
--- `cdef_frame_picture::picture::shape_no` meets its contract.
+-- `check_picture::shape_no` meets its contract.
 use mathlib.Core.Path.{sym, _∙_}
 use borrow.Author.Needs.{needs}
 use Rattle.cdef_spec.specs.Questions.{firstNo}
-use Rattle.cdef_frame.specs.Frame.{pictureOf}
+use Rattle.frame_shape.specs.Frame.{pictureOf}
 use Rattle.check_picture.specs.PartLaws.{sides-stop, sides-passed}
 use Rattle.check_sides.specs.Said.{no-so, yes-so}
 use Rattle.check_picture.proofs.shape_no.Statement.{statement}

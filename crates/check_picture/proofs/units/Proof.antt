@@ -1,11 +1,11 @@
--- `cdef_frame_picture::picture::units` meets its contract.
+-- `check_picture::units` meets its contract.
 use mathlib.Core.Path.{refl}
 use Prim.Native.Nat.{ℕ, _+_, _*_, _/_, _≤_}
 use native.Mathlib.Omega.{arith}
 use native.Mathlib.Nat.{mul-le-mul}
 use Rattle.cdef_spec.specs.Picture.{units}
-use Rattle.cdef_frame.specs.Frame.{pictureOf}
-use Rattle.cdef_frame.specs.FrameLaws.{side-facts}
+use Rattle.frame_shape.specs.Frame.{pictureOf}
+use Rattle.frame_shape.specs.FrameLaws.{side-facts}
 use Rattle.check_picture.proofs.units.Statement.{statement}
 use Rattle.check_picture.proofs.units.Tie as tie
 

@@ -1,7 +1,7 @@
--- `cdef_frame_picture::picture::variances_taken` meets its contract.
+-- `check_picture::variances_taken` meets its contract.
 use borrow.Author.Needs.{needs}
 use Rattle.cdef_spec.specs.Questions.{variancesTaken}
-use Rattle.cdef_frame.specs.FrameLaws.{kind-luma, kind-chroma}
+use Rattle.frame_shape.specs.FrameLaws.{kind-luma, kind-chroma}
 use Rattle.check_picture.proofs.variances_taken.Statement.{statement}
 use Rattle.check_picture.proofs.variances_taken.Tie as tie
 

@@ -1,9 +1,9 @@
--- `cdef_frame_picture::picture::visible_taken` meets its contract.
+-- `check_picture::visible_taken` meets its contract.
 use Prim.Native.Nat.{_≤_}
 use native.Mathlib.Omega.{arith}
 use borrow.Author.Tests.{le-leb, lt-leb}
 use Rattle.cdef_spec.specs.Questions.{visibleTaken}
-use Rattle.cdef_frame.specs.Frame.{pictureOf}
+use Rattle.frame_shape.specs.Frame.{pictureOf}
 use Rattle.check_picture.proofs.visible_taken.Statement.{statement}
 use Rattle.check_picture.proofs.visible_taken.Tie as tie
 

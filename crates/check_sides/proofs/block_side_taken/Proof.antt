@@ -1,4 +1,4 @@
--- `cdef_asked::block_questions::block_side_taken` meets its contract.
+-- `check_sides::block_side_taken` meets its contract.
 use native.Mathlib.Omega.{arith}
 use borrow.Author.Tests.{le-leb, lt-leb}
 use Rattle.cdef_spec.specs.Questions.{blockSideTaken}

@@ -1,4 +1,4 @@
--- `cdef_asked::questions::corner_taken` meets its contract.
+-- `check_sides::corner_taken` meets its contract.
 use borrow.Author.Tests.{lt-ltb, le-ltb}
 use Rattle.cdef_spec.specs.Questions.{cornerTaken}
 use Rattle.check_sides.proofs.corner_taken.Statement.{statement}

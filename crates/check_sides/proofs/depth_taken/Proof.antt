@@ -1,4 +1,4 @@
--- `cdef_asked::questions::depth_taken` meets its contract.
+-- `check_sides::depth_taken` meets its contract.
 use borrow.Author.Tests.{lt-leb, le-leb}
 use Rattle.cdef_spec.specs.Questions.{depthTaken}
 use Rattle.check_sides.proofs.depth_taken.Statement.{statement}

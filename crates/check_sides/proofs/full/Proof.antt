@@ -1,4 +1,4 @@
--- `cdef_asked::questions::full` meets its contract.
+-- `check_sides::full` meets its contract.
 use mathlib.Core.Path.{_≡_}
 use mathlib.Core.Bool.{true}
 use Prim.Native.Nat.{_≤_}

@@ -1,4 +1,4 @@
--- `cdef_asked::questions::side_taken` meets its contract.
+-- `check_sides::side_taken` meets its contract.
 use Prim.Native.Nat.{_≤_}
 use native.Mathlib.Omega.{arith}
 use borrow.Author.Tests.{le-leb}

@@ -1,4 +1,4 @@
--- `cdef_asked::questions::difference_taken` meets its contract.
+-- `check_values::difference_taken` meets its contract.
 use mathlib.Core.Path.{_≡_, refl, sym}
 use mathlib.Core.Bool.{true, false}
 use Prim.Native.Nat.{suc}

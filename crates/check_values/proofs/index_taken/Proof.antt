@@ -1,4 +1,4 @@
--- `cdef_asked::questions::index_taken` meets its contract.
+-- `check_values::index_taken` meets its contract.
 use mathlib.Core.Path.{refl}
 use Rattle.cdef_spec.specs.Questions.{indexTaken}
 use Rattle.check_values.proofs.index_taken.Statement.{statement}

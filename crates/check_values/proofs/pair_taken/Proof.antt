@@ -1,4 +1,4 @@
--- `cdef_frame_picture::picture::pair_taken` meets its contract.
+-- `check_values::pair_taken` meets its contract.
 use borrow.Author.Needs.{needs}
 use borrow.Author.Tests.{le-leb, lt-leb}
 use Rattle.cdef_spec.specs.Questions.{primaryTaken, pairTaken}

@@ -1,4 +1,4 @@
--- `cdef_filter::params_taken` meets its contract.
+-- `check_values::params_taken` meets its contract.
 use mathlib.Core.Path.{_≡_, refl, sym}
 use mathlib.Core.Bool.{Bool, true, false}
 use Prim.Native.Nat.{ℕ, _+_, _-_, _*_, _%_, _^_, _≤_, _<_}

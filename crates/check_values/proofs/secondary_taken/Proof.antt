@@ -1,4 +1,4 @@
--- `cdef_frame_lists::lists::secondary_taken` meets its contract.
+-- `check_values::secondary_taken` meets its contract.
 use borrow.Author.Tests.{le-leb, lt-leb}
 use Rattle.cdef_spec.specs.Questions.{secondaryTaken}
 use Rattle.check_values.proofs.secondary_taken.Statement.{statement}

@@ -1,4 +1,4 @@
--- `cdef_leaf::damping::signalled_taken` meets its contract.
+-- `check_values::signalled_taken` meets its contract.
 use borrow.Author.Tests.{le-leb, lt-leb}
 use Rattle.cdef_spec.specs.Questions.{signalledTaken}
 use Rattle.check_values.proofs.signalled_taken.Statement.{statement}

@@ -1,4 +1,4 @@
--- `cdef_asked::questions::strength_taken` meets its contract.
+-- `check_values::strength_taken` meets its contract.
 use mathlib.Core.Path.{refl}
 use Rattle.cdef_spec.specs.Questions.{strengthTaken}
 use Rattle.check_values.proofs.strength_taken.Statement.{statement}

@@ -1,4 +1,4 @@
--- `cdef_asked::questions::variance_taken` meets its contract.
+-- `check_values::variance_taken` meets its contract.
 use mathlib.Core.Path.{refl}
 use Rattle.cdef_spec.specs.Questions.{varianceTaken}
 use Rattle.check_values.proofs.variance_taken.Statement.{statement}

@@ -1,4 +1,4 @@
--- `cdef_asked::trial_questions::way_taken` meets its contract.
+-- `check_values::way_taken` meets its contract.
 use mathlib.Core.Path.{_≡_, ap, sym, _∙_}
 use Rattle.cdef_spec.specs.declared.TrialWay.{TrialWay}
 use Rattle.cdef_spec.specs.Questions.{wayTaken}

@@ -1,4 +1,4 @@
--- `cdef_asked::questions::working_taken` meets its contract.
+-- `check_values::working_taken` meets its contract.
 use mathlib.Core.Path.{refl}
 use Rattle.cdef_spec.specs.Questions.{workingTaken}
 use Rattle.check_values.proofs.working_taken.Statement.{statement}

@@ -6,7 +6,7 @@ use lib.ListN.{length, take, getD, length-set}
 use mir.Syntax.{w16}
 use mir.Val.{toZ, ofZ}
 use Rattle.cdef_spec.specs.Document01.{edgeSample, directionInput}
-use Rattle.cdef_sample.specs.Upto.{upto, upto-none, upto-more, upto-at, upto-all}
+use Rattle.arith_sample.specs.Upto.{upto, upto-none, upto-more, upto-at, upto-all}
 use Rattle.direction_levels.specs.Levels.{blockOf}
 use Rattle.direction_levels.proofs.Places.{place-low, plane-low, edge-is, read-low, stored-is}
 use Rattle.direction_levels.proofs.levels_edge.Statement.{statement}

@@ -2,7 +2,7 @@
 use Prim.Native.Nat.{_+_, _*_}
 use native.Mathlib.Omega.{arith}
 use lib.IntN.{_+ℤ_}
-use Rattle.cdef_sample.proofs.Joins.{Is, add-ok, add-is, back-is}
+use Rattle.arith_sample.proofs.Joins.{Is, add-ok, add-is, back-is}
 use Rattle.direction_lines.specs.Lines.{pairAt, lineAt}
 use Rattle.direction_lines.specs.LinesLaws.{pair-size}
 use borrow.Author.Needs.{needs}

@@ -3,8 +3,8 @@ use mathlib.Core.Path.{_≡_, refl, sym}
 use Prim.Native.Nat.{ℕ, _+_, _-_, _≤_}
 use native.Mathlib.Omega.{arith}
 use lib.ListN.{length, take, length-set}
-use Rattle.cdef_sample.specs.Upto.{upto, upto-none, upto-more, upto-all}
-use Rattle.cdef_sample.proofs.Joins.{back-is}
+use Rattle.arith_sample.specs.Upto.{upto, upto-none, upto-more, upto-all}
+use Rattle.arith_sample.proofs.Joins.{back-is}
 use Rattle.direction_lines.specs.Lines.{lineAt, linesOf}
 use Rattle.direction_lines.specs.LinesLaws.{line-size}
 use Rattle.direction_lines.proofs.lines.Statement.{statement}

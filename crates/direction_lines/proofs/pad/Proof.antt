@@ -4,7 +4,7 @@ use Prim.Native.Nat.{_+_, _-_, _*_}
 use native.Mathlib.Omega.{arith}
 use lib.ListN.{getD}
 use lib.IntN.{pos}
-use Rattle.cdef_sample.proofs.Sums16.{back}
+use Rattle.arith_sample.proofs.Sums16.{back}
 use Rattle.direction_lines.specs.LinesLaws.{pad-left, pad-right, pad-in}
 use borrow.Author.Needs.{needs}
 use Rattle.direction_lines.proofs.pad.Statement.{statement}

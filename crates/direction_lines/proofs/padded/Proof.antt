@@ -5,8 +5,8 @@ use native.Mathlib.Omega.{arith}
 use lib.ListN.{length, take, length-set}
 use mir.Syntax.{w16}
 use mir.Val.{toZ, ofZ}
-use Rattle.cdef_sample.specs.Upto.{upto, upto-none, upto-more, upto-at, upto-all}
-use Rattle.cdef_sample.proofs.Joins.{back-is}
+use Rattle.arith_sample.specs.Upto.{upto, upto-none, upto-more, upto-at, upto-all}
+use Rattle.arith_sample.proofs.Joins.{back-is}
 use Rattle.direction_lines.specs.Lines.{padAt, paddedOf}
 use Rattle.direction_lines.specs.LinesLaws.{pad-size}
 use Rattle.direction_lines.proofs.padded.Statement.{statement}

@@ -4,7 +4,7 @@ use Prim.Native.Nat.{ℕ, _+_}
 use native.Mathlib.Omega.{arith}
 use lib.ListN.{getD}
 use lib.IntN.{pos}
-use Rattle.cdef_sample.proofs.Joins.{Is, add-ok, add-is, back-is}
+use Rattle.arith_sample.proofs.Joins.{Is, add-ok, add-is, back-is}
 use Rattle.direction_lines.specs.Lines.{pairAt}
 use borrow.Author.Needs.{needs}
 use Rattle.direction_lines.proofs.pair.Statement.{statement}

@@ -6,8 +6,8 @@ use lib.ListN.{length, take, getD, length-set}
 use lib.IntN.{pos}
 use mir.Syntax.{w16}
 use mir.Val.{toZ, ofZ}
-use Rattle.cdef_sample.specs.Upto.{upto, upto-none, upto-more, upto-at, upto-all}
-use Rattle.cdef_sample.proofs.Sums16.{back}
+use Rattle.arith_sample.specs.Upto.{upto, upto-none, upto-more, upto-at, upto-all}
+use Rattle.arith_sample.proofs.Sums16.{back}
 use Rattle.direction_lines.specs.Lines.{turnedOf}
 use Rattle.direction_lines.proofs.turned.Statement.{statement}
 use Rattle.direction_lines.proofs.turned.Tie as tie

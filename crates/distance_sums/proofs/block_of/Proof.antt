@@ -3,7 +3,7 @@ use mathlib.Core.Path.{_≡_, refl, sym}
 use Prim.Native.Nat.{ℕ, _+_, _-_, _*_, _/_, _%_, _≤_}
 use native.Mathlib.Omega.{arith}
 use lib.ListN.{length, take, length-set}
-use Rattle.cdef_sample.specs.Upto.{upto, upto-none, upto-more, upto-at, upto-all}
+use Rattle.arith_sample.specs.Upto.{upto, upto-none, upto-more, upto-at, upto-all}
 use Rattle.distance_sums.specs.Blocks.{at, blockOf}
 use Rattle.distance_sums.specs.BlockLaws.{stored}
 use Rattle.distance_sums.proofs.block_of.Statement.{statement}

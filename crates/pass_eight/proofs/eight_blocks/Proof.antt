@@ -5,10 +5,10 @@ use native.Mathlib.Nat.{mul-le-mul}
 use native.Mathlib.Omega.{arith}
 use lib.Arith.{digits-lt}
 use lib.ListN.{length}
-use Rattle.cdef_lanes.specs.Lanes.{EightIn}
-use Rattle.cdef_lanes.specs.LanesLaws.{lanes-within, length-lanes}
-use Rattle.cdef_lane_costs.specs.Costs.{written}
-use Rattle.cdef_lane_costs.specs.CostsLaws.{written-none, written-more, length-written}
+use Rattle.direction_lanes.specs.Lanes.{EightIn}
+use Rattle.direction_lanes.specs.LanesLaws.{lanes-within, length-lanes}
+use Rattle.direction_lane_costs.specs.Costs.{written}
+use Rattle.direction_lane_costs.specs.CostsLaws.{written-none, written-more, length-written}
 use Rattle.pass_eight.specs.EightLaws.{filled-eight}
 use Rattle.pass_eight.proofs.eight_blocks.Statement.{statement}
 use Rattle.pass_eight.proofs.eight_blocks.Tie as tie

@@ -6,7 +6,7 @@ use native.Mathlib.Omega.{arith}
 use borrow.Author.Tests.{ltb-true}
 use lib.IntN.{ℤ, pos, negsuc, natAbs, pos-ne-negsuc}
 use lib.Signed.{ltZ}
-use Rattle.cdef_sample.proofs.Sums16.{back}
+use Rattle.arith_sample.proofs.Sums16.{back}
 use borrow.Author.Needs.{needs}
 use Rattle.plane_byte.proofs.held_high.Statement.{statement}
 use Rattle.plane_byte.proofs.held_high.Tie as tie

@@ -4,7 +4,7 @@ use native.Mathlib.Omega.{arith}
 use lib.IntN.{pos-ne-negsuc}
 use mir.Syntax.{w16}
 use Rattle.cdef_spec.specs.SignedLaws.{is-neg}
-use Rattle.cdef_sample.proofs.Sums16.{fits}
+use Rattle.arith_sample.proofs.Sums16.{fits}
 use borrow.Author.Needs.{needs}
 use Rattle.plane_byte.proofs.held_low.Statement.{statement}
 use Rattle.plane_byte.proofs.held_low.Tie as tie

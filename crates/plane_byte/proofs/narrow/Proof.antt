@@ -1,7 +1,7 @@
 -- `plane_byte::narrow` meets its contract.
 use lib.IntN.{ℤ, pos, natAbs}
 use mir.Val.{toZ, ofZ}
-use Rattle.cdef_sample.proofs.Sums16.{back}
+use Rattle.arith_sample.proofs.Sums16.{back}
 use mathlib.Core.Path.{_≡_, refl, sym, ap, _∙_}
 use native.Mathlib.Omega.{arith}
 use mir.Syntax.{w16}

@@ -3,10 +3,10 @@ use mathlib.Core.Path.{_≡_, sym, _∙_}
 use native.Mathlib.Omega.{arith}
 use lib.ListN.{getD}
 use Prim.Native.Nat.{ℕ}
-use Rattle.cdef_sample.specs.Upto.{upto-ext}
-use Rattle.cdef_rows.specs.Place.{backFrom}
+use Rattle.arith_sample.specs.Upto.{upto-ext}
+use Rattle.filter_rows.specs.Place.{backFrom}
 use Rattle.plane_fours.specs.Fours.{centreRun, backRun}
-use Rattle.cdef_plane_rows.specs.ReachLaws.{back-any, back-run}
+use Rattle.plane_rows.specs.ReachLaws.{back-any, back-run}
 use Rattle.plane_fours.specs.FourReachLaws.{back-four}
 use borrow.Author.Needs.{needs}
 use Rattle.plane_fours.proofs.back.Statement.{statement}

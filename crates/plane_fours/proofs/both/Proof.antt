@@ -3,8 +3,8 @@ use Rattle.plane_fours.specs.RunLaws.{centre-low, on-low, back-low, firs
 use Rattle.plane_fours.specs.FourLaws.{both-four}
 use Rattle.plane_fours.specs.Fours.{firstRun}
 use mathlib.Core.Path.{_≡_, _∙_}
-use Rattle.cdef_sample.specs.Upto.{upto-ext}
-use Rattle.cdef_plane_taps.specs.PlainLaws.{both-plain}
+use Rattle.arith_sample.specs.Upto.{upto-ext}
+use Rattle.plane_taps.specs.PlainLaws.{both-plain}
 use Rattle.plane_fours.specs.RunLaws.{centre-low, on-low, back-low, pair-is, centre-is, part-is, first-all}
 use borrow.Author.Needs.{needs}
 use Rattle.plane_fours.proofs.both.Statement.{statement}

@@ -1,8 +1,8 @@
 -- `plane_fours::four` meets its contract.
 use mathlib.Core.Path.{_≡_, _∙_}
-use Rattle.cdef_sample.specs.Upto.{upto-ext}
+use Rattle.arith_sample.specs.Upto.{upto-ext}
 use Rattle.plane_fours.specs.Fours.{centreRun}
-use Rattle.cdef_plane_rows.specs.LaneLaws.{kernel-none, kernel-sec, kernel-pri, kernel-both}
+use Rattle.plane_rows.specs.LaneLaws.{kernel-none, kernel-sec, kernel-pri, kernel-both}
 use borrow.Author.Needs.{needs}
 use Rattle.plane_fours.proofs.four.Statement.{statement}
 use Rattle.plane_fours.proofs.four.Tie as tie

@@ -2,8 +2,8 @@
 use Rattle.plane_fours.specs.RunLaws.{centre-low, on-low, back-low}
 use Rattle.plane_fours.specs.FourLaws.{pri-four}
 use mathlib.Core.Path.{_≡_, _∙_}
-use Rattle.cdef_sample.specs.Upto.{upto-ext}
-use Rattle.cdef_plane_taps.specs.PlainLaws.{pri-plain}
+use Rattle.arith_sample.specs.Upto.{upto-ext}
+use Rattle.plane_taps.specs.PlainLaws.{pri-plain}
 use Rattle.plane_fours.specs.RunLaws.{centre-low, on-low, back-low, pair-is, centre-is}
 use borrow.Author.Needs.{needs}
 use Rattle.plane_fours.proofs.pri.Statement.{statement}

@@ -3,17 +3,17 @@ use mathlib.Core.Path.{_≡_, _∙_}
 use mathlib.Core.List.{List}
 use Prim.Native.Nat.{ℕ, _+_, _*_}
 use native.Mathlib.Omega.{arith}
-use Rattle.cdef_sample.specs.Upto.{upto}
+use Rattle.arith_sample.specs.Upto.{upto}
 use Rattle.cdef_spec.specs.LoopForm.{putBlock}
-use Rattle.cdef_rows.specs.Sums.{InRange}
-use Rattle.cdef_rows.specs.declared.Taps.{Taps}
-use Rattle.cdef_rows.specs.declared.Strength.{Strength}
-use Rattle.cdef_kernel.specs.Kernel.{kernelAt}
-use Rattle.cdef_plane_taps.specs.Steps.{tapsIn}
-use Rattle.cdef_plane_taps.specs.Plain.{AllLow}
-use Rattle.cdef_plane_rows.specs.Rows.{priIn, secIn, placedRows, insideTap}
+use Rattle.filter_rows.specs.Sums.{InRange}
+use Rattle.filter_rows.specs.declared.Taps.{Taps}
+use Rattle.filter_rows.specs.declared.Strength.{Strength}
+use Rattle.filter_kernel.specs.Kernel.{kernelAt}
+use Rattle.plane_taps.specs.Steps.{tapsIn}
+use Rattle.plane_taps.specs.Plain.{AllLow}
+use Rattle.plane_rows.specs.Rows.{priIn, secIn, placedRows, insideTap}
 use Rattle.plane_fours.specs.Fours.{fourAt}
-use Rattle.cdef_plane_rows.specs.LaneLaws.{pri-range, sec-range}
+use Rattle.plane_rows.specs.LaneLaws.{pri-range, sec-range}
 use Rattle.plane_fours.specs.FourStoreLaws.{four-inside}
 use borrow.Author.Needs.{needs}
 use Rattle.plane_fours.proofs.rows.Statement.{statement}
@@ -22,7 +22,7 @@ use Rattle.plane_fours.proofs.rows.Reads as reads
 use Rattle.plane_fours.proofs.rows.Lts as lts
 use Rattle.plane_fours.proofs.four.Reads as four-reads
 use Rattle.plane_fours.proofs.store.Reads as store-reads
-use Rattle.cdef_plane_taps.proofs.steps.taps.Reads as taps-reads
+use Rattle.plane_taps.proofs.steps.taps.Reads as taps-reads
 
 glue : (l d last v : List ℕ) (low : AllLow l) (w at to : ℕ) (t u : Taps) (f g : Strength) → InRange f → InRange g → t ≡ u → v ≡ upto (λ (j : ℕ). kernelAt l (fourAt w at j) t f g) 16 → last ≡ placedRows d w to v 4 4 → (y x : ℕ) → to ≡ y * w + x → last ≡ putBlock d w (insideTap l w at u f g y x) y x 4 4
 glue l d last v low w at to t u f g rf rg et ev h y x e = h ∙ four-inside l low w at u f g rf rg d v to y x e (ev ∙ rw et)

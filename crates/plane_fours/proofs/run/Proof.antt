@@ -5,7 +5,7 @@ use Prim.Native.Nat.{ℕ, _+_, _-_, _*_, _≤_, _<_}
 use native.Mathlib.Nat.{mul-le-mul-right}
 use native.Mathlib.Omega.{arith}
 use lib.ListN.{length, take, getD, length-set}
-use Rattle.cdef_sample.specs.Upto.{upto, upto-none, upto-more, upto-at, upto-all}
+use Rattle.arith_sample.specs.Upto.{upto, upto-none, upto-more, upto-at, upto-all}
 use Rattle.plane_fours.specs.Fours.{fourAt, centreRun}
 use Rattle.plane_fours.specs.FourReachLaws.{four-place}
 use Rattle.plane_fours.proofs.run.Statement.{statement}

@@ -6,8 +6,8 @@ use Prim.Native.Nat.{ℕ, _+_, _-_, _*_, _≤_, _<_}
 use native.Mathlib.Nat.{mul-le-mul-right}
 use native.Mathlib.Omega.{arith}
 use lib.ListN.{length, getD, set, length-set}
-use Rattle.cdef_plane_rows.specs.Rows.{placed, placedRows}
-use Rattle.cdef_plane_rows.specs.StoreLaws.{placed-none, placed-more, rows-none, rows-more}
+use Rattle.plane_rows.specs.Rows.{placed, placedRows}
+use Rattle.plane_rows.specs.StoreLaws.{placed-none, placed-more, rows-none, rows-more}
 use Rattle.plane_fours.proofs.store.Statement.{statement}
 use Rattle.plane_fours.proofs.store.Tie as tie
 use Rattle.plane_fours.proofs.store.Reads as reads

@@ -8,10 +8,10 @@ use Rattle.trial_strengths.proofs.strengths.Statement.{statement}
 use Rattle.trial_strengths.proofs.strengths.Tie as tie
 use Rattle.trial_strengths.proofs.strengths.Reads as reads
 use Rattle.trial_strengths.proofs.strengths.Lts as lts
-use Rattle.cdef_kernel.proofs.from_one.Reads as from-one-reads
-use Rattle.cdef_kernel.proofs.primary.Reads as primary-reads
-use Rattle.cdef_kernel.proofs.secondary.Reads as secondary-reads
-use Rattle.cdef_kernel.proofs.taps.Reads as taps-reads
+use Rattle.filter_kernel.proofs.from_one.Reads as from-one-reads
+use Rattle.filter_kernel.proofs.primary.Reads as primary-reads
+use Rattle.filter_kernel.proofs.secondary.Reads as secondary-reads
+use Rattle.filter_kernel.proofs.taps.Reads as taps-reads
 use Rattle.trial_strengths.proofs.adjusted.Reads as adjusted-reads
 
 from-one-requires : tie.Need-from-one-requires

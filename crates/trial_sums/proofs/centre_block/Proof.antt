@@ -4,14 +4,14 @@ use Prim.Native.Nat.{ℕ, _+_, _-_, _*_, _≤_}
 use native.Mathlib.Omega.{arith}
 use borrow.Author.Needs.{needs}
 use lib.ListN.{length, take, getD, length-set}
-use Rattle.cdef_sample.specs.Upto.{upto, upto-none, upto-at}
+use Rattle.arith_sample.specs.Upto.{upto, upto-none, upto-at}
 use Rattle.trial_sums.specs.Known.{placeOf}
 use Rattle.trial_sums.specs.KnownLaws.{filled, entry}
 use Rattle.trial_sums.proofs.centre_block.Statement.{statement}
 use Rattle.trial_sums.proofs.centre_block.Tie as tie
 use Rattle.trial_sums.proofs.centre_block.Reads as reads
 use Rattle.trial_sums.proofs.centre_block.Lts as lts
-use Rattle.cdef_rows.proofs.centre_row.Reads as centre-row-reads
+use Rattle.filter_rows.proofs.centre_row.Reads as centre-row-reads
 
 abbrev Inv-loop2 : tie.InvT-loop2
 Inv-loop2 w rows out₀ i row to j₀ out j = (take (to + j) out ≡ upto (λ (k : ℕ). getD w (placeOf k) 0) (to + j)) × (length out ≡ 64) × (j ≤ 8)

@@ -4,15 +4,15 @@ use Prim.Native.Nat.{ℕ, _+_, _-_, _*_, _≤_}
 use native.Mathlib.Omega.{arith}
 use borrow.Author.Needs.{needs}
 use lib.ListN.{length, take, length-set}
-use Rattle.cdef_rows.specs.Sums.{lowAt, highAt}
-use Rattle.cdef_sample.specs.Upto.{upto, upto-none, upto-at}
+use Rattle.filter_rows.specs.Sums.{lowAt, highAt}
+use Rattle.arith_sample.specs.Upto.{upto, upto-none, upto-at}
 use Rattle.trial_sums.specs.Known.{placeOf}
 use Rattle.trial_sums.specs.KnownLaws.{filled, entry}
 use Rattle.trial_sums.proofs.limit_blocks.Statement.{statement}
 use Rattle.trial_sums.proofs.limit_blocks.Tie as tie
 use Rattle.trial_sums.proofs.limit_blocks.Reads as reads
 use Rattle.trial_sums.proofs.limit_blocks.Lts as lts
-use Rattle.cdef_rows.proofs.limit_row.Reads as limit-row-reads
+use Rattle.filter_rows.proofs.limit_row.Reads as limit-row-reads
 
 abbrev Inv-loop2 : tie.InvT-loop2
 Inv-loop2 w rows t lo₀ hi₀ i row to j₀ lo hi j = (take (to + j) lo ≡ upto (λ (k : ℕ). lowAt w (placeOf k) t) (to + j)) × (take (to + j) hi ≡ upto (λ (k : ℕ). highAt w (placeOf k) t) (to + j)) × (length lo ≡ 64) × (length hi ≡ 64) × (j ≤ 8)

@@ -4,17 +4,17 @@ use Prim.Native.Nat.{ℕ, _+_, _-_, _*_, _≤_}
 use native.Mathlib.Omega.{arith}
 use borrow.Author.Needs.{needs}
 use lib.ListN.{length, take, length-set}
-use Rattle.cdef_rows.specs.Sums.{priAt}
-use Rattle.cdef_rows.proofs.Bounds.{size-pri}
-use Rattle.cdef_sample.proofs.Joins.{back-is}
-use Rattle.cdef_sample.specs.Upto.{upto, upto-none, upto-at}
+use Rattle.filter_rows.specs.Sums.{priAt}
+use Rattle.filter_rows.proofs.Bounds.{size-pri}
+use Rattle.arith_sample.proofs.Joins.{back-is}
+use Rattle.arith_sample.specs.Upto.{upto, upto-none, upto-at}
 use Rattle.trial_sums.specs.Known.{placeOf}
 use Rattle.trial_sums.specs.KnownLaws.{filled}
 use Rattle.trial_sums.proofs.pri_blocks.Statement.{statement}
 use Rattle.trial_sums.proofs.pri_blocks.Tie as tie
 use Rattle.trial_sums.proofs.pri_blocks.Reads as reads
 use Rattle.trial_sums.proofs.pri_blocks.Lts as lts
-use Rattle.cdef_rows.proofs.pri_at.Reads as pri-at-reads
+use Rattle.filter_rows.proofs.pri_at.Reads as pri-at-reads
 
 abbrev Inv-loop2 : tie.InvT-loop2
 Inv-loop2 w rows t f g h p1₀ p2₀ p3₀ i from to j₀ p1 p2 p3 j = (take (to + j) p1 ≡ upto (λ (k : ℕ). priAt w (placeOf k) t f) (to + j)) × (take (to + j) p2 ≡ upto (λ (k : ℕ). priAt w (placeOf k) t g) (to + j)) × (take (to + j) p3 ≡ upto (λ (k : ℕ). priAt w (placeOf k) t h) (to + j)) × (length p1 ≡ 64) × (length p2 ≡ 64) × (length p3 ≡ 64) × (j ≤ 8)

@@ -4,18 +4,18 @@ use Prim.Native.Nat.{ℕ, _+_, _-_, _*_, _≤_}
 use native.Mathlib.Omega.{arith}
 use borrow.Author.Needs.{needs}
 use lib.ListN.{length, take, length-set}
-use Rattle.cdef_rows.specs.Sums.{secAt}
-use Rattle.cdef_rows.proofs.Bounds.{sec-ok, sec-is}
-use Rattle.cdef_sample.specs.Upto.{upto, upto-none, upto-at}
+use Rattle.filter_rows.specs.Sums.{secAt}
+use Rattle.filter_rows.proofs.Bounds.{sec-ok, sec-is}
+use Rattle.arith_sample.specs.Upto.{upto, upto-none, upto-at}
 use Rattle.trial_sums.specs.Known.{placeOf}
 use Rattle.trial_sums.specs.KnownLaws.{filled}
 use Rattle.trial_sums.proofs.sec_blocks.Statement.{statement}
 use Rattle.trial_sums.proofs.sec_blocks.Tie as tie
 use Rattle.trial_sums.proofs.sec_blocks.Reads as reads
 use Rattle.trial_sums.proofs.sec_blocks.Lts as lts
-use Rattle.cdef_rows.proofs.sec_far.Reads as sec-far-reads
-use Rattle.cdef_rows.proofs.sec_near.Reads as sec-near-reads
-use Rattle.cdef_sample.proofs.add.Reads as add-reads
+use Rattle.filter_rows.proofs.sec_far.Reads as sec-far-reads
+use Rattle.filter_rows.proofs.sec_near.Reads as sec-near-reads
+use Rattle.arith_sample.proofs.add.Reads as add-reads
 
 abbrev Inv-loop2 : tie.InvT-loop2
 Inv-loop2 w rows t f g s1₀ s2₀ i from to j₀ s1 s2 j = (take (to + j) s1 ≡ upto (λ (k : ℕ). secAt w (placeOf k) t f) (to + j)) × (take (to + j) s2 ≡ upto (λ (k : ℕ). secAt w (placeOf k) t g) (to + j)) × (length s1 ≡ 64) × (length s2 ≡ 64) × (j ≤ 8)

@@ -5,9 +5,9 @@ use native.Mathlib.Omega.{arith}
 use borrow.Author.Needs.{needs}
 use Prim.Native.Nat.{_/_}
 use native.Mathlib.Nat.{mul-le-mul}
-use Rattle.cdef_frame.specs.FrameLaws.{side-facts}
-use Rattle.cdef_frame.specs.Lent.{blocksOf, Listed}
-use Rattle.cdef_frame.specs.BlockLaws.{counts-low, number-low, block-in, window-low}
+use Rattle.frame_shape.specs.FrameLaws.{side-facts}
+use Rattle.frame_shape.specs.Lent.{blocksOf, Listed}
+use Rattle.frame_shape.specs.BlockLaws.{counts-low, number-low, block-in, window-low}
 use Rattle.try_blocks.specs.TrialBlockLaws.{dir-low, damping-low, trials-are}
 use Rattle.try_blocks.proofs.make_trials.Statement.{statement}
 use Rattle.try_blocks.proofs.make_trials.Tie as tie

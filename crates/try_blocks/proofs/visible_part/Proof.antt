@@ -2,8 +2,8 @@
 use native.Mathlib.Omega.{arith}
 use borrow.Author.Needs.{needs}
 use mathlib.Core.List.{[]}
-use Rattle.cdef_frame.specs.FrameLaws.{side-facts}
-use Rattle.cdef_frame.specs.BlockLaws.{counts-low}
+use Rattle.frame_shape.specs.FrameLaws.{side-facts}
+use Rattle.frame_shape.specs.BlockLaws.{counts-low}
 use Rattle.try_blocks.specs.TrialBlockLaws.{block-parts, part-is}
 use Rattle.try_blocks.proofs.visible_part.Statement.{statement}
 use Rattle.try_blocks.proofs.visible_part.Tie as tie

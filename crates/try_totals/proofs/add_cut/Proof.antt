@@ -9,7 +9,7 @@ use lib.ListN.{getD, length, set}
 use mir.Syntax.{w64}
 use mir.Val.{toZ, ofZ}
 use Rattle.cdef_spec.specs.LoopForm.{signed, addTurns}
-use Rattle.cdef_cut.specs.CutLaws.{cut-within}
+use Rattle.distance_visible.specs.CutLaws.{cut-within}
 use Rattle.try_totals.specs.Totals.{plainOf, trialDistances}
 use Rattle.try_totals.specs.TurnLaws.{sum-fits, sum-is, turns-start, turns-length, turn-at, turn-low, turn-more}
 use Rattle.try_totals.proofs.add_cut.Statement.{statement}

@@ -1,4 +1,4 @@
--- `cdef_agree::agree_chroma` meets its contract.
+-- `agree_lists::chroma::agree_chroma` meets its contract.
 use mathlib.Core.Path.{ap, _∙_}
 use Prim.Native.Nat.{ℕ}
 use Rattle.cdef_answer.specs.JoinLaws.{applying-parts, measuring-parts, trying-parts}

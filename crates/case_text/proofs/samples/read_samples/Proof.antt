@@ -1,4 +1,4 @@
--- `case_text::read_samples` meets its contract.
+-- `case_text::samples::read_samples` meets its contract.
 use mathlib.Core.Path.{_≡_, refl}
 use Prim.Native.Nat.{_-_, _≤_}
 use native.Mathlib.Omega.{arith}

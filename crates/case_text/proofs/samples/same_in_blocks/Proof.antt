@@ -1,4 +1,4 @@
--- `case_text::same_in_blocks` meets its contract.
+-- `case_text::samples::same_in_blocks` meets its contract.
 use Prim.Native.Nat.{_-_, _≤_}
 use native.Mathlib.Omega.{arith}
 use borrow.Author.Needs.{needs}

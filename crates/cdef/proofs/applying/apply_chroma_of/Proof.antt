@@ -1,4 +1,4 @@
--- `cdef::apply_chroma_of` meets its contract.
+-- `cdef::applying::apply_chroma_of` meets its contract.
 use Rattle.cdef_answer.specs.JoinLaws.{applying-parts}
 use borrow.Author.Needs.{needs}
 use Rattle.cdef_spec.specs.Picture.{chromaPicture}

@@ -1,4 +1,4 @@
--- `cdef::measure_luma` meets its contract.
+-- `cdef::measuring::measure_luma` meets its contract.
 use mathlib.Core.Path.{ap, _∙_}
 use Prim.Native.Nat.{ℕ}
 use native.Mathlib.Omega.{arith}
@@ -6,14 +6,14 @@ use Rattle.cdef_answer.specs.JoinLaws.{measuring-joined}
 use borrow.Author.Needs.{needs}
 use Rattle.cdef_spec.specs.Answers.{nothing, resultOf}
 use Rattle.cdef_spec.specs.FrameCalls.{measuringOutcome}
-use Rattle.cdef_frame.specs.Frame.{kindOf, pictureOf}
+use Rattle.frame_shape.specs.Frame.{kindOf, pictureOf}
 use borrow.Author.Needs.{needs}
 use Rattle.cdef.proofs.measuring.measure_luma.Statement.{statement}
 use Rattle.cdef.proofs.measuring.measure_luma.Tie as tie
 use Rattle.cdef.proofs.measuring.measure_luma.Reads as reads
 use Rattle.cdef.proofs.measuring.measure_luma.Lts as lts
 use Rattle.cdef_answer.proofs.answer_of.Reads as answer-of-reads
-use Rattle.cdef_frame_calls.proofs.measure_frame.Reads as measure-frame-reads
+use Rattle.frame_calls.proofs.measure_frame.Reads as measure-frame-reads
 
 measure-frame-requires : tie.Need-measure-frame-requires
 measure-frame-requires c κs = search needs

@@ -1,4 +1,4 @@
--- `cdef::direction_pass` meets its contract.
+-- `cdef::pass::direction_pass` meets its contract.
 use mathlib.Core.Path.{_≡_, sym, _∙_}
 use native.Mathlib.Omega.{arith}
 use Rattle.cdef_answer.specs.JoinLaws.{pass-joined}
@@ -8,14 +8,14 @@ use Rattle.cdef_spec.specs.Document01.{Plane}
 use Rattle.cdef_spec.specs.FrameCalls.{directionPassNo}
 use Rattle.check_pass.specs.PassLaws.{PassFacts}
 use Rattle.check_pass.specs.PassLaws.{pass-facts}
-use Rattle.cdef_frame_calls.specs.OutcomeLaws.{pass-refused, pass-done}
+use Rattle.frame_calls.specs.OutcomeLaws.{pass-refused, pass-done}
 use borrow.Author.Needs.{needs}
 use Rattle.cdef.proofs.pass.direction_pass.Statement.{statement}
 use Rattle.cdef.proofs.pass.direction_pass.Tie as tie
 use Rattle.cdef.proofs.pass.direction_pass.Reads as reads
 use Rattle.cdef.proofs.pass.direction_pass.Lts as lts
 use Rattle.check_pass.proofs.direction_pass_no.Reads as direction-pass-no-reads
-use Rattle.cdef_pass.proofs.direction_pass.Reads as direction-pass-reads
+use Rattle.pass_plane.proofs.direction_pass.Reads as direction-pass-reads
 
 abbrev planeOf : tie.Start → Plane
 planeOf s = record { samples = s .args .plane .now; width = s .args .width; height = s .args .height }

@@ -1,4 +1,4 @@
--- `cdef::try_chroma` meets its contract.
+-- `cdef::trying::try_chroma` meets its contract.
 use mathlib.Core.Path.{ap, _∙_}
 use Prim.Native.Nat.{ℕ}
 use native.Mathlib.Omega.{arith}
@@ -6,15 +6,15 @@ use Rattle.cdef_answer.specs.JoinLaws.{trying-joined}
 use borrow.Author.Needs.{needs}
 use Rattle.cdef_spec.specs.Answers.{nothing, resultOf}
 use Rattle.cdef_spec.specs.FrameCalls.{tryingOutcome}
-use Rattle.cdef_frame.specs.Frame.{kindOf, pictureOf}
+use Rattle.frame_shape.specs.Frame.{kindOf, pictureOf}
 use borrow.Author.Needs.{needs}
 use Rattle.cdef.proofs.trying.try_chroma.Statement.{statement}
 use Rattle.cdef.proofs.trying.try_chroma.Tie as tie
 use Rattle.cdef.proofs.trying.try_chroma.Reads as reads
 use Rattle.cdef.proofs.trying.try_chroma.Lts as lts
 use Rattle.cdef_answer.proofs.answer_of.Reads as answer-of-reads
-use Rattle.cdef_frame_calls.proofs.try_frame.Reads as try-frame-reads
-use Rattle.cdef_frame_calls.specs.FlagLaws.{chroma-off}
+use Rattle.frame_calls.proofs.try_frame.Reads as try-frame-reads
+use Rattle.frame_calls.specs.FlagLaws.{chroma-off}
 
 slice-aggregate-try-frame : tie.Need-slice-aggregate-try-frame
 slice-aggregate-try-frame c = search needs

@@ -1,4 +1,4 @@
--- `cdef_agree::agree_chroma_of` meets its contract.
+-- `cdef_agree::chroma::agree_chroma_of` meets its contract.
 use borrow.Author.Needs.{needs}
 use Rattle.cdef_spec.specs.Picture.{chromaPicture}
 use Rattle.cdef_pairs.specs.LentLaws.{primaries-within, primaries-counted, secondaries-within, secondaries-counted}

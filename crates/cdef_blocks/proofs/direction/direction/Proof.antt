@@ -1,4 +1,4 @@
--- `cdef::direction::direction` meets its contract.
+-- `cdef_blocks::direction::direction` meets its contract.
 use mathlib.Core.Path.{_≡_, sym, _∙_}
 use Rattle.cdef_spec.specs.Document01.{Plane}
 use Rattle.cdef_spec.specs.BlockCalls.{directionNo}

@@ -1,4 +1,4 @@
--- `cdef::distance::distance` meets its contract.
+-- `cdef_blocks::distance::distance` meets its contract.
 use mathlib.Core.Path.{_≡_, sym, ap, _∙_}
 use Prim.Native.Nat.{_^_, _<_}
 use native.Mathlib.Omega.{arith}
@@ -7,7 +7,7 @@ use mir.Syntax.{w64}
 use mir.ValLaws.{toZ-pos}
 use Rattle.cdef_spec.specs.Document01.{Plane}
 use Rattle.cdef_spec.specs.BlockCalls.{planeDistance}
-use Rattle.cdef_distance.specs.PlaneLaws.{distance-low}
+use Rattle.distance_block.specs.PlaneLaws.{distance-low}
 use Rattle.check_block.specs.DistanceLaws.{DistanceFacts, distance-facts, distance-refused, distance-done}
 use Rattle.cdef_blocks.proofs.distance.distance.Statement.{statement}
 use Rattle.cdef_blocks.proofs.distance.distance.Tie as tie

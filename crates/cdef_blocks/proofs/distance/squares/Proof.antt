@@ -1,4 +1,4 @@
--- `cdef::distance::squares` meets its contract.
+-- `cdef_blocks::distance::squares` meets its contract.
 use mathlib.Core.Path.{sym, ap, _∙_}
 use Prim.Native.Nat.{_^_, _<_}
 use native.Mathlib.Omega.{arith}
@@ -6,7 +6,7 @@ use lib.IntN.{pos}
 use mir.Syntax.{w64}
 use mir.ValLaws.{toZ-pos}
 use Rattle.cdef_spec.specs.Document01.{Plane}
-use Rattle.cdef_distance.specs.PlaneLaws.{plain-low}
+use Rattle.distance_block.specs.PlaneLaws.{plain-low}
 use Rattle.check_block.specs.DistanceLaws.{DistanceFacts, distance-facts, squares-refused, squares-done}
 use Rattle.cdef_blocks.proofs.distance.squares.Statement.{statement}
 use Rattle.cdef_blocks.proofs.distance.squares.Tie as tie

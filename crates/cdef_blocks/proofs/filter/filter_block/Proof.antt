@@ -1,4 +1,4 @@
--- `cdef::filter_block` meets its contract.
+-- `cdef_blocks::filter::filter_block` meets its contract.
 use mathlib.Core.Path.{_≡_, sym, _∙_}
 use mathlib.Core.Bool.{true}
 use mathlib.Core.List.{[], _∷_}
@@ -6,7 +6,7 @@ use native.Mathlib.Omega.{arith}
 use Rattle.cdef_spec.specs.Answers.{readAnswer}
 use Rattle.cdef_spec.specs.Document01.{Plane}
 use Rattle.cdef_spec.specs.Questions.{ask, firstNo, widenedTaken}
-use Rattle.cdef_filter.specs.StoreLaws.{stored-block}
+use Rattle.filter_block.specs.StoreLaws.{stored-block}
 use Rattle.check_block.specs.WindowLaws.{in-plane, window-asked, widened-so, held-so}
 use Rattle.check_block.specs.Parts.{filterFirst}
 use Rattle.check_block.specs.PartLaws.{FilterFacts, filter-facts, filter-refused, filter-samples, filter-done}
@@ -17,8 +17,8 @@ use Rattle.cdef_blocks.proofs.filter.filter_block.Tie as tie
 use Rattle.cdef_blocks.proofs.filter.filter_block.Reads as reads
 use Rattle.cdef_blocks.proofs.filter.filter_block.Lts as lts
 use Rattle.check_block.proofs.filter.filter_no.Reads as filter-no-reads
-use Rattle.cdef_filter.proofs.filter_window.Reads as filter-window-reads
-use Rattle.cdef_window.proofs.window.Reads as window-reads
+use Rattle.filter_block.proofs.filter_window.Reads as filter-window-reads
+use Rattle.filter_window.proofs.window.Reads as window-reads
 
 abbrev planeOf : tie.Start → Plane
 planeOf s = record { samples = s .args .plane .now; width = s .args .width; height = s .args .height }

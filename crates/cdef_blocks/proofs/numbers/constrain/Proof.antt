@@ -1,4 +1,4 @@
--- `cdef::numbers::constrain` meets its contract.
+-- `cdef_blocks::numbers::constrain` meets its contract.
 use mathlib.Core.Path.{_≡_, sym, _∙_}
 use Prim.Native.Nat.{ℕ, _<_, _^_}
 use native.Mathlib.Omega.{arith}

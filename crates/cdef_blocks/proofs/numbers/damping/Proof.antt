@@ -1,4 +1,4 @@
--- `cdef::numbers::damping` meets its contract.
+-- `cdef_blocks::numbers::damping` meets its contract.
 use mathlib.Core.Path.{sym, _∙_}
 use borrow.Author.Tests.{ne-eqb}
 use Rattle.cdef_spec.specs.Answers.{resultOf, readDamping}

@@ -1,4 +1,4 @@
--- `cdef::numbers::luma_damping` meets its contract.
+-- `cdef_blocks::numbers::luma_damping` meets its contract.
 use mathlib.Core.Path.{sym, _∙_}
 use native.Mathlib.Omega.{arith}
 use borrow.Author.Tests.{ne-eqb}

@@ -1,11 +1,11 @@
--- `cdef::trial` meets its contract.
+-- `cdef_blocks::trial::trial` meets its contract.
 use mathlib.Core.Path.{_≡_, sym, _∙_}
 use mathlib.Core.Bool.{true}
 use mathlib.Core.List.{[], _∷_}
 use Rattle.cdef_spec.specs.Answers.{readAnswer}
 use Rattle.cdef_spec.specs.Document01.{Plane}
 use Rattle.cdef_spec.specs.Questions.{ask, firstNo, widenedTaken}
-use Rattle.cdef_trial.specs.TableLaws.{trial-table}
+use Rattle.trial_block.specs.TableLaws.{trial-table}
 use Rattle.check_block.specs.TrialParts.{trialFirst}
 use Rattle.check_block.specs.TrialPartLaws.{TrialFacts, trial-facts, trial-refused, trial-samples, trial-done}
 use Rattle.check_block.specs.WindowLaws.{in-plane, window-asked, widened-so, held-so}
@@ -16,8 +16,8 @@ use Rattle.cdef_blocks.proofs.trial.trial.Tie as tie
 use Rattle.cdef_blocks.proofs.trial.trial.Reads as reads
 use Rattle.cdef_blocks.proofs.trial.trial.Lts as lts
 use Rattle.check_block.proofs.trial.trial_no.Reads as trial-no-reads
-use Rattle.cdef_trial.proofs.block.trial_window.Reads as trial-window-reads
-use Rattle.cdef_window.proofs.window.Reads as window-reads
+use Rattle.trial_block.proofs.block.trial_window.Reads as trial-window-reads
+use Rattle.filter_window.proofs.window.Reads as window-reads
 
 abbrev planeOf : tie.Start → Plane
 planeOf s = record { samples = s .args .plane .now; width = s .args .width; height = s .args .height }

@@ -1,4 +1,4 @@
--- `cdef_c::number` meets its contract.
+-- `cdef_c::answer::number` meets its contract.
 use mathlib.Core.Path.{ap, sym}
 use Rattle.cdef_spec.specs.declared.Answer.{Answer}
 use Rattle.cdef_spec.specs.Answers.{numberOf, readAnswer}

@@ -1,4 +1,4 @@
--- `cdef_c::quern_apply_chroma` meets its contract.
+-- `cdef_c::applying::quern_apply_chroma` meets its contract.
 use mathlib.Core.Path.{ap, _∙_}
 use native.Mathlib.Omega.{arith}
 use Rattle.cdef_answer.specs.JoinLaws.{applying-parts}

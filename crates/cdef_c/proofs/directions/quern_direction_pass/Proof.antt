@@ -1,4 +1,4 @@
--- `cdef_c::quern_direction_pass` meets its contract.
+-- `cdef_c::directions::quern_direction_pass` meets its contract.
 use mathlib.Core.Path.{ap, _∙_}
 use native.Mathlib.Omega.{arith}
 use Rattle.cdef_answer.specs.JoinLaws.{pass-parts}

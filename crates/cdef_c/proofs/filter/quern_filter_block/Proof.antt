@@ -1,4 +1,4 @@
--- `cdef_c::quern_filter_block` meets its contract.
+-- `cdef_c::filter::quern_filter_block` meets its contract.
 use mathlib.Core.Path.{ap, _∙_}
 use Rattle.cdef_spec.specs.Answers.{numberOf}
 use Rattle.cdef_answer.specs.JoinLaws.{filter-parts}

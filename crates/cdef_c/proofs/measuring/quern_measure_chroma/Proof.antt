@@ -1,4 +1,4 @@
--- `cdef_c::quern_measure_chroma` meets its contract.
+-- `cdef_c::measuring::quern_measure_chroma` meets its contract.
 use mathlib.Core.Path.{ap, _∙_}
 use native.Mathlib.Omega.{arith}
 use Rattle.cdef_answer.specs.JoinLaws.{measuring-parts}

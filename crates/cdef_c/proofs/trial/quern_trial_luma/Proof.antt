@@ -1,4 +1,4 @@
--- `cdef_c::quern_trial_luma` meets its contract.
+-- `cdef_c::trial::quern_trial_luma` meets its contract.
 use mathlib.Core.Path.{ap, _∙_}
 use Rattle.cdef_spec.specs.Answers.{numberOf}
 use Rattle.cdef_answer.specs.JoinLaws.{trial-parts}

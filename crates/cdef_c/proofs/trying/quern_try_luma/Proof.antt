@@ -1,4 +1,4 @@
--- `cdef_c::quern_try_luma` meets its contract.
+-- `cdef_c::trying::quern_try_luma` meets its contract.
 use mathlib.Core.Path.{ap, _∙_}
 use native.Mathlib.Omega.{arith}
 use Rattle.cdef_answer.specs.JoinLaws.{trying-parts}

@@ -1,4 +1,4 @@
--- `cdef_asked::distance_questions::distance_no` meets its contract.
+-- `check_block::distance::distance_no` meets its contract.
 use mathlib.Core.Path.{_≡_, sym, _∙_}
 use mathlib.Core.Bool.{true}
 use Rattle.cdef_spec.specs.Document01.{Plane}

@@ -1,4 +1,4 @@
--- `cdef_asked::block_questions::filter_no` meets its contract.
+-- `check_block::filter::filter_no` meets its contract.
 use mathlib.Core.Path.{_≡_, sym, _∙_}
 use mathlib.Core.Bool.{true, false}
 use mathlib.Core.List.{List}

@@ -1,4 +1,4 @@
--- `cdef_filter::rows_taken` meets its contract.
+-- `check_block::filter::rows_taken` meets its contract.
 use mathlib.Core.Path.{_≡_, refl, sym, ap, _∙_}
 use mathlib.Core.Bool.{Bool, true, false}
 use mathlib.Core.List.{List}

@@ -1,4 +1,4 @@
--- `cdef_asked::trial_questions::trial_no` meets its contract.
+-- `check_block::trial::trial_no` meets its contract.
 use mathlib.Core.Path.{_≡_, sym, _∙_}
 use mathlib.Core.Bool.{true, false}
 use Prim.Native.Nat.{ℕ}

@@ -1,4 +1,4 @@
--- `cdef_asked::trial_questions::trial_taken` meets its contract.
+-- `check_block::trial::trial_taken` meets its contract.
 use mathlib.Core.Path.{_≡_, refl, sym, _∙_}
 use Prim.Native.Nat.{_≤_, _<_}
 use native.Mathlib.Omega.{arith}

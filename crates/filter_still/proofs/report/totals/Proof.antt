@@ -1,4 +1,4 @@
--- `filter_still::totals` meets its contract.
+-- `filter_still::report::totals` meets its contract.
 use Prim.Native.Nat.{_-_, _≤_}
 use mathlib.Core.Path.{refl}
 use native.Mathlib.Omega.{arith}

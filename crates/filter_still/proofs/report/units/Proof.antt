@@ -1,4 +1,4 @@
--- `filter_still::units` meets its contract.
+-- `filter_still::report::units` meets its contract.
 use Prim.Native.Nat.{_-_, _≤_}
 use mathlib.Core.Path.{_≡_, refl}
 use native.Mathlib.Omega.{arith}

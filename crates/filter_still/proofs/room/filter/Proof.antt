@@ -1,4 +1,4 @@
--- `filter_still::filter` meets its contract.
+-- `filter_still::room::filter` meets its contract.
 use Prim.Native.Nat.{ℕ}
 use mathlib.Core.Path.{sym}
 use borrow.Author.Needs.{needs}

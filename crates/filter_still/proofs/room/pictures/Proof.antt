@@ -1,4 +1,4 @@
--- `filter_still::pictures` meets its contract.
+-- `filter_still::room::pictures` meets its contract.
 use mathlib.Core.Path.{_∙_}
 use borrow.Author.Needs.{needs}
 use Rattle.filter_still.proofs.room.pictures.Statement.{statement}

@@ -1,4 +1,4 @@
--- `filter_still::run` meets its contract.
+-- `filter_still::room::run` meets its contract.
 use borrow.Author.Needs.{needs}
 use Rattle.filter_still.proofs.room.run.Statement.{statement}
 use Rattle.filter_still.proofs.room.run.Tie as tie

@@ -1,4 +1,4 @@
--- `filter_still::sized` meets its contract.
+-- `filter_still::room::sized` meets its contract.
 use mathlib.Core.Path.{_≡_}
 use native.Mathlib.Omega.{arith}
 use borrow.Author.Needs.{needs}

@@ -1,4 +1,4 @@
--- `frame_file::begins` meets its contract.
+-- `frame_file::checks::begins` meets its contract.
 use mathlib.Core.Path.{_≡_}
 use Prim.Native.Nat.{_-_, _≤_}
 use native.Mathlib.Omega.{arith}

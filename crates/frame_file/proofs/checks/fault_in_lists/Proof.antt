@@ -1,4 +1,4 @@
--- `frame_file::fault_in_lists` meets its contract.
+-- `frame_file::checks::fault_in_lists` meets its contract.
 use native.Mathlib.Omega.{arith}
 use borrow.Author.Needs.{needs}
 use Rattle.frame_file.proofs.checks.fault_in_lists.Statement.{statement}

@@ -1,4 +1,4 @@
--- `frame_file::chroma_samples` meets its contract.
+-- `frame_file::header::chroma_samples` meets its contract.
 use Prim.Native.Nat.{_*_, _≤_}
 use native.Mathlib.Omega.{arith}
 use borrow.Author.Needs.{needs}

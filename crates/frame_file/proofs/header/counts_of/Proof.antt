@@ -1,4 +1,4 @@
--- `frame_file::counts_of` meets its contract.
+-- `frame_file::header::counts_of` meets its contract.
 use mathlib.Core.Path.{_≡_}
 use Prim.Native.Nat.{ℕ, _+_, _*_, _/_, _≤_}
 use native.Mathlib.Omega.{arith}

@@ -1,4 +1,4 @@
--- `frame_file::place_after` meets its contract.
+-- `frame_file::planes::place_after` meets its contract.
 use Prim.Native.Nat.{ℕ, _*_, _≤_}
 use native.Mathlib.Omega.{arith}
 use borrow.Author.Needs.{needs}

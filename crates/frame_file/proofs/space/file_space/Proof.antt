@@ -1,4 +1,4 @@
--- `frame_file::file_space` meets its contract. The type is written out, else both lists would be compared element by element.
+-- `frame_file::space::file_space` meets its contract. The type is written out, else both lists would be compared element by element.
 use Prim.Native.Nat.{ℕ}
 use mathlib.Core.Path.{_≡_, sym}
 use lib.ListN.{length, length-replicate}

@@ -1,4 +1,4 @@
--- `frame_file::indices_taken` meets its contract.
+-- `frame_file::units::indices_taken` meets its contract.
 use Prim.Native.Nat.{_-_, _≤_}
 use native.Mathlib.Omega.{arith}
 use borrow.Author.Needs.{needs}

@@ -1,4 +1,4 @@
--- `frames::all_planes` meets its contract.
+-- `frames::planes::all_planes` meets its contract.
 use mathlib.Core.Path.{sym, _∙_}
 use native.Mathlib.Omega.{arith}
 use borrow.Author.Needs.{needs}

@@ -1,4 +1,4 @@
--- `frames::listed` meets its contract.
+-- `frames::planes::listed` meets its contract.
 use mathlib.Core.Path.{sym, _∙_}
 use native.Mathlib.Omega.{arith}
 use borrow.Author.Needs.{needs}

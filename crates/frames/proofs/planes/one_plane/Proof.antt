@@ -1,4 +1,4 @@
--- `frames::one_plane` meets its contract.
+-- `frames::planes::one_plane` meets its contract.
 use mathlib.Core.Path.{_∙_}
 use native.Mathlib.Omega.{arith}
 use borrow.Author.Needs.{needs}

@@ -1,4 +1,4 @@
--- `frames::sized` meets its contract.
+-- `frames::planes::sized` meets its contract.
 use mathlib.Core.Path.{sym}
 use native.Mathlib.Omega.{arith}
 use borrow.Author.Needs.{needs}

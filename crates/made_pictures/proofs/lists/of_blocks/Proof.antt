@@ -1,4 +1,4 @@
--- `made_pictures::of_blocks` meets its contract.
+-- `made_pictures::lists::of_blocks` meets its contract.
 use mathlib.Core.Path.{_≡_}
 use Prim.Native.Nat.{_-_, _≤_}
 use native.Mathlib.Omega.{arith}

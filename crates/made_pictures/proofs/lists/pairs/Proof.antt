@@ -1,4 +1,4 @@
--- `made_pictures::pairs` meets its contract.
+-- `made_pictures::lists::pairs` meets its contract.
 use mathlib.Core.Path.{_≡_}
 use Prim.Native.Nat.{ℕ, _-_, _≤_, _<_}
 use native.Mathlib.Omega.{arith}

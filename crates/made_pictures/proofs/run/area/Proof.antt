@@ -1,4 +1,4 @@
--- `made_pictures::area` meets its contract.
+-- `made_pictures::run::area` meets its contract.
 use Prim.Native.Nat.{_*_, _≤_}
 use native.Mathlib.Omega.{arith}
 use borrow.Author.Needs.{needs}

@@ -1,4 +1,4 @@
--- `made_pictures::lent` meets its contract.
+-- `made_pictures::run::lent` meets its contract.
 use mathlib.Core.Path.{sym}
 use Prim.Native.Nat.{_≤_}
 use native.Mathlib.Omega.{arith}

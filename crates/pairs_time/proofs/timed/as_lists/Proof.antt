@@ -1,4 +1,4 @@
--- `pairs_time::as_lists` meets its contract.
+-- `pairs_time::timed::as_lists` meets its contract.
 use mathlib.Core.Path.{_≡_, refl, sym}
 use Prim.Native.Nat.{ℕ, _-_, _≤_, _<_}
 use native.Mathlib.Omega.{arith}

@@ -1,4 +1,4 @@
--- `pairs_time::picture` meets its contract.
+-- `pairs_time::timed::picture` meets its contract.
 use mathlib.Core.Path.{_≡_}
 use Prim.Native.Nat.{ℕ, _-_, _≤_, _<_}
 use native.Mathlib.Omega.{arith}

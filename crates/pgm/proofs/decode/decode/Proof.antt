@@ -1,4 +1,4 @@
--- `pgm::decode` meets its contract.
+-- `pgm::decode::decode` meets its contract.
 use Prim.Native.Nat.{_*_, _≤_}
 use mathlib.Core.Bool.{true}
 use mathlib.Core.Path.{_≡_, sym, _∙_}

@@ -1,4 +1,4 @@
--- `pgm::sample_at` meets its contract.
+-- `pgm::decode::sample_at` meets its contract.
 use mathlib.Core.Path.{_∙_}
 use borrow.Author.Needs.{needs}
 use Rattle.pgm.specs.PlanesLaws.{sample-one, sample-two}

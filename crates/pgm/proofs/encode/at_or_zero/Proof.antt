@@ -1,4 +1,4 @@
--- `pgm::at_or_zero` meets its contract.
+-- `pgm::encode::at_or_zero` meets its contract.
 use mathlib.Core.Path.{sym}
 use native.Mathlib.Omega.{arith}
 use borrow.Author.Needs.{needs}

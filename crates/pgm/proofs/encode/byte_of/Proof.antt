@@ -1,4 +1,4 @@
--- `pgm::byte_of` meets its contract.
+-- `pgm::encode::byte_of` meets its contract.
 use borrow.Author.Needs.{needs}
 use Rattle.pgm.specs.Planes.{byteOf}
 use Rattle.pgm.proofs.encode.byte_of.Statement.{statement}

@@ -1,4 +1,4 @@
--- `pgm::encode` meets its contract.
+-- `pgm::encode::encode` meets its contract.
 use Prim.Native.Nat.{_+_, _-_, _*_, _/_, _%_, _≤_}
 use mathlib.Core.Path.{_≡_, refl, sym, _∙_}
 use native.Mathlib.Omega.{arith}

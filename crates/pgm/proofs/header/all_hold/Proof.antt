@@ -1,4 +1,4 @@
--- `pgm::all_hold` meets its contract.
+-- `pgm::header::all_hold` meets its contract.
 use borrow.Author.Tests.{not-true, not-false}
 use Rattle.pgm.proofs.header.all_hold.Statement.{statement}
 use Rattle.pgm.proofs.header.all_hold.Tie as tie

@@ -1,4 +1,4 @@
--- `pgm::header_of` meets its contract.
+-- `pgm::header::header_of` meets its contract.
 use native.Mathlib.Omega.{arith}
 use borrow.Author.Needs.{needs}
 use Rattle.pgm.specs.HeaderLaws.{header-is, start-within}

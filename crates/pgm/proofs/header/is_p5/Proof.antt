@@ -1,4 +1,4 @@
--- `pgm::is_p5` meets its contract.
+-- `pgm::header::is_p5` meets its contract.
 use borrow.Author.Tests.{eq-eqb, ne-eqb}
 use borrow.Author.Needs.{needs}
 use Rattle.pgm.specs.Header.{isP5}

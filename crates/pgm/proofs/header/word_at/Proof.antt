@@ -1,4 +1,4 @@
--- `pgm::word_at` meets its contract.
+-- `pgm::header::word_at` meets its contract.
 use native.Mathlib.Omega.{arith}
 use borrow.Author.Needs.{needs}
 use Rattle.pgm.specs.HeaderLaws.{word-behind, word-at-once}

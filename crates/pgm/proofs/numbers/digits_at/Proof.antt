@@ -1,4 +1,4 @@
--- `pgm::digits_at` meets its contract.
+-- `pgm::numbers::digits_at` meets its contract.
 use Prim.Native.Nat.{ℕ, _+_, _-_, _*_, _≤_, min}
 use mathlib.Core.Bool.{true}
 use mathlib.Core.Path.{_≡_, refl, sym, ap, _∙_}

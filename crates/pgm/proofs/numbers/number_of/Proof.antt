@@ -1,4 +1,4 @@
--- `pgm::number_of` meets its contract.
+-- `pgm::numbers::number_of` meets its contract.
 use borrow.Author.Needs.{needs}
 use Rattle.pgm.specs.HeaderLaws.{number-empty, number-longer, number-whole}
 use Rattle.pgm.proofs.numbers.number_of.Statement.{statement}

@@ -1,4 +1,4 @@
--- `pgm::depth_of` meets its contract.
+-- `pgm::sizes::depth_of` meets its contract.
 use Rattle.pgm.specs.SizesLaws.{depth-none}
 use Rattle.pgm.specs.Sizes.{depthOf}
 use Rattle.pgm.proofs.sizes.depth_of.Statement.{statement}

@@ -1,4 +1,4 @@
--- `pgm::fault_of` meets its contract.
+-- `pgm::sizes::fault_of` meets its contract.
 use Prim.Native.Nat.{_*_, _≤_}
 use mathlib.Core.Bool.{true}
 use mathlib.Core.Path.{_≡_, sym, _∙_}

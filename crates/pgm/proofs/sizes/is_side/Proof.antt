@@ -1,4 +1,4 @@
--- `pgm::is_side` meets its contract.
+-- `pgm::sizes::is_side` meets its contract.
 use native.Mathlib.Omega.{arith}
 use borrow.Author.Tests.{le-leb}
 use Rattle.pgm.specs.Sizes.{isSide}

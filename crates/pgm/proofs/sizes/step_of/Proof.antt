@@ -1,4 +1,4 @@
--- `pgm::step_of` meets its contract.
+-- `pgm::sizes::step_of` meets its contract.
 use borrow.Author.Tests.{le-leb, lt-leb}
 use Rattle.pgm.specs.Sizes.{stepOf}
 use Rattle.pgm.proofs.sizes.step_of.Statement.{statement}

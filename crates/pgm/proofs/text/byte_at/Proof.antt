@@ -1,4 +1,4 @@
--- `pgm::byte_at` meets its contract.
+-- `pgm::text::byte_at` meets its contract.
 use mathlib.Core.Path.{sym}
 use native.Mathlib.Omega.{arith}
 use borrow.Author.Needs.{needs}

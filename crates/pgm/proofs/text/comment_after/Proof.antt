@@ -1,4 +1,4 @@
--- `pgm::comment_after` meets its contract.
+-- `pgm::text::comment_after` meets its contract.
 use borrow.Author.Tests.{eq-eqb, ne-eqb}
 use Rattle.pgm.specs.Text.{inComment}
 use Rattle.pgm.proofs.text.comment_after.Statement.{statement}

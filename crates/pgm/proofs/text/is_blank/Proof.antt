@@ -1,4 +1,4 @@
--- `pgm::is_blank` meets its contract.
+-- `pgm::text::is_blank` meets its contract.
 use borrow.Author.Tests.{eq-eqb, ne-eqb, le-leb, lt-leb}
 use Rattle.pgm.specs.Text.{isBlank}
 use Rattle.pgm.proofs.text.is_blank.Statement.{statement}

@@ -1,4 +1,4 @@
--- `pgm::is_digit` meets its contract.
+-- `pgm::text::is_digit` meets its contract.
 use borrow.Author.Tests.{le-leb, lt-leb}
 use Rattle.pgm.specs.Text.{isDigit}
 use Rattle.pgm.proofs.text.is_digit.Statement.{statement}

@@ -1,4 +1,4 @@
--- `pgm::is_passed` meets its contract.
+-- `pgm::text::is_passed` meets its contract.
 use borrow.Author.Tests.{eq-eqb, ne-eqb}
 use borrow.Author.Needs.{needs}
 use Rattle.pgm.specs.Text.{passed}

@@ -1,4 +1,4 @@
--- `pgm::past_blanks` meets its contract.
+-- `pgm::text::past_blanks` meets its contract.
 use Prim.Native.Nat.{_+_, _-_}
 use mathlib.Core.Bool.{false}
 use mathlib.Core.Path.{_≡_, refl, sym, _∙_}

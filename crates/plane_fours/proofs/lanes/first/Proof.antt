@@ -1,26 +1,26 @@
 -- `plane_fours::lanes::first` meets its contract.
 use mathlib.Core.List.{List}
-use Rattle.cdef_sample.proofs.Sums16.{back}
-use Rattle.rows_limits.specs.declared.Pair.{Pair}
-use Rattle.cdef_plane_taps.specs.Plain.{AllLow, Low, Bounded}
-use Rattle.cdef_plane_taps.specs.declared.plain.Part.{Part}
+use Rattle.arith_sample.proofs.Sums16.{back}
+use Rattle.filter_limits.specs.declared.Pair.{Pair}
+use Rattle.plane_taps.specs.Plain.{AllLow, Low, Bounded}
+use Rattle.plane_taps.specs.declared.plain.Part.{Part}
 use Rattle.plane_fours.specs.RunLaws.{first-each}
 use mathlib.Core.Path.{_≡_, refl, sym, ap, _∙_}
 use Prim.Native.Nat.{ℕ, _-_, _≤_}
 use native.Mathlib.Omega.{arith}
 use lib.ListN.{length, take, getD, length-set}
-use Rattle.cdef_sample.specs.Upto.{upto, upto-none, upto-more, upto-all}
+use Rattle.arith_sample.specs.Upto.{upto, upto-none, upto-more, upto-all}
 use Rattle.plane_fours.specs.Fours.{pairIn}
-use Rattle.cdef_plane_rows.specs.LaneLaws.{below}
+use Rattle.plane_rows.specs.LaneLaws.{below}
 use Rattle.plane_fours.specs.RunLaws.{low-pair}
-use Rattle.cdef_plane_taps.specs.Plain.{firstOf}
+use Rattle.plane_taps.specs.Plain.{firstOf}
 use Rattle.plane_fours.specs.Fours.{firstLanes}
 use Rattle.plane_fours.proofs.lanes.first.Statement.{statement}
 use Rattle.plane_fours.proofs.lanes.first.Tie as tie
 use Rattle.plane_fours.proofs.lanes.first.Reads as reads
 use Rattle.plane_fours.proofs.lanes.first.Lts as lts
 use Rattle.plane_fours.proofs.lanes.pair.Reads as pair-reads
-use Rattle.cdef_plane_taps.proofs.plain.first.Reads as first-reads
+use Rattle.plane_taps.proofs.plain.first.Reads as first-reads
 
 abbrev Inv-loop : tie.InvT-loop
 Inv-loop c a0 b0 a1 b1 f sum₀ lo₀ hi₀ j₀ sum lo hi j = (take j sum ≡ upto (λ (n : ℕ). (firstOf (pairIn a0 b0 n) (pairIn a1 b1 n) (getD c n 0) f) .sum) j) × (take j lo ≡ upto (λ (n : ℕ). (firstOf (pairIn a0 b0 n) (pairIn a1 b1 n) (getD c n 0) f) .lo) j) × (take j hi ≡ upto (λ (n : ℕ). (firstOf (pairIn a0 b0 n) (pairIn a1 b1 n) (getD c n 0) f) .hi) j) × (length sum ≡ 16) × (length lo ≡ 16) × (length hi ≡ 16) × (j ≤ 16)

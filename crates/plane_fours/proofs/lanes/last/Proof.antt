@@ -3,26 +3,26 @@ use lib.IntN.{pos}
 use mir.Syntax.{w16}
 use mir.Val.{toZ, ofZ}
 use mathlib.Core.List.{List}
-use Rattle.cdef_sample.proofs.Sums16.{back}
-use Rattle.rows_limits.specs.declared.Pair.{Pair}
-use Rattle.cdef_plane_taps.specs.Plain.{AllLow, Low, Bounded}
+use Rattle.arith_sample.proofs.Sums16.{back}
+use Rattle.filter_limits.specs.declared.Pair.{Pair}
+use Rattle.plane_taps.specs.Plain.{AllLow, Low, Bounded}
 use Rattle.plane_fours.specs.Fours.{BoundedAll}
 use mathlib.Core.Path.{_≡_, refl, sym, ap, _∙_}
 use Prim.Native.Nat.{ℕ, _-_, _≤_}
 use native.Mathlib.Omega.{arith}
 use lib.ListN.{length, take, getD, length-set}
-use Rattle.cdef_sample.specs.Upto.{upto, upto-none, upto-more, upto-all}
+use Rattle.arith_sample.specs.Upto.{upto, upto-none, upto-more, upto-all}
 use Rattle.plane_fours.specs.Fours.{pairIn, lastLanes}
-use Rattle.cdef_plane_rows.specs.LaneLaws.{below}
+use Rattle.plane_rows.specs.LaneLaws.{below}
 use Rattle.plane_fours.specs.RunLaws.{low-pair}
-use Rattle.cdef_plane_taps.specs.Plain.{lastOf}
+use Rattle.plane_taps.specs.Plain.{lastOf}
 use Rattle.plane_fours.specs.Fours.{partIn}
 use Rattle.plane_fours.proofs.lanes.last.Statement.{statement}
 use Rattle.plane_fours.proofs.lanes.last.Tie as tie
 use Rattle.plane_fours.proofs.lanes.last.Reads as reads
 use Rattle.plane_fours.proofs.lanes.last.Lts as lts
 use Rattle.plane_fours.proofs.lanes.pair.Reads as pair-reads
-use Rattle.cdef_plane_taps.proofs.plain.last.Reads as last-reads
+use Rattle.plane_taps.proofs.plain.last.Reads as last-reads
 
 abbrev Inv-loop : tie.InvT-loop
 Inv-loop c a0 b0 a1 b1 a2 b2 a3 b3 g m out₀ j₀ out j = (take j out ≡ upto (λ (n : ℕ). lastOf (partIn m n) (pairIn a0 b0 n) (pairIn a1 b1 n) (pairIn a2 b2 n) (pairIn a3 b3 n) (getD c n 0) g) j) × (length out ≡ 16) × (j ≤ 16)

@@ -1,30 +1,30 @@
 -- `plane_fours::lanes::sec` meets its contract.
 use mathlib.Core.List.{List}
 use lib.Signed.{mag}
-use Rattle.cdef_sample.specs.SampleLaws.{free-on}
-use Rattle.cdef_sample.proofs.Joins.{Is, back-is}
-use Rattle.cdef_rows.proofs.Bounds.{small-back}
-use Rattle.rows_limits.specs.declared.Pair.{Pair}
-use Rattle.cdef_plane_taps.specs.Plain.{AllLow, Low}
-use Rattle.cdef_plane_taps.specs.PlainLaws.{size-sec}
-use Rattle.cdef_plane_rows.specs.LaneLaws.{free-is}
+use Rattle.arith_sample.specs.SampleLaws.{free-on}
+use Rattle.arith_sample.proofs.Joins.{Is, back-is}
+use Rattle.filter_rows.proofs.Bounds.{small-back}
+use Rattle.filter_limits.specs.declared.Pair.{Pair}
+use Rattle.plane_taps.specs.Plain.{AllLow, Low}
+use Rattle.plane_taps.specs.PlainLaws.{size-sec}
+use Rattle.plane_rows.specs.LaneLaws.{free-is}
 use mathlib.Core.Path.{_≡_, refl, sym, ap, _∙_}
 use Prim.Native.Nat.{ℕ, _-_, _≤_}
 use native.Mathlib.Omega.{arith}
 use lib.ListN.{length, take, getD, length-set}
-use Rattle.cdef_sample.specs.Upto.{upto, upto-none, upto-more, upto-all}
+use Rattle.arith_sample.specs.Upto.{upto, upto-none, upto-more, upto-all}
 use Rattle.plane_fours.specs.Fours.{pairIn, secLanes}
-use Rattle.cdef_plane_rows.specs.LaneLaws.{below}
+use Rattle.plane_rows.specs.LaneLaws.{below}
 use Rattle.plane_fours.specs.RunLaws.{low-pair}
-use Rattle.cdef_sample.specs.Sample.{freeOf}
-use Rattle.cdef_plane_taps.specs.Plain.{secPlain}
+use Rattle.arith_sample.specs.Sample.{freeOf}
+use Rattle.plane_taps.specs.Plain.{secPlain}
 use Rattle.plane_fours.proofs.lanes.sec.Statement.{statement}
 use Rattle.plane_fours.proofs.lanes.sec.Tie as tie
 use Rattle.plane_fours.proofs.lanes.sec.Reads as reads
 use Rattle.plane_fours.proofs.lanes.sec.Lts as lts
 use Rattle.plane_fours.proofs.lanes.pair.Reads as pair-reads
-use Rattle.cdef_plane_taps.proofs.plain.sec_sum.Reads as sec-sum-reads
-use Rattle.cdef_sample.proofs.raised.Reads as raised-reads
+use Rattle.plane_taps.proofs.plain.sec_sum.Reads as sec-sum-reads
+use Rattle.arith_sample.proofs.raised.Reads as raised-reads
 
 abbrev Inv-loop : tie.InvT-loop
 Inv-loop c a0 b0 a1 b1 a2 b2 a3 b3 f out₀ j₀ out j = (take j out ≡ upto (λ (n : ℕ). freeOf (getD c n 0) (secPlain (pairIn a0 b0 n) (pairIn a1 b1 n) (pairIn a2 b2 n) (pairIn a3 b3 n) (getD c n 0) f)) j) × (length out ≡ 16) × (j ≤ 16)

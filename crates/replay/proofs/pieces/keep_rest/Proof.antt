@@ -1,4 +1,4 @@
--- `replay::keep_rest` meets its contract.
+-- `replay::pieces::keep_rest` meets its contract.
 use mathlib.Core.Path.{_≡_, refl}
 use Prim.Native.Nat.{_-_, _≤_}
 use native.Mathlib.Omega.{arith}

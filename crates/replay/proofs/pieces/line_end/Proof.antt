@@ -1,4 +1,4 @@
--- `replay::line_end` meets its contract.
+-- `replay::pieces::line_end` meets its contract.
 use Prim.Native.Nat.{_-_, _≤_}
 use native.Mathlib.Omega.{arith}
 use lib.ListN.{length}

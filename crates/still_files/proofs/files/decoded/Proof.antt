@@ -1,4 +1,4 @@
--- `still_files::decoded` meets its contract.
+-- `still_files::files::decoded` meets its contract.
 use mathlib.Core.Path.{sym, _∙_}
 use borrow.Author.Tests.{not-false}
 use borrow.Author.Needs.{needs}

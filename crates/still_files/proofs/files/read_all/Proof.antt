@@ -1,4 +1,4 @@
--- `still_files::read_all` meets its contract.
+-- `still_files::files::read_all` meets its contract.
 use Prim.Native.Nat.{_-_, _≤_}
 use mathlib.Core.Path.{_≡_, refl, _∙_}
 use native.Mathlib.Omega.{arith}

@@ -1,4 +1,4 @@
--- `still_files::read_picture` meets its contract.
+-- `still_files::files::read_picture` meets its contract.
 use native.Mathlib.Omega.{arith}
 use borrow.Author.Needs.{needs}
 use Rattle.still_steps.specs.ListsLaws.{part-length}

@@ -1,4 +1,4 @@
--- `still_files::write_picture` meets its contract.
+-- `still_files::files::write_picture` meets its contract.
 use Prim.Native.Nat.{_*_, _≤_}
 use native.Mathlib.Omega.{arith}
 use borrow.Author.Needs.{needs}

@@ -1,4 +1,4 @@
--- `still_steps::damping_of` meets its contract.
+-- `still_steps::damping::damping_of` meets its contract.
 use mathlib.Core.Path.{sym, _∙_}
 use native.Mathlib.Omega.{arith}
 use borrow.Author.Needs.{needs}

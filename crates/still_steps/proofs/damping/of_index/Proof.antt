@@ -1,4 +1,4 @@
--- `still_steps::of_index` meets its contract.
+-- `still_steps::damping::of_index` meets its contract.
 use borrow.Author.Needs.{needs}
 use Rattle.still_steps.specs.DampingLaws.{index-given, index-rejected}
 use Rattle.still_steps.proofs.damping.of_index.Statement.{statement}

@@ -1,4 +1,4 @@
--- `still_steps::counted` meets its contract.
+-- `still_steps::lists::counted` meets its contract.
 use mathlib.Core.Path.{_≡_, sym, ap, _∙_}
 use native.Mathlib.Omega.{arith}
 use borrow.Author.Needs.{needs}

@@ -1,4 +1,4 @@
--- `still_steps::counts_of` meets its contract.
+-- `still_steps::lists::counts_of` meets its contract.
 use Prim.Native.Nat.{_*_, _/_}
 use native.Mathlib.Omega.{arith}
 use Rattle.still_steps.specs.ListsLaws.{counted}

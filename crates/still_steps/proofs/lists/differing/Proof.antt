@@ -1,4 +1,4 @@
--- `still_steps::differing` meets its contract.
+-- `still_steps::lists::differing` meets its contract.
 use Prim.Native.Nat.{_+_, _*_, _-_, _≤_}
 use mathlib.Core.Path.{_≡_, refl, sym, _∙_}
 use native.Mathlib.Omega.{arith}

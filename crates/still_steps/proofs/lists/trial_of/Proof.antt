@@ -1,4 +1,4 @@
--- `still_steps::trial_of` meets its contract.
+-- `still_steps::lists::trial_of` meets its contract.
 use native.Mathlib.Omega.{arith}
 use borrow.Author.Needs.{needs}
 use Rattle.still_steps.specs.TrialLaws.{number-none, number-low, number-four, number-other}

@@ -1,4 +1,4 @@
--- `still_steps::rows` meets its contract. The type is written out, else both lists would be compared element by element.
+-- `still_steps::space::rows` meets its contract. The type is written out, else both lists would be compared element by element.
 use Prim.Native.Nat.{ℕ}
 use mathlib.Core.Path.{sym}
 use lib.ListN.{length-replicate}

@@ -1,4 +1,4 @@
--- `still_steps::unit_totals` meets its contract. The type is written out, else both lists would be compared element by element.
+-- `still_steps::space::unit_totals` meets its contract. The type is written out, else both lists would be compared element by element.
 use mathlib.Core.Path.{sym}
 use lib.IntN.{ℤ, pos}
 use lib.ListN.{length-replicate}

@@ -1,4 +1,4 @@
--- `still_steps::calls` meets its contract.
+-- `still_steps::steps::calls` meets its contract.
 use native.Mathlib.Omega.{arith}
 use borrow.Author.Needs.{needs}
 use Rattle.still_steps.specs.ListsLaws.{part-length}

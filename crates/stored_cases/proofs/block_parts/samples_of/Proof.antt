@@ -1,4 +1,4 @@
--- `stored_cases::samples_of` meets its contract.
+-- `stored_cases::block_parts::samples_of` meets its contract.
 use Prim.Native.Nat.{_*_, _≤_}
 use native.Mathlib.Nat.{mul-le-mul}
 use native.Mathlib.Omega.{arith}

@@ -1,4 +1,4 @@
--- `stored_cases::measured` meets its contract.
+-- `stored_cases::distance_cases::measured` meets its contract.
 use mathlib.Core.Path.{sym}
 use lib.Seq.{length-take-le}
 use borrow.Author.Needs.{needs}

@@ -1,18 +1,18 @@
--- `trial_put::both_block` meets its contract.
+-- `trial_put::finish::both_block` meets its contract.
 use mathlib.Core.Path.{_≡_, refl, sym, _∙_}
 use Prim.Native.Nat.{ℕ, _-_, _≤_}
 use native.Mathlib.Omega.{arith}
 use lib.ListN.{length, take, getD, length-set}
 use lib.IntN.{pos, _+ℤ_}
-use Rattle.cdef_sample.specs.Sample.{finishOf}
-use Rattle.cdef_sample.specs.Upto.{upto, upto-none, upto-more, upto-at}
-use Rattle.cdef_sample.proofs.Joins.{Is, add-ok, add-is, back-is}
+use Rattle.arith_sample.specs.Sample.{finishOf}
+use Rattle.arith_sample.specs.Upto.{upto, upto-none, upto-more, upto-at}
+use Rattle.arith_sample.proofs.Joins.{Is, add-ok, add-is, back-is}
 use Rattle.trial_put.proofs.finish.both_block.Statement.{statement}
 use Rattle.trial_put.proofs.finish.both_block.Tie as tie
 use Rattle.trial_put.proofs.finish.both_block.Reads as reads
 use Rattle.trial_put.proofs.finish.both_block.Lts as lts
-use Rattle.cdef_sample.proofs.add.Reads as add-reads
-use Rattle.cdef_sample.proofs.finish.Reads as finish-reads
+use Rattle.arith_sample.proofs.add.Reads as add-reads
+use Rattle.arith_sample.proofs.finish.Reads as finish-reads
 
 abbrev Inv-loop : tie.InvT-loop
 Inv-loop n c p s lo hi out₀ k₀ out k = (take k out ≡ upto (λ (k : ℕ). finishOf (getD c k 0) (getD p k (pos 0) +ℤ getD s k (pos 0)) (getD lo k 0) (getD hi k 0)) k) × (length out ≡ 64) × (k ≤ n)

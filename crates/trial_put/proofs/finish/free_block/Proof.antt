@@ -1,17 +1,17 @@
--- `trial_put::free_block` meets its contract.
+-- `trial_put::finish::free_block` meets its contract.
 use mathlib.Core.Path.{_≡_, refl, sym, _∙_}
 use Prim.Native.Nat.{ℕ, _-_, _≤_}
 use native.Mathlib.Omega.{arith}
 use lib.ListN.{length, take, getD, length-set}
 use lib.IntN.{pos}
-use Rattle.cdef_sample.specs.Sample.{freeOf}
-use Rattle.cdef_sample.specs.Upto.{upto, upto-none, upto-more, upto-at}
-use Rattle.cdef_sample.proofs.Joins.{Is, back-is}
+use Rattle.arith_sample.specs.Sample.{freeOf}
+use Rattle.arith_sample.specs.Upto.{upto, upto-none, upto-more, upto-at}
+use Rattle.arith_sample.proofs.Joins.{Is, back-is}
 use Rattle.trial_put.proofs.finish.free_block.Statement.{statement}
 use Rattle.trial_put.proofs.finish.free_block.Tie as tie
 use Rattle.trial_put.proofs.finish.free_block.Reads as reads
 use Rattle.trial_put.proofs.finish.free_block.Lts as lts
-use Rattle.cdef_sample.proofs.free.Reads as free-reads
+use Rattle.arith_sample.proofs.free.Reads as free-reads
 
 abbrev Inv-loop : tie.InvT-loop
 Inv-loop n c s out₀ k₀ out k = (take k out ≡ upto (λ (k : ℕ). freeOf (getD c k 0) (getD s k (pos 0))) k) × (length out ≡ 64) × (k ≤ n)

@@ -1,4 +1,4 @@
--- `try_totals::add_whole` meets its contract.
+-- `try_totals::whole::add_whole` meets its contract.
 use mathlib.Core.Path.{_≡_, _∙_}
 use Prim.Native.Nat.{ℕ, _+_, _-_, _*_, _≤_, _<_}
 use native.Mathlib.Omega.{arith}

@@ -1,4 +1,4 @@
--- `try_totals::distance_at` meets its contract.
+-- `try_totals::whole::distance_at` meets its contract.
 use native.Mathlib.Omega.{arith}
 use Rattle.distance_sums.specs.BlockLaws.{below-4096}
 use Rattle.try_totals.specs.WholeLaws.{row-held, row-low, whole-sums, whole-is}

@@ -1,4 +1,4 @@
--- `try_totals::sums_at` meets its contract.
+-- `try_totals::whole::sums_at` meets its contract.
 use mathlib.Core.Path.{_≡_, refl, _∙_}
 use Prim.Native.Nat.{ℕ, _+_, _-_, _*_, _≤_}
 use native.Mathlib.Omega.{arith}

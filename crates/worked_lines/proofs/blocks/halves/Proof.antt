@@ -1,4 +1,4 @@
--- `worked_lines::halves` meets its contract.
+-- `worked_lines::blocks::halves` meets its contract.
 use Prim.Native.Nat.{_+_, _-_, _≤_, _<_}
 use native.Mathlib.Omega.{arith}
 use borrow.Author.Needs.{needs}

@@ -1,0 +1,157 @@
+// One sample of the filter: its taps unsigned, their sums 16-bit signed numbers.
+ghost use mathlib.Core.Path.{_≡_};
+ghost use Prim.Native.Nat.{ℕ, _+_, _-_, _*_, _≤_, _<_, min, max};
+ghost use lib.IntN.{natAbs, pos, _+ℤ_, _*ℤ_};
+ghost use lib.ListN.{length, getD};
+ghost use lib.Signed.{mag};
+ghost use Rattle.arith_sample.specs.Sample.{orCentre, sizeOf, conOf, movedOf, overOf, underOf, finishOf, freeOf};
+
+// The lesser of two sides or positions.
+pub fn lesser(a: usize, b: usize) -> usize
+    ensures { λ r. ⌜ r ≡ min a b ⌝ }
+{
+    if a < b { a } else { b }
+}
+
+// The lesser and the greater of two samples.
+pub fn least(a: u16, b: u16) -> u16
+    requires { ⌜ (a ≤ 32767) × (b ≤ 32767) ⌝ }
+    ensures { λ r. ⌜ r ≡ min a b ⌝ }
+{
+    if (a as i16) < (b as i16) { a } else { b }
+}
+
+pub fn most(a: u16, b: u16) -> u16
+    requires { ⌜ (a ≤ 32767) × (b ≤ 32767) ⌝ }
+    ensures { λ r. ⌜ r ≡ max a b ⌝ }
+{
+    if (a as i16) < (b as i16) { b } else { a }
+}
+
+// The absolute difference of two samples.
+fn apart(p: u16, c: u16) -> u16
+    requires { ⌜ (p ≤ 32767) × (c ≤ 32767) ⌝ }
+    ensures { λ r. ⌜ r ≡ (p - c) + (c - p) ⌝ }
+{
+    if (p as i16) < (c as i16) {
+        c - p
+    } else {
+        p - c
+    }
+}
+
+// s - t, or 0 where t is the greater.
+pub fn less(s: u16, t: u16) -> u16
+    ensures { λ r. ⌜ r ≡ s - t ⌝ }
+{
+    if s < t { 0 } else { s - t }
+}
+
+// The magnitude of a constrained difference of magnitude a.
+fn constrain_size(a: u16, s: u16, sh: u32) -> u16
+    requires { ⌜ (a ≤ 32767) × (s ≤ 32767) × (sh ≤ 15) ⌝ }
+    ensures { λ r. ⌜ r ≡ sizeOf a s sh ⌝ }
+{
+    least(a, less(s, a >> sh))
+}
+
+// A tap's constrained difference from the centre.
+pub fn constrain_tap(p: u16, c: u16, s: u16, sh: u32) -> i16
+    requires { ⌜ (p ≤ 32767) × (c ≤ 32767) × (s ≤ 32767) × (sh ≤ 15) ⌝ }
+    ensures { λ r. ⌜ r ≡ conOf p c s sh ⌝ }
+{
+    let m = constrain_size(apart(p, c), s, sh);
+    if (p as i16) < (c as i16) {
+        0 - (m as i16)
+    } else {
+        m as i16
+    }
+}
+
+// The sum of two 16-bit numbers.
+pub fn add(a: i16, b: i16) -> i16
+    requires { ⌜ natAbs a + natAbs b ≤ 32767 ⌝ }
+    ensures { λ r. ⌜ r ≡ a +ℤ b ⌝ }
+{
+    a + b
+}
+
+// A 16-bit number times its weight.
+pub fn scale(k: u16, a: i16) -> i16
+    requires { ⌜ (k ≤ 32767) × (natAbs a ≤ 32767) × (k * natAbs a ≤ 32767) ⌝ }
+    ensures { λ r. ⌜ r ≡ pos k *ℤ a ⌝ }
+{
+    (k as i16) * a
+}
+
+// The tap at an index of the window; the centre where the tap or the centre is marked.
+pub fn tap(w: &[u16; 144], at: usize, c: u16) -> u16
+    requires { ⌜ at < 144 ⌝ }
+    ensures { λ r. ⌜ r ≡ orCentre (getD (now (w .entry)) at 0) c ⌝ }
+{
+    let t = w[at];
+    if t == 16384 {
+        c
+    } else {
+        if c == 16384 { c } else { t }
+    }
+}
+
+// The centre plus the rounded sum.
+pub fn moved(c: u16, sum: i16) -> i16
+    requires { ⌜ (c ≤ 16384) × (natAbs sum ≤ 16000) ⌝ }
+    ensures { λ r. ⌜ r ≡ movedOf c sum ⌝ }
+{
+    let g = if sum < 0 { 7i16 } else { 8i16 };
+    (c as i16) + ((sum + g) >> 4)
+}
+
+// At least lo.
+pub fn at_least(v: i16, lo: u16) -> i16
+    requires { ⌜ (natAbs v ≤ 32767) × (lo ≤ 32767) ⌝ }
+    ensures { λ r. ⌜ r ≡ overOf v lo ⌝ }
+{
+    if v < (lo as i16) { lo as i16 } else { v }
+}
+
+// At most hi.
+pub fn at_most(v: i16, hi: u16) -> i16
+    requires { ⌜ (natAbs v ≤ 32767) × (hi ≤ 32767) ⌝ }
+    ensures { λ r. ⌜ r ≡ underOf v hi ⌝ }
+{
+    if (hi as i16) < v { hi as i16 } else { v }
+}
+
+// The centre plus the rounded sum, clipped.
+pub fn clipped(c: u16, sum: i16, lo: u16, hi: u16) -> u16
+    requires { ⌜ (c ≤ 16384) × (natAbs sum ≤ 16000) × (lo ≤ 16384) × (hi ≤ 16384) ⌝ }
+    ensures { λ r. ⌜ r ≡ mag (underOf (overOf (movedOf c sum) lo) hi) ⌝ }
+{
+    at_most(at_least(moved(c, sum), lo), hi) as u16
+}
+
+// The centre plus the rounded sum, at least 0.
+pub fn raised(c: u16, sum: i16) -> u16
+    requires { ⌜ (c ≤ 16384) × (natAbs sum ≤ 16000) ⌝ }
+    ensures { λ r. ⌜ r ≡ mag (overOf (movedOf c sum) 0) ⌝ }
+{
+    at_least(moved(c, sum), 0) as u16
+}
+
+// The filtered sample; a marked centre is kept.
+pub fn finish(c: u16, sum: i16, lo: u16, hi: u16) -> u16
+    requires { ⌜ (c ≤ 16384) × (natAbs sum ≤ 16000) × (lo ≤ 16384) × (hi ≤ 16384) ⌝ }
+    ensures { λ r. ⌜ r ≡ finishOf c sum lo hi ⌝ }
+{
+    let v = clipped(c, sum, lo, hi);
+    if c == 16384 { c } else { v }
+}
+
+// The centre plus its rounded sum, not clipped to the taps; a marked centre is kept.
+pub fn free(c: u16, sum: i16) -> u16
+    requires { ⌜ (c ≤ 16384) × (natAbs sum ≤ 16000) ⌝ }
+    ensures { λ r. ⌜ r ≡ freeOf c sum ⌝ }
+{
+    let v = raised(c, sum);
+    if c == 16384 { c } else { v }
+}

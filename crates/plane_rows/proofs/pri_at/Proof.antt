@@ -1,0 +1,68 @@
+-- `plane_rows::pri_at` meets its contract.
+use lib.ListN.{getD}
+use mir.Syntax.{w16}
+use mir.Val.{toZ, ofZ}
+use Rattle.arith_sample.proofs.Joins.{Is, back-is}
+use Rattle.filter_rows.specs.Pairs.{pairOf}
+use Rattle.filter_rows.specs.Sums.{priAt}
+use Rattle.filter_rows.proofs.Bounds.{size-pri, small-back}
+use Rattle.plane_taps.specs.Plain.{Low}
+use Rattle.plane_taps.specs.PlainLaws.{pri-plain}
+use Rattle.plane_rows.specs.LaneLaws.{below, pair-low, free-is}
+use mathlib.Core.Path.{_≡_, _∙_}
+use mathlib.Core.Path.{_≡_, sym, _∙_}
+use native.Mathlib.Omega.{arith}
+use Rattle.plane_rows.specs.LaneLaws.{below, pair-low}
+use borrow.Author.Needs.{needs}
+use Rattle.plane_rows.proofs.pri_at.Statement.{statement}
+use Rattle.plane_rows.proofs.pri_at.Tie as tie
+use Rattle.plane_rows.proofs.pri_at.Reads as reads
+use Rattle.plane_rows.proofs.pri_at.Lts as lts
+use Rattle.plane_rows.proofs.load.Reads as load-reads
+use Rattle.plane_taps.proofs.plain.pri_sum.Reads as pri-sum-reads
+use Rattle.arith_sample.proofs.raised.Reads as raised-reads
+
+low : (s : tie.Start) (p : Rattle.filter_limits.specs.declared.Pair.Pair) (o : Prim.Native.Nat.ℕ) → p ≡ pairOf (s .args .src .now) (s .args .k) o → Low p
+low s p o e = rw e (pair-low (s .args .src .now) (s .pre .2) (s .args .k) o)
+
+sum : (c : tie.After-pri-sum) → let a = c .before .before .before .before .before .args in Is (c .pri-sum .result) (priAt (a .src .now) (a .k) (a .t) (a .f)) 3840
+sum c = let s = c .before .before .before .before .before in
+    let a = s .args in
+    record { is = c .pri-sum .ensures ∙ rw (c .before .before .load .ensures, c .before .load2 .ensures) (pri-plain (a .src .now) (s .pre .2) (a .k) (a .t) (a .f)); small = size-pri (a .src .now) (a .k) (a .t) (a .f) (s .pre .3) }
+
+mul-c : tie.Need-mul-c
+mul-c c = search needs
+
+shared-slice-read-c : tie.Need-shared-slice-read-c
+shared-slice-read-c c = search needs
+
+load-requires : tie.Need-load-requires
+load-requires c κs = search needs
+
+load-requires-2 : tie.Need-load-requires-2
+load-requires-2 c κs = search needs
+
+pri-sum-requires : tie.Need-pri-sum-requires
+pri-sum-requires c κs = let s = c .before .before .before .before in
+    (low s _ _ (c .before .load .ensures), low s _ _ (c .load2 .ensures), below (s .args .src .now) (s .pre .2) (s .args .k), s .pre .3)
+
+raised-requires : tie.Need-raised-requires
+raised-requires c κs = let s = c .before .before .before .before .before in
+    (omega (arith, below (s .args .src .now) (s .pre .2) (s .args .k)), small-back (sum c) (omega arith) (omega arith))
+
+returns : tie.Need-returns
+returns c = let s = c .before .before .before .before .before .before in
+    let a = s .args in
+    free-is (a .src .now) (s .pre .2) (a .k) _ _ _ (back-is (sum (c .before)) (omega arith)) (c .raised .ensures)
+
+pub pri-at-spec : {M : Type 1} → statement M
+pri-at-spec =
+    tie.close
+    (tie.spec
+    mul-c
+    shared-slice-read-c
+    load-requires
+    load-requires-2
+    pri-sum-requires
+    raised-requires
+    returns)

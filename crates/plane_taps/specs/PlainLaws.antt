@@ -1,0 +1,166 @@
+-- Laws of one sample without marks: it is the sample that the window's kernel gives.
+use mathlib.Core.Path.{_≡_, refl, sym, ap, _∙_}
+use mathlib.Core.Bool.{Bool, true, false, cond}
+use mathlib.Core.List.{List}
+use Prim.Native.Nat.{ℕ, zero, suc, _+_, _-_, _*_, _/_, _^_, _≤_, _<_, min, max}
+use native.Mathlib.Decide.{decLt}
+use native.Mathlib.Nat.{mul-le-mul}
+use native.Mathlib.Omega.{arith}
+use borrow.Author.Tests.{lt-ltb, le-ltb, ltb-true, ltb-false}
+use lib.Dec.{ltb}
+use lib.ListN.{getD}
+use lib.IntN.{ℤ, pos, negsuc, negℤ, natAbs, _+ℤ_, _-ℤ_, _*ℤ_}
+use lib.Signed.{ltZ}
+use Rattle.arith_sample.specs.Sample.{orCentre, sizeOf, conOf, underOf, finishOf}
+use Rattle.arith_sample.specs.SampleLaws.{con-below, con-above, size-con, centre-tap}
+use Rattle.filter_rows.specs.Place.{onFrom, backFrom, tapOn, tapBack}
+use Rattle.cdef_spec.specs.SignedLaws.{size-add, size-scale}
+use Rattle.filter_rows.specs.Sums.{InRange, pairAt, lowPair, highPair, priAt, nearAt, farAt, secAt, lowAt, highAt, filteredAt}
+use Rattle.filter_rows.specs.Pairs.{pairOf, weighed}
+use Rattle.filter_limits.specs.declared.Pair.{Pair}
+use Rattle.filter_rows.specs.declared.Taps.{Taps}
+use Rattle.filter_rows.specs.declared.Strength.{Strength}
+use Rattle.plane_taps.specs.Plain.{heldOf, AllLow, pairPlain, priPlain, secPlain, lowTwo, highTwo, firstOf, lastOf}
+
+-- ---- the constrained difference
+
+-- a difference by its sign
+diff-below : (p c : ℕ) → p < c → pos p -ℤ pos c ≡ negsuc (c - suc p)
+diff-below p zero h = absurd (omega arith)
+diff-below p (suc c) h = rw (lt-ltb p (suc c) h)
+
+diff-above : (p c : ℕ) → c ≤ p → pos p -ℤ pos c ≡ pos (p - c)
+diff-above p zero h = ap pos (omega arith)
+diff-above p (suc c) h = rw (le-ltb p (suc c) h)
+
+held-above : (a l : ℕ) → heldOf (pos a) l ≡ pos (min a l)
+unfolding heldOf underOf
+held-above a zero = go (ltb 0 a) refl
+  where
+    go : (b : Bool) → ltb 0 a ≡ b → cond (ltZ (cond b (pos 0) (pos a)) (pos 0)) (pos 0) (cond b (pos 0) (pos a)) ≡ pos (min a 0)
+    go true e = ap pos (omega arith)
+    go false e = let h : a ≤ 0 = ltb-false 0 a e in rw (le-ltb a 0 (omega arith)) (ap pos (omega arith))
+held-above a (suc l) = go (ltb (suc l) a) refl
+  where
+    go : (b : Bool) → ltb (suc l) a ≡ b → cond (ltZ (cond b (pos (suc l)) (pos a)) (negsuc l)) (negsuc l) (cond b (pos (suc l)) (pos a)) ≡ pos (min a (suc l))
+    go true e = let h : suc l < a = ltb-true (suc l) a e in ap pos (omega arith)
+    go false e = let h : a ≤ suc l = ltb-false (suc l) a e in ap pos (omega arith)
+
+held-below : (a l : ℕ) → heldOf (negsuc a) l ≡ negℤ (pos (min (suc a) l))
+unfolding heldOf underOf
+held-below a zero = let k : min (suc a) 0 ≡ 0 = omega arith in rw k
+held-below a (suc l) = go (ltb l a) refl
+  where
+    go : (b : Bool) → ltb l a ≡ b → cond b (negsuc l) (negsuc a) ≡ negℤ (pos (min (suc a) (suc l)))
+    go true e =
+        let h : l < a = ltb-true l a e in
+        let k : min (suc a) (suc l) ≡ suc l = omega arith in
+        rw k
+    go false e =
+        let h : a ≤ l = ltb-false l a e in
+        let k : min (suc a) (suc l) ≡ suc a = omega arith in
+        rw k
+
+-- holding the difference to what is left of the strength constrains it
+pub held-con : (t c s sh : ℕ) → heldOf (pos t -ℤ pos c) (s - natAbs (pos t -ℤ pos c) / 2 ^ sh) ≡ conOf t c s sh
+unfolding sizeOf
+held-con t c s sh = go (decLt t c)
+  where
+    go : Dec (t < c) → heldOf (pos t -ℤ pos c) (s - natAbs (pos t -ℤ pos c) / 2 ^ sh) ≡ conOf t c s sh
+    go (yes l) =
+        let e : (t - c) + (c - t) ≡ suc (c - suc t) = omega arith in
+        rw (diff-below t c l) (held-below (c - suc t) (s - suc (c - suc t) / 2 ^ sh) ∙ sym (con-below t c s sh l ∙ rw e))
+    go (no l) =
+        let g : c ≤ t = omega arith in
+        let e : (t - c) + (c - t) ≡ t - c = omega arith in
+        rw (diff-above t c g) (held-above (t - c) (s - (t - c) / 2 ^ sh) ∙ sym (con-above t c s sh g ∙ rw e))
+
+-- ---- the sample
+
+three-low : (a b e c : ℕ) → min (min a c) (min b e) ≡ min (min a b) (min e c)
+three-low a b e c = omega arith
+
+three-high : (a b e c : ℕ) → max (max a c) (max b e) ≡ max (max a b) (max e c)
+three-high a b e c = omega arith
+
+module _ (l : List ℕ) (low : AllLow l) (k : ℕ) (t : Taps) where
+  not-mark : (j : ℕ) → getD l j 0 ≡ 16384 → ⊥
+  not-mark j e = omega (arith, low .all j)
+
+  on-is : (o : ℕ) → tapOn l k o (getD l k 0) ≡ getD l (onFrom k o) 0
+  unfolding tapOn
+  on-is o = centre-tap _ _ (not-mark (onFrom k o)) (not-mark k)
+
+  back-is : (o : ℕ) → tapBack l k o (getD l k 0) ≡ getD l (backFrom k o) 0
+  unfolding tapBack
+  back-is o = centre-tap _ _ (not-mark (backFrom k o)) (not-mark k)
+
+  pair-is : (o s sh : ℕ) → pairPlain (pairOf l k o) (getD l k 0) s sh ≡ pairAt l k o (getD l k 0) s sh
+  unfolding pairPlain pairOf pairAt
+  pair-is o s sh = rw (on-is o, back-is o)
+
+  pub pri-plain : (f : Strength) → priPlain (pairOf l k (t .p0)) (pairOf l k (t .p1)) (getD l k 0) f ≡ priAt l k t f
+  unfolding priPlain weighed priAt
+  pri-plain f = rw (pair-is (t .p0) (f .s) (f .sh), pair-is (t .p1) (f .s) (f .sh))
+
+  pub sec-plain : (f : Strength) → secPlain (pairOf l k (t .q0)) (pairOf l k (t .q1)) (pairOf l k (t .r0)) (pairOf l k (t .r1)) (getD l k 0) f ≡ secAt l k t f
+  unfolding secPlain weighed secAt nearAt farAt
+  sec-plain f = rw (pair-is (t .q0) (f .s) (f .sh), pair-is (t .q1) (f .s) (f .sh), pair-is (t .r0) (f .s) (f .sh), pair-is (t .r1) (f .s) (f .sh))
+
+  low-is : (o u : ℕ) → lowTwo (pairOf l k o) (pairOf l k u) ≡ min (lowPair l k o (getD l k 0)) (lowPair l k u (getD l k 0))
+  unfolding lowTwo pairOf lowPair
+  low-is o u = rw (on-is o, back-is o, on-is u, back-is u)
+
+  high-is : (o u : ℕ) → highTwo (pairOf l k o) (pairOf l k u) ≡ max (highPair l k o (getD l k 0)) (highPair l k u (getD l k 0))
+  unfolding highTwo pairOf highPair
+  high-is o u = rw (on-is o, back-is o, on-is u, back-is u)
+
+  lowest : min (min (lowTwo (pairOf l k (t .p0)) (pairOf l k (t .p1))) (getD l k 0)) (min (lowTwo (pairOf l k (t .q0)) (pairOf l k (t .q1))) (lowTwo (pairOf l k (t .r0)) (pairOf l k (t .r1)))) ≡ lowAt l k t
+  unfolding lowAt
+  lowest = rw (low-is (t .p0) (t .p1), low-is (t .q0) (t .q1), low-is (t .r0) (t .r1)) (three-low _ _ _ _)
+
+  highest : max (max (highTwo (pairOf l k (t .p0)) (pairOf l k (t .p1))) (getD l k 0)) (max (highTwo (pairOf l k (t .q0)) (pairOf l k (t .q1))) (highTwo (pairOf l k (t .r0)) (pairOf l k (t .r1)))) ≡ highAt l k t
+  unfolding highAt
+  highest = rw (high-is (t .p0) (t .p1), high-is (t .q0) (t .q1), high-is (t .r0) (t .r1)) (three-high _ _ _ _)
+
+  -- the sample filtered with both strengths
+  pub both-plain : (f g : Strength) → lastOf (firstOf (pairOf l k (t .p0)) (pairOf l k (t .p1)) (getD l k 0) f) (pairOf l k (t .q0)) (pairOf l k (t .q1)) (pairOf l k (t .r0)) (pairOf l k (t .r1)) (getD l k 0) g ≡ filteredAt l k t f g
+  unfolding lastOf firstOf filteredAt
+  both-plain f g = rw (pri-plain f, sec-plain g, lowest, highest)
+
+-- ---- bounds of the sums
+
+pub size-pair : (p : Pair) (c s sh : ℕ) → s ≤ 240 → natAbs (pairPlain p c s sh) ≤ 480
+unfolding pairPlain
+size-pair p c s sh h = omega (arith, size-add (conOf (p .on) c s sh) (conOf (p .back) c s sh), size-con (p .on) c s sh, size-con (p .back) c s sh)
+
+-- two weighted sums
+size-weighed : (a b : ℤ) (m : ℕ) (f : Strength) → InRange f → natAbs a ≤ m → natAbs b ≤ m → natAbs (weighed a b f) ≤ 8 * m
+unfolding weighed
+size-weighed a b m f r ha hb =
+    let p : f .w0 * natAbs a ≤ 4 * m = mul-le-mul (r .w0) ha in
+    let q : f .w1 * natAbs b ≤ 4 * m = mul-le-mul (r .w1) hb in
+    omega (arith, size-add (pos (f .w0) *ℤ a) (pos (f .w1) *ℤ b), size-scale (f .w0) a, size-scale (f .w1) b)
+
+module _ (c : ℕ) (f : Strength) (r : InRange f) where
+  of : (p : Pair) → natAbs (pairPlain p c (f .s) (f .sh)) ≤ 480
+  of p = size-pair p c (f .s) (f .sh) (r .s)
+
+  two : (p q : Pair) → natAbs (pairPlain p c (f .s) (f .sh) +ℤ pairPlain q c (f .s) (f .sh)) ≤ 960
+  two p q = omega (arith, size-add (pairPlain p c (f .s) (f .sh)) (pairPlain q c (f .s) (f .sh)), of p, of q)
+
+  pub size-pri : (p0 p1 : Pair) → natAbs (priPlain p0 p1 c f) ≤ 3840
+  unfolding priPlain
+  size-pri p0 p1 = size-weighed _ _ 480 f r (of p0) (of p1)
+
+  pub size-sec : (q0 q1 r0 r1 : Pair) → natAbs (secPlain q0 q1 r0 r1 c f) ≤ 7680
+  unfolding secPlain
+  size-sec q0 q1 r0 r1 = size-weighed _ _ 960 f r (two q0 r0) (two q1 r1)
+
+pub size-under : (z : ℤ) (l : ℕ) → natAbs z ≤ 32767 → l ≤ 32767 → natAbs (underOf z l) ≤ 32767
+unfolding underOf
+size-under z l h k = go (ltZ (pos l) z)
+  where
+    go : (t : Bool) → natAbs (cond t (pos l) z) ≤ 32767
+    go true = k
+    go false = h

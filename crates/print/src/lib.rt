@@ -8,17 +8,6 @@ pub fn number(n: u64) {
     io::print_decimal(1, n);
 }
 
-// A signed number by its sign and size.
-pub fn signed(n: i32) {
-    let wide = n as i64;
-    if wide < 0 {
-        text(b"-");
-        number((0 - wide) as u64);
-        return;
-    }
-    number(wide as u64);
-}
-
 // A distance or a total, which is never below 0.
 pub fn whole(d: i64) {
     if d < 0 {

@@ -1,3 +1,2 @@
--- One sample from its taps in bytes, and its bounds.
-pub mod Byte
-pub mod ByteBounds
+-- The arithmetic of samples in bytes.
+pub mod Arithmetic

@@ -12,8 +12,9 @@ use Rattle.filter_rows.specs.Pairs.{weighed}
 use Rattle.filter_limits.specs.declared.Pair.{Pair}
 use Rattle.plane_taps.specs.Plain.{pairPlain, priPlain, secPlain}
 use Rattle.plane_rows.specs.Rows.{priIn, secIn}
-use Rattle.plane_byte.specs.Byte.{aboveOf, upPair, downPair, weighPri, weighSec, upPri, downPri, upSec, downSec}
-use Rattle.plane_byte.specs.ByteBounds.{above-le, weigh-four, weigh-three}
+use Rattle.plane_bytes.specs.Byte.{upPair, downPair, weighPri, weighSec, upPri, downPri, upSec, downSec}
+use Rattle.plane_byte.specs.Arithmetic.{aboveOf}
+use Rattle.plane_bytes.specs.ByteBounds.{above-le, weigh-four, weigh-three}
 
 -- ---- a difference of two numbers
 

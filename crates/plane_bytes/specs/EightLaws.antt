@@ -21,7 +21,7 @@ use Rattle.plane_rows.specs.Rows.{Along, priIn, secIn, placed, KernelRows}
 use Rattle.plane_rows.specs.ReachLaws.{on-along, back-along}
 use Rattle.plane_rows.specs.LaneLaws.{kernel-both}
 use Rattle.plane_rows.specs.StoreLaws.{kept}
-use Rattle.plane_byte.specs.Byte.{Mask, bothOf}
+use Rattle.plane_bytes.specs.Byte.{Mask, bothOf}
 use Rattle.plane_bytes.specs.FinishLaws.{both-is}
 use Rattle.plane_bytes.specs.Eights.{AllByte, Strong8, eightAt, centreRun8, onRun8, backRun8}
 

@@ -12,8 +12,9 @@ use Rattle.arith_sample.specs.Sample.{movedOf, overOf, finishOf}
 use Rattle.arith_sample.specs.SampleLaws.{finish-on, held-nat, moved-neg, moved-pos}
 use Rattle.plane_taps.specs.Plain.{priPlain, secPlain, lowTwo, highTwo, firstOf, lastOf}
 use Rattle.plane_rows.specs.Rows.{priIn, secIn}
-use Rattle.plane_byte.specs.Byte.{upPri, downPri, upSec, downSec, highFour, lowFour, excessOf, clippedOf, bothOf}
-use Rattle.plane_byte.specs.ByteBounds.{less-max, less-min}
+use Rattle.plane_bytes.specs.Byte.{upPri, downPri, upSec, downSec, highFour, lowFour, clippedOf, bothOf}
+use Rattle.plane_byte.specs.Arithmetic.{excessOf}
+use Rattle.plane_bytes.specs.ByteBounds.{less-max, less-min}
 use Rattle.plane_bytes.specs.ByteLaws.{gap, gap-add, gap-below, gap-above, pair, pri-con, sec-con}
 
 -- ---- moved by the rounded sum

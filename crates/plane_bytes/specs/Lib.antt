@@ -1,4 +1,6 @@
 -- Sixteen samples at once in bytes, and their laws.
+pub mod Byte
+pub mod ByteBounds
 pub mod ByteLaws
 pub mod FinishLaws
 pub mod Eights

@@ -3,7 +3,7 @@ ghost use mathlib.Core.Path.{_≡_};
 ghost use Prim.Native.Nat.{_≤_, _<_};
 ghost use lib.ListN.{getD};
 ghost use Rattle.arith_sample.specs.Upto.{upto};
-ghost use Rattle.plane_byte.specs.Byte.{Mask, bothOf};
+ghost use Rattle.plane_bytes.specs.Byte.{Mask, bothOf};
 use crate::byte;
 
 // The samples filtered with both strengths.

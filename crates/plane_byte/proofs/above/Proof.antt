@@ -1,7 +1,7 @@
 -- `plane_byte::above` meets its contract.
 use mathlib.Core.Path.{_∙_}
 use native.Mathlib.Omega.{arith}
-use Rattle.plane_byte.specs.Byte.{aboveOf}
+use Rattle.plane_byte.specs.Arithmetic.{aboveOf}
 use borrow.Author.Needs.{needs}
 use Rattle.plane_byte.proofs.above.Statement.{statement}
 use Rattle.plane_byte.proofs.above.Tie as tie

@@ -1,5 +1,5 @@
 -- `plane_byte::left` meets its contract.
-use Rattle.plane_byte.specs.Byte.{excessOf}
+use Rattle.plane_byte.specs.Arithmetic.{excessOf}
 use borrow.Author.Needs.{needs}
 use Rattle.plane_byte.proofs.left.Statement.{statement}
 use Rattle.plane_byte.proofs.left.Tie as tie

@@ -3,20 +3,20 @@ use mathlib.Core.Path.{_∙_}
 use Prim.Native.Nat.{ℕ, _+_, _≤_, max}
 use mathlib.Core.Path.{_≡_}
 use native.Mathlib.Omega.{arith}
-use Rattle.plane_byte.specs.Byte.{bothOf}
+use Rattle.plane_bytes.specs.Byte.{bothOf}
 use borrow.Author.Needs.{needs}
 use Rattle.plane_bytes.proofs.byte.both.Statement.{statement}
 use Rattle.plane_bytes.proofs.byte.both.Tie as tie
 use Rattle.plane_bytes.proofs.byte.both.Reads as reads
 use Rattle.plane_bytes.proofs.byte.both.Lts as lts
-use Rattle.plane_byte.proofs.clipped.Reads as clipped-reads
-use Rattle.plane_byte.proofs.high_four.Reads as high-four-reads
-use Rattle.plane_byte.proofs.low_four.Reads as low-four-reads
+use Rattle.plane_bytes.proofs.byte.clipped.Reads as clipped-reads
+use Rattle.plane_bytes.proofs.byte.high_four.Reads as high-four-reads
+use Rattle.plane_bytes.proofs.byte.low_four.Reads as low-four-reads
 use Rattle.plane_byte.proofs.most.Reads as most-reads
-use Rattle.plane_byte.proofs.pri_down.Reads as pri-down-reads
-use Rattle.plane_byte.proofs.pri_up.Reads as pri-up-reads
-use Rattle.plane_byte.proofs.sec_down.Reads as sec-down-reads
-use Rattle.plane_byte.proofs.sec_up.Reads as sec-up-reads
+use Rattle.plane_bytes.proofs.byte.pri_down.Reads as pri-down-reads
+use Rattle.plane_bytes.proofs.byte.pri_up.Reads as pri-up-reads
+use Rattle.plane_bytes.proofs.byte.sec_down.Reads as sec-down-reads
+use Rattle.plane_bytes.proofs.byte.sec_up.Reads as sec-up-reads
 
 three : (c x y z m n : ℕ) → x + c ≤ 255 → y + c ≤ 255 → z + c ≤ 255 → m ≡ max y z → n ≡ max x m → n + c ≤ 255
 three c x y z m n a b d e f = omega arith

@@ -4,7 +4,7 @@ use Prim.Native.Nat.{ℕ, _-_, _≤_}
 use native.Mathlib.Omega.{arith}
 use lib.ListN.{length, take, getD, length-set}
 use Rattle.arith_sample.specs.Upto.{upto, upto-none, upto-more, upto-all}
-use Rattle.plane_byte.specs.Byte.{bothOf}
+use Rattle.plane_bytes.specs.Byte.{bothOf}
 use Rattle.plane_bytes.proofs.lanes.both.Statement.{statement}
 use Rattle.plane_bytes.proofs.lanes.both.Tie as tie
 use Rattle.plane_bytes.proofs.lanes.both.Reads as reads

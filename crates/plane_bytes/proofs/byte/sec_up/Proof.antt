@@ -1,13 +1,13 @@
--- `plane_byte::sec_up` meets its contract.
+-- `plane_bytes::byte::sec_up` meets its contract.
 use mathlib.Core.Path.{_∙_}
-use Rattle.plane_byte.specs.Byte.{upSec}
+use Rattle.plane_bytes.specs.Byte.{upSec}
 use borrow.Author.Needs.{needs}
-use Rattle.plane_byte.proofs.sec_up.Statement.{statement}
-use Rattle.plane_byte.proofs.sec_up.Tie as tie
-use Rattle.plane_byte.proofs.sec_up.Reads as reads
-use Rattle.plane_byte.proofs.sec_up.Lts as lts
-use Rattle.plane_byte.proofs.double.Reads as double-reads
-use Rattle.plane_byte.proofs.two_up.Reads as two-up-reads
+use Rattle.plane_bytes.proofs.byte.sec_up.Statement.{statement}
+use Rattle.plane_bytes.proofs.byte.sec_up.Tie as tie
+use Rattle.plane_bytes.proofs.byte.sec_up.Reads as reads
+use Rattle.plane_bytes.proofs.byte.sec_up.Lts as lts
+use Rattle.plane_bytes.proofs.byte.double.Reads as double-reads
+use Rattle.plane_bytes.proofs.byte.two_up.Reads as two-up-reads
 
 two-up-requires : tie.Need-two-up-requires
 two-up-requires c κs = search needs

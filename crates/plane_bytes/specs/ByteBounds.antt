@@ -3,7 +3,8 @@ use mathlib.Core.Path.{_≡_}
 use mathlib.Core.Logic.{⊎-elim}
 use Prim.Native.Nat.{ℕ, _+_, _-_, _*_, _≤_, _<_, min, max}
 use native.Mathlib.Omega.{arith}
-use Rattle.plane_byte.specs.Byte.{aboveOf, Mask, weighPri, highFour, lowFour}
+use Rattle.plane_bytes.specs.Byte.{Mask, weighPri, highFour, lowFour}
+use Rattle.plane_byte.specs.Arithmetic.{aboveOf}
 
 pub above-le : (a b s sh : ℕ) → aboveOf a b s sh ≤ s
 unfolding aboveOf

@@ -1,12 +1,12 @@
--- `plane_byte::pair_up` meets its contract.
+-- `plane_bytes::byte::pair_up` meets its contract.
 use native.Mathlib.Omega.{arith}
-use Rattle.plane_byte.specs.Byte.{upPair}
+use Rattle.plane_bytes.specs.Byte.{upPair}
 use borrow.Author.Needs.{needs}
-use Rattle.plane_byte.proofs.pair_up.Statement.{statement}
-use Rattle.plane_byte.proofs.pair_up.Tie as tie
-use Rattle.plane_byte.proofs.pair_up.Reads as reads
-use Rattle.plane_byte.proofs.pair_up.Lts as lts
+use Rattle.plane_bytes.proofs.byte.pair_up.Statement.{statement}
+use Rattle.plane_bytes.proofs.byte.pair_up.Tie as tie
+use Rattle.plane_bytes.proofs.byte.pair_up.Reads as reads
+use Rattle.plane_bytes.proofs.byte.pair_up.Lts as lts
 use Rattle.plane_byte.proofs.above.Reads as above-reads
 
 above-requires : tie.Need-above-requires
 above-requires c κs = search needs

@@ -1,17 +1,17 @@
--- `plane_byte::high_four` meets its contract.
+-- `plane_bytes::byte::low_four` meets its contract.
 use mathlib.Core.Path.{_≡_, _∙_}
-use Rattle.plane_byte.specs.Byte.{highFour}
-use Rattle.plane_byte.specs.ByteBounds.{high-le}
+use Rattle.plane_bytes.specs.Byte.{lowFour}
+use Rattle.plane_bytes.specs.ByteBounds.{low-le}
 use borrow.Author.Needs.{needs}
-use Rattle.plane_byte.proofs.high_four.Statement.{statement}
-use Rattle.plane_byte.proofs.high_four.Tie as tie
-use Rattle.plane_byte.proofs.high_four.Reads as reads
-use Rattle.plane_byte.proofs.high_four.Lts as lts
+use Rattle.plane_bytes.proofs.byte.low_four.Statement.{statement}
+use Rattle.plane_bytes.proofs.byte.low_four.Tie as tie
+use Rattle.plane_bytes.proofs.byte.low_four.Reads as reads
+use Rattle.plane_bytes.proofs.byte.low_four.Lts as lts
 use Rattle.plane_byte.proofs.less.Reads as less-reads
 use Rattle.plane_byte.proofs.most.Reads as most-reads
 
-is : (c : tie.After-most3) → let a = c .before .before .before .before .before .before .before .args in c .most3 .result ≡ highFour (a .a0) (a .b0) (a .a1) (a .b1) (a .c)
-unfolding highFour
+is : (c : tie.After-most3) → let a = c .before .before .before .before .before .before .before .args in c .most3 .result ≡ lowFour (a .a0) (a .b0) (a .a1) (a .b1) (a .c)
+unfolding lowFour
 is c = c .most3 .ensures ∙ rw (c .before .most2 .ensures, c .before .before .less4 .ensures, c .before .before .before .less3 .ensures, c .before .before .before .before .most .ensures, c .before .before .before .before .before .less2 .ensures, c .before .before .before .before .before .before .less .ensures)
 
 less-requires : tie.Need-less-requires
@@ -36,11 +36,10 @@ most-requires-3 : tie.Need-most-requires-3
 most-requires-3 c κs = search needs
 
 returns : tie.Need-returns
-returns c = let s = c .before .before .before .before .before .before .before in
-    (is c, rw (is c) (high-le _ _ _ _ _ (s .fits .a0 .fits) (s .fits .b0 .fits) (s .fits .a1 .fits) (s .fits .b1 .fits) (s .fits .c .fits)))
+returns c = (is c, rw (is c) (low-le _ _ _ _ _))
 
-pub high-four-spec : {M : Type 1} → statement M
-high-four-spec =
+pub low-four-spec : {M : Type 1} → statement M
+low-four-spec =
     tie.close
     (tie.spec
     less-requires

@@ -1,12 +1,12 @@
--- `plane_byte::pair_down` meets its contract.
+-- `plane_bytes::byte::pair_down` meets its contract.
 use native.Mathlib.Omega.{arith}
-use Rattle.plane_byte.specs.Byte.{downPair}
+use Rattle.plane_bytes.specs.Byte.{downPair}
 use borrow.Author.Needs.{needs}
-use Rattle.plane_byte.proofs.pair_down.Statement.{statement}
-use Rattle.plane_byte.proofs.pair_down.Tie as tie
-use Rattle.plane_byte.proofs.pair_down.Reads as reads
-use Rattle.plane_byte.proofs.pair_down.Lts as lts
+use Rattle.plane_bytes.proofs.byte.pair_down.Statement.{statement}
+use Rattle.plane_bytes.proofs.byte.pair_down.Tie as tie
+use Rattle.plane_bytes.proofs.byte.pair_down.Reads as reads
+use Rattle.plane_bytes.proofs.byte.pair_down.Lts as lts
 use Rattle.plane_byte.proofs.above.Reads as above-reads
 
 above-requires : tie.Need-above-requires
 above-requires c κs = search needs

@@ -1,13 +1,13 @@
--- `plane_byte::pri_down` meets its contract.
+-- `plane_bytes::byte::pri_down` meets its contract.
 use mathlib.Core.Path.{_∙_}
-use Rattle.plane_byte.specs.Byte.{downPri}
+use Rattle.plane_bytes.specs.Byte.{downPri}
 use borrow.Author.Needs.{needs}
-use Rattle.plane_byte.proofs.pri_down.Statement.{statement}
-use Rattle.plane_byte.proofs.pri_down.Tie as tie
-use Rattle.plane_byte.proofs.pri_down.Reads as reads
-use Rattle.plane_byte.proofs.pri_down.Lts as lts
-use Rattle.plane_byte.proofs.pair_down.Reads as pair-down-reads
-use Rattle.plane_byte.proofs.weigh.Reads as weigh-reads
+use Rattle.plane_bytes.proofs.byte.pri_down.Statement.{statement}
+use Rattle.plane_bytes.proofs.byte.pri_down.Tie as tie
+use Rattle.plane_bytes.proofs.byte.pri_down.Reads as reads
+use Rattle.plane_bytes.proofs.byte.pri_down.Lts as lts
+use Rattle.plane_bytes.proofs.byte.pair_down.Reads as pair-down-reads
+use Rattle.plane_bytes.proofs.byte.weigh.Reads as weigh-reads
 
 pair-down-requires : tie.Need-pair-down-requires
 pair-down-requires c κs = search needs

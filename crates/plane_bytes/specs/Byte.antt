@@ -1,11 +1,8 @@
 -- One sample from its taps in bytes: what is above the centre and what is below it are summed apart. Definitions only.
 use mathlib.Core.Path.{_≡_}
 use mathlib.Core.Logic.{_⊎_}
-use Prim.Native.Nat.{ℕ, _+_, _-_, _*_, _/_, _^_, min, max}
-
--- constrain(a - b) where a is above b, else 0; sh is constrain's shift
-unfoldable pub aboveOf : ℕ → ℕ → ℕ → ℕ → ℕ
-aboveOf a b s sh = min (a - b) (s - ((a - b) + (b - a)) / 2 ^ sh)
+use Prim.Native.Nat.{ℕ, _+_, _-_, min, max}
+use Rattle.plane_byte.specs.Arithmetic.{aboveOf, excessOf}
 
 -- two opposite taps a and b: the sum of what is above the centre c, and of what is below it
 unfoldable pub upPair : ℕ → ℕ → ℕ → ℕ → ℕ → ℕ
@@ -46,10 +43,6 @@ highFour a0 b0 a1 b1 c = max (max (a0 - c) (b0 - c)) (max (a1 - c) (b1 - c))
 
 unfoldable pub lowFour : ℕ → ℕ → ℕ → ℕ → ℕ → ℕ
 lowFour a0 b0 a1 b1 c = max (max (c - a0) (c - b0)) (max (c - a1) (c - b1))
-
--- a sum's excess over the opposite one, over 16, halves rounded up; 0 where there is none
-unfoldable pub excessOf : ℕ → ℕ → ℕ
-excessOf a b = (a - b + 8) / 16
 
 -- the sample from its sums, clipped; at most one of the two corrections is not 0
 unfoldable pub clippedOf : ℕ → ℕ → ℕ → ℕ → ℕ → ℕ

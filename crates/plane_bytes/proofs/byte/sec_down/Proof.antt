@@ -1,13 +1,13 @@
--- `plane_byte::sec_down` meets its contract.
+-- `plane_bytes::byte::sec_down` meets its contract.
 use mathlib.Core.Path.{_∙_}
-use Rattle.plane_byte.specs.Byte.{downSec}
+use Rattle.plane_bytes.specs.Byte.{downSec}
 use borrow.Author.Needs.{needs}
-use Rattle.plane_byte.proofs.sec_down.Statement.{statement}
-use Rattle.plane_byte.proofs.sec_down.Tie as tie
-use Rattle.plane_byte.proofs.sec_down.Reads as reads
-use Rattle.plane_byte.proofs.sec_down.Lts as lts
-use Rattle.plane_byte.proofs.double.Reads as double-reads
-use Rattle.plane_byte.proofs.two_down.Reads as two-down-reads
+use Rattle.plane_bytes.proofs.byte.sec_down.Statement.{statement}
+use Rattle.plane_bytes.proofs.byte.sec_down.Tie as tie
+use Rattle.plane_bytes.proofs.byte.sec_down.Reads as reads
+use Rattle.plane_bytes.proofs.byte.sec_down.Lts as lts
+use Rattle.plane_bytes.proofs.byte.double.Reads as double-reads
+use Rattle.plane_bytes.proofs.byte.two_down.Reads as two-down-reads
 
 two-down-requires : tie.Need-two-down-requires
 two-down-requires c κs = search needs

@@ -1,12 +1,12 @@
--- `plane_byte::double` meets its contract.
+-- `plane_bytes::byte::double` meets its contract.
 use mathlib.Core.Path.{refl}
 use native.Mathlib.Omega.{arith}
-use Rattle.plane_byte.specs.Byte.{weighSec}
+use Rattle.plane_bytes.specs.Byte.{weighSec}
 use borrow.Author.Needs.{needs}
-use Rattle.plane_byte.proofs.double.Statement.{statement}
-use Rattle.plane_byte.proofs.double.Tie as tie
-use Rattle.plane_byte.proofs.double.Reads as reads
-use Rattle.plane_byte.proofs.double.Lts as lts
+use Rattle.plane_bytes.proofs.byte.double.Statement.{statement}
+use Rattle.plane_bytes.proofs.byte.double.Tie as tie
+use Rattle.plane_bytes.proofs.byte.double.Reads as reads
+use Rattle.plane_bytes.proofs.byte.double.Lts as lts
 
 add-result : tie.Need-add-result
 add-result c = search needs

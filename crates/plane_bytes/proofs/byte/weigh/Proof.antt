@@ -1,11 +1,11 @@
--- `plane_byte::weigh` meets its contract.
-use Rattle.plane_byte.specs.ByteBounds.{weigh-ok}
+-- `plane_bytes::byte::weigh` meets its contract.
+use Rattle.plane_bytes.specs.ByteBounds.{weigh-ok}
 use borrow.Author.Needs.{needs}
-use Rattle.plane_byte.proofs.weigh.Statement.{statement}
-use Rattle.plane_byte.proofs.weigh.Tie as tie
-use Rattle.plane_byte.proofs.weigh.Reads as reads
-use Rattle.plane_byte.proofs.weigh.Lts as lts
+use Rattle.plane_bytes.proofs.byte.weigh.Statement.{statement}
+use Rattle.plane_bytes.proofs.byte.weigh.Tie as tie
+use Rattle.plane_bytes.proofs.byte.weigh.Reads as reads
+use Rattle.plane_bytes.proofs.byte.weigh.Lts as lts
 use Rattle.plane_byte.proofs.least.Reads as least-reads
 
 add-t : tie.Need-add-t
 add-t c = search needs

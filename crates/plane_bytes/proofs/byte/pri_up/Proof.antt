@@ -1,13 +1,13 @@
--- `plane_byte::pri_up` meets its contract.
+-- `plane_bytes::byte::pri_up` meets its contract.
 use mathlib.Core.Path.{_∙_}
-use Rattle.plane_byte.specs.Byte.{upPri}
+use Rattle.plane_bytes.specs.Byte.{upPri}
 use borrow.Author.Needs.{needs}
-use Rattle.plane_byte.proofs.pri_up.Statement.{statement}
-use Rattle.plane_byte.proofs.pri_up.Tie as tie
-use Rattle.plane_byte.proofs.pri_up.Reads as reads
-use Rattle.plane_byte.proofs.pri_up.Lts as lts
-use Rattle.plane_byte.proofs.pair_up.Reads as pair-up-reads
-use Rattle.plane_byte.proofs.weigh.Reads as weigh-reads
+use Rattle.plane_bytes.proofs.byte.pri_up.Statement.{statement}
+use Rattle.plane_bytes.proofs.byte.pri_up.Tie as tie
+use Rattle.plane_bytes.proofs.byte.pri_up.Reads as reads
+use Rattle.plane_bytes.proofs.byte.pri_up.Lts as lts
+use Rattle.plane_bytes.proofs.byte.pair_up.Reads as pair-up-reads
+use Rattle.plane_bytes.proofs.byte.weigh.Reads as weigh-reads
 
 pair-up-requires : tie.Need-pair-up-requires
 pair-up-requires c κs = search needs

@@ -1,12 +1,12 @@
--- `plane_byte::clipped` meets its contract.
-use Rattle.plane_byte.specs.Byte.{clippedOf}
+-- `plane_bytes::byte::clipped` meets its contract.
+use Rattle.plane_bytes.specs.Byte.{clippedOf}
 use borrow.Author.Needs.{needs}
-use Rattle.plane_byte.proofs.clipped.Statement.{statement}
-use Rattle.plane_byte.proofs.clipped.Tie as tie
-use Rattle.plane_byte.proofs.clipped.Reads as reads
-use Rattle.plane_byte.proofs.clipped.Lts as lts
+use Rattle.plane_bytes.proofs.byte.clipped.Statement.{statement}
+use Rattle.plane_bytes.proofs.byte.clipped.Tie as tie
+use Rattle.plane_bytes.proofs.byte.clipped.Reads as reads
+use Rattle.plane_bytes.proofs.byte.clipped.Lts as lts
 use Rattle.plane_byte.proofs.least.Reads as least-reads
 use Rattle.plane_byte.proofs.left.Reads as left-reads
 
 left-requires : tie.Need-left-requires
 left-requires c κs = search needs

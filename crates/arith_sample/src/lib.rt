@@ -6,12 +6,9 @@ ghost use lib.ListN.{length, getD};
 ghost use lib.Signed.{mag};
 ghost use Rattle.arith_sample.specs.Sample.{orCentre, sizeOf, conOf, movedOf, overOf, underOf, finishOf, freeOf};
 
-// The lesser of two sides or positions.
-pub fn lesser(a: usize, b: usize) -> usize
-    ensures { λ r. ⌜ r ≡ min a b ⌝ }
-{
-    if a < b { a } else { b }
-}
+// The mark, in place of a sample that is not there (RULES, Glossary). It must exceed every sample (they are below 2^12), so that a marked tap is never the least one,
+// and stay so far below 2^15 that a centre plus its rounded sum, at most 1,000 in size, fits an i16.
+pub const MARK: u16 = 16384;
 
 // The lesser and the greater of two samples.
 pub fn least(a: u16, b: u16) -> u16
@@ -90,14 +87,14 @@ pub fn tap(w: &[u16; 144], at: usize, c: u16) -> u16
     ensures { λ r. ⌜ r ≡ orCentre (getD (now (w .entry)) at 0) c ⌝ }
 {
     let t = w[at];
-    if t == 16384 {
+    if t == MARK {
         c
     } else {
-        if c == 16384 { c } else { t }
+        if c == MARK { c } else { t }
     }
 }
 
-// The centre plus the rounded sum.
+// The centre plus the rounded sum: the sum divided by 16 and rounded to the nearest, halves away from 0.
 pub fn moved(c: u16, sum: i16) -> i16
     requires { ⌜ (c ≤ 16384) × (natAbs sum ≤ 16000) ⌝ }
     ensures { λ r. ⌜ r ≡ movedOf c sum ⌝ }
@@ -144,7 +141,7 @@ pub fn finish(c: u16, sum: i16, lo: u16, hi: u16) -> u16
     ensures { λ r. ⌜ r ≡ finishOf c sum lo hi ⌝ }
 {
     let v = clipped(c, sum, lo, hi);
-    if c == 16384 { c } else { v }
+    if c == MARK { c } else { v }
 }
 
 // The centre plus its rounded sum, not clipped to the taps; a marked centre is kept.
@@ -153,5 +150,5 @@ pub fn free(c: u16, sum: i16) -> u16
     ensures { λ r. ⌜ r ≡ freeOf c sum ⌝ }
 {
     let v = raised(c, sum);
-    if c == 16384 { c } else { v }
+    if c == MARK { c } else { v }
 }

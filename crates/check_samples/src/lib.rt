@@ -37,8 +37,8 @@ pub fn cut_taken(plane: &[u16], width: usize, height: usize, x: usize, y: usize,
     requires { ⌜ (width ≤ 4096) × (height ≤ 4096) × (x < width) × (y < height) × (depth ≤ 12) ⌝ }
     ensures { λ r. ⌜ r ≡ cutTaken (record { samples = now (plane .entry); width = width; height = height }) depth y x ⌝ }
 {
-    let cols = arith_sample::lesser(8, width - x);
-    let rows = arith_sample::lesser(8, height - y);
+    let cols = arith_numbers::lesser(8, width - x);
+    let rows = arith_numbers::lesser(8, height - y);
     if rows + cols < 16 {
         return block_bits(plane, width, y, x, rows, cols) >> (depth as u32) == 0;
     }
@@ -53,7 +53,7 @@ fn wrong(v: u16, top: u16, depth: u8) -> u16
     if v < top {
         return 0;
     }
-    if v == 16384 {
+    if v == arith_sample::MARK {
         return 0;
     }
     1

@@ -10,7 +10,11 @@ ghost use Rattle.direction_lines.specs.Lines.{partialsOf};
 use direction_best::Found;
 use direction_lines::Partials;
 
-// The line sums of the block at (x, y).
+// The line sums of the block at (x, y), from its rows (zb) and from its columns (zt), each with eight zeros on either side.
+// Row i of such a block begins at 24 * i, its sample j stands at 24 * i + 8 + j. lines(z, first, one, two) adds up to line n, of each row i,
+// the entry at first + n + i / 2 * two + i % 2 * one: with steps 23 and 46 that is sample j = n - i, with 24 and 48 j = n,
+// with 25 and 50 j = first - 8 + n + i, with 24 and 47 j = n - i / 2, with 24 and 49 j = first - 8 + n + i / 2. So line n has, by row r and column c of the block:
+// d0 n = r + c, d1 n = r + c / 2, d2 n = r, d3 n = 3 + r - c / 2, d4 n = 7 + r - c, d5 n = 3 + c - r / 2, d6 n = c, d7 n = c + r / 2 (7.15.2).
 pub fn cdef_direction_partials(
     plane: &[u16],
     width: usize,

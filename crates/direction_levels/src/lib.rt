@@ -59,10 +59,10 @@ fn levels_edge(
     let shift = (depth - 8) as u32;
     let mut b = [0i16; 64];
     for i in 0..8usize {
-        let row = arith_sample::lesser(y + i, height - 1) * width;
+        let row = arith_numbers::lesser(y + i, height - 1) * width;
         let to = i * 8;
         for j in 0..8usize {
-            let at = row + arith_sample::lesser(x + j, width - 1);
+            let at = row + arith_numbers::lesser(x + j, width - 1);
             b[to + j] = level(plane[at], shift);
         }
     }

@@ -37,8 +37,8 @@ pub fn block_sse_8x8(
     requires { ⌜ ((depth : ℕ) × (depth ≤ 12) × (cutTaken (record { samples = now orig; width = width; height = height }) depth y x ≡ true) × (cutTaken (record { samples = now other; width = width; height = height }) depth y x ≡ true)) ⌝ }
     ensures { λ r. ⌜ r ≡ planeSquares (record { samples = now (orig .entry); width = width; height = height }) (now (other .entry)) y x ⌝ }
 {
-    let rows = arith_sample::lesser(8, height - y);
-    let cols = arith_sample::lesser(8, width - x);
+    let rows = arith_numbers::lesser(8, height - y);
+    let cols = arith_numbers::lesser(8, width - x);
     let at = y * width + x;
     if rows + cols < 16 {
         return distance_sums::squares(orig, at, width, other, at, width, rows, cols) as u64;

@@ -53,7 +53,7 @@ pub fn block_squares(a: &[u16; 64], b: &[u16; 64]) -> u32
 {
     let mut t = 0u32;
     for k in 0..64usize {
-        t = t + arith_square::squared_difference(a[k], b[k]);
+        t = t + arith_numbers::squared_difference(a[k], b[k]);
     }
     t
 }
@@ -66,7 +66,7 @@ fn row_squares(o: &[u16], from: usize, d: &[u16], to: usize, n: usize) -> u32
 {
     let mut t = 0u32;
     for j in 0..n {
-        t = t + arith_square::squared_difference(o[from + j], d[to + j]);
+        t = t + arith_numbers::squared_difference(o[from + j], d[to + j]);
     }
     t
 }

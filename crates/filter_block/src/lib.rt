@@ -58,8 +58,8 @@ pub fn filter_window(
     let t = filter_kernel::taps(q.dir as usize);
     let f = filter_kernel::primary(q.pri as u16, d, q.depth);
     let g = filter_kernel::secondary(q.sec as u16, d);
-    let cols = arith_sample::lesser(b.width, w - b.x);
-    let rows = arith_sample::lesser(b.height, h - b.y);
+    let cols = arith_numbers::lesser(b.width, w - b.x);
+    let rows = arith_numbers::lesser(b.height, h - b.y);
     filter_rows(dst, w, b.y - y0, b.x, rows, cols, win, t, f, g);
 }
 

@@ -31,7 +31,7 @@ fn least_of(p: Pair) -> u16
 fn unmarked(t: u16) -> u16
     ensures { λ r. ⌜ r ≡ unmarkedOf t ⌝ }
 {
-    if t == 16384 { 0 } else { t }
+    if t == arith_sample::MARK { 0 } else { t }
 }
 
 // The greater of two taps that are not marked.

@@ -44,7 +44,7 @@ fn constrain(t: u16, c: u16, s: u16, sh: u32) -> i16
     ensures { λ r. ⌜ r ≡ conTap t c s sh ⌝ }
 {
     let d = arith_sample::constrain_tap(t, c, s, sh);
-    if t == 16384 { 0 } else { d }
+    if t == arith_sample::MARK { 0 } else { d }
 }
 
 fn pair_sum(p: Pair, c: u16, s: u16, sh: u32) -> i16

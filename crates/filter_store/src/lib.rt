@@ -10,7 +10,7 @@ ghost use Rattle.filter_store.specs.Row.{rowTap};
 fn keep(old: u16, v: u16) -> u16
     ensures { λ r. ⌜ r ≡ orElse old (unmarked v) ⌝ }
 {
-    if v == 16384 { old } else { v }
+    if v == arith_sample::MARK { old } else { v }
 }
 
 // Stores n samples of a row at row r and column x of a destination w wide.

@@ -31,16 +31,16 @@ fn entry(src: &[u16], w: usize, h: usize, b: Block, r: Span, c: Span, i: usize, 
     ensures { λ v. ⌜ v ≡ windowAt (planeOf (now (src .entry)) w h) b (i * 12 + j) ⌝ }
 {
     if i < r.lo {
-        return 16384;
+        return arith_sample::MARK;
     }
     if r.hi <= i {
-        return 16384;
+        return arith_sample::MARK;
     }
     if j < c.lo {
-        return 16384;
+        return arith_sample::MARK;
     }
     if c.hi <= j {
-        return 16384;
+        return arith_sample::MARK;
     }
     let at = (b.y + i - 2) * w + (b.x + j - 2);
     src[at]
@@ -53,7 +53,7 @@ fn window_part(src: &[u16], w: usize, h: usize, b: Block) -> [u16; 144]
 {
     let rows = looked_at(b.y, b.height, h);
     let cols = looked_at(b.x, b.width, w);
-    let mut out = [16384u16; 144];
+    let mut out = [arith_sample::MARK; 144];
     for i in 0..12usize {
         let to = i * 12;
         for j in 0..12usize {
@@ -69,7 +69,7 @@ fn window_inside(src: &[u16], w: usize, h: usize, b: Block) -> [u16; 144]
     requires { ⌜ (b .width ≡ 8) × (b .height ≡ 8) × (2 ≤ b .x) × (2 ≤ b .y) × (b .x + 10 ≤ w) × (b .y + 10 ≤ h) ⌝ }
     ensures { λ r. ⌜ r ≡ upto (windowAt (planeOf (now (src .entry)) w h) b) 144 ⌝ }
 {
-    let mut out = [16384u16; 144];
+    let mut out = [arith_sample::MARK; 144];
     for i in 0..12usize {
         let to = i * 12;
         let from = (b.y + i - 2) * w + (b.x - 2);

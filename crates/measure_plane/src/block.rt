@@ -78,8 +78,8 @@ fn rows_distance<'a>(
     ensures { λ r. ⌜ ((s ds vs : List ℕ) → r ≡ blockDistance (pictureOf f s ds vs) v by bx (atPlace (pictureOf f s ds vs) (now (original .entry))) (rowSample (pictureOf f s ds vs) on (now (scratch .entry)) (now (plane .entry)) (by * blockHeight (pictureOf f s ds vs)))) × (r < 2 ^ 53) ⌝ }
 {
     let b = frame_shape::geometry::block_of(f, by, bx);
-    let rows = arith_sample::lesser(b.height, frame_shape::geometry::visible_rows(f, v) - b.y);
-    let cols = arith_sample::lesser(b.width, frame_shape::geometry::visible_cols(f, v) - b.x);
+    let rows = arith_numbers::lesser(b.height, frame_shape::geometry::visible_rows(f, v) - b.y);
+    let cols = arith_numbers::lesser(b.width, frame_shape::geometry::visible_cols(f, v) - b.x);
     let start = b.y * w;
     let other = measure_rows::rows_of(scratch, plane, on, start);
     distance_visible::distance_cut(

@@ -26,7 +26,7 @@ fn far(dir: usize, w: usize) -> usize
     requires { ⌜ (dir < 8) × (w ≤ 4096) ⌝ }
     ensures { λ r. ⌜ r ≡ stepIn w dir 1 ⌝ }
 {
-    let row = arith_sample::lesser(dir, 4);
+    let row = arith_numbers::lesser(dir, 4);
     std::num::wrapping_sub_usize(row * w + (4 + row - dir), 2 * w + 2)
 }
 

@@ -68,7 +68,7 @@ pub fn visible_part(f: Frame, v: Visible, by: usize, bx: usize) -> Block
     Block {
         x: b.x,
         y: b.y,
-        width: arith_sample::lesser(b.width, cols),
-        height: arith_sample::lesser(b.height, rows),
+        width: arith_numbers::lesser(b.width, cols),
+        height: arith_numbers::lesser(b.height, rows),
     }
 }

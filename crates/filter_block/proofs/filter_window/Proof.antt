@@ -21,7 +21,7 @@ use Rattle.filter_kernel.proofs.from_one.Reads as from-one-reads
 use Rattle.filter_kernel.proofs.primary.Reads as primary-reads
 use Rattle.filter_kernel.proofs.secondary.Reads as secondary-reads
 use Rattle.filter_kernel.proofs.taps.Reads as taps-reads
-use Rattle.arith_sample.proofs.lesser.Reads as lesser-reads
+use Rattle.arith_numbers.proofs.lesser.Reads as lesser-reads
 
 glue : (l last : List ℕ) (m : ℕ) (w : List ℕ) (q : FilterParams) (t : Taps) (f g : Strength) (d y x cols rows n k : ℕ) → d ≡ max 1 (q .damping .0) → t ≡ tapsOf (q .dir) → f ≡ priOf (q .pri) d (q .depth) → g ≡ secOf (q .sec) d → cols ≡ n → rows ≡ k → last ≡ putBlock l m (windowTap w t f g y x) y x cols rows → last ≡ putBlock l m (blockTap w q y x) y x n k
 unfolding blockTap

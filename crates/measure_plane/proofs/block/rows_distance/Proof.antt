@@ -17,7 +17,7 @@ use Rattle.frame_shape.proofs.geometry.block_of.Reads as block-of-reads
 use Rattle.frame_shape.proofs.geometry.visible_cols.Reads as visible-cols-reads
 use Rattle.frame_shape.proofs.geometry.visible_rows.Reads as visible-rows-reads
 use Rattle.measure_rows.proofs.rows_of.Reads as rows-of-reads
-use Rattle.arith_sample.proofs.lesser.Reads as lesser-reads
+use Rattle.arith_numbers.proofs.lesser.Reads as lesser-reads
 
 block-of-requires : tie.Need-block-of-requires
 block-of-requires c κs = let s = c .before .before .before in let a = s .args in let n = counts-low (a .f) (s .pre .0 .0) [] [] [] (a .by) (a .bx) (s .pre .0 .4 .row) (s .pre .0 .4 .col) in (s .pre .0 .0, n .0, n .1)

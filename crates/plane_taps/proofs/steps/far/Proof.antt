@@ -8,7 +8,7 @@ use Rattle.plane_taps.proofs.steps.far.Statement.{statement}
 use Rattle.plane_taps.proofs.steps.far.Tie as tie
 use Rattle.plane_taps.proofs.steps.far.Reads as reads
 use Rattle.plane_taps.proofs.steps.far.Lts as lts
-use Rattle.arith_sample.proofs.lesser.Reads as lesser-reads
+use Rattle.arith_numbers.proofs.lesser.Reads as lesser-reads
 use Rattle.std.proofs.num.wrapping_sub_usize.Reads as wrapping-sub-usize-reads
 
 row-low : (c : tie.After-lesser) → c .lesser .result * c .before .args .w ≤ 4 * c .before .args .w

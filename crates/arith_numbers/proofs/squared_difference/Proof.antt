@@ -1,4 +1,4 @@
--- `arith_square::squared_difference` meets its contract.
+-- `arith_numbers::squared_difference` meets its contract.
 use mathlib.Core.Path.{_≡_}
 use mathlib.Core.Logic.{⊎-elim}
 use Prim.Native.Nat.{_-_, _%_, _≤_, max, min}
@@ -6,8 +6,8 @@ use native.Mathlib.Nat.{mul-le-mul, mod-eq-of-lt}
 use native.Mathlib.Omega.{arith}
 use Rattle.cdef_spec.specs.Distance.{squaredDifference}
 use borrow.Author.Needs.{needs}
-use Rattle.arith_square.proofs.squared_difference.Statement.{statement}
-use Rattle.arith_square.proofs.squared_difference.Tie as tie
+use Rattle.arith_numbers.proofs.squared_difference.Statement.{statement}
+use Rattle.arith_numbers.proofs.squared_difference.Tie as tie
 
 -- where the two branches join
 is : (c : tie.After-row-known) → let a = c .before .before .args in c .before .if1 .d ≡ max (a .a) (a .b) - min (a .a) (a .b)

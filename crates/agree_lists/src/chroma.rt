@@ -31,12 +31,25 @@ pub fn agree_chroma(
     secs: &[u8],
     damping: DampingChoice,
 ) -> Agreement
-    ensures { λ r. ⌜ r ≡ (agreeListsOutcome (chromaPicture depth width height sx sy (now (skip .entry)) (now (dirs .entry))) damping visible (now (snapshot .entry)) (now (original .entry)) (now (pris .entry)) (now (secs .entry)) (now (tried .entry)) (now (dst .entry)) (now (measured .entry)) (now (scratch .entry))) .answer ⌝ }
-    ensures { λ _. ⌜ now (tried .exit) ≡ (agreeListsOutcome (chromaPicture depth width height sx sy (now (skip .entry)) (now (dirs .entry))) damping visible (now (snapshot .entry)) (now (original .entry)) (now (pris .entry)) (now (secs .entry)) (now (tried .entry)) (now (dst .entry)) (now (measured .entry)) (now (scratch .entry))) .tried ⌝ }
-    ensures { λ _. ⌜ now (dst .exit) ≡ (agreeListsOutcome (chromaPicture depth width height sx sy (now (skip .entry)) (now (dirs .entry))) damping visible (now (snapshot .entry)) (now (original .entry)) (now (pris .entry)) (now (secs .entry)) (now (tried .entry)) (now (dst .entry)) (now (measured .entry)) (now (scratch .entry))) .dst ⌝ }
-    ensures { λ _. ⌜ now (measured .exit) ≡ (agreeListsOutcome (chromaPicture depth width height sx sy (now (skip .entry)) (now (dirs .entry))) damping visible (now (snapshot .entry)) (now (original .entry)) (now (pris .entry)) (now (secs .entry)) (now (tried .entry)) (now (dst .entry)) (now (measured .entry)) (now (scratch .entry))) .measured ⌝ }
-    ensures { λ _. ⌜ now (scratch .exit) ≡ (agreeListsOutcome (chromaPicture depth width height sx sy (now (skip .entry)) (now (dirs .entry))) damping visible (now (snapshot .entry)) (now (original .entry)) (now (pris .entry)) (now (secs .entry)) (now (tried .entry)) (now (dst .entry)) (now (measured .entry)) (now (scratch .entry))) .scratch ⌝ }
-    ensures { λ r. ⌜ (isAgreed r ≡ true → Agrees (chromaPicture depth width height sx sy (now (skip .entry)) (now (dirs .entry))) (pairsOf (now (pris .entry)) (now (secs .entry))) (now (tried .exit)) (now (measured .exit))) ⌝ }
+    ensures { λ r. ⌜ r ≡ (agreeListsOutcome (chromaPicture depth width height sx sy (now (skip .entry)) (now (dirs .entry))) damping visible
+        (now (snapshot .entry)) (now (original .entry)) (now (pris .entry)) (now (secs .entry)) (now (tried .entry)) (now (dst .entry))
+        (now (measured .entry)) (now (scratch .entry))) .answer ⌝ }
+    ensures { λ _. ⌜ now (tried .exit) ≡ (agreeListsOutcome (chromaPicture depth width height sx sy (now (skip .entry)) (now (dirs .entry))) damping
+        visible (now (snapshot .entry)) (now (original .entry)) (now (pris .entry)) (now (secs .entry)) (now (tried .entry)) (now (dst .entry))
+        (now (measured .entry)) (now (scratch .entry))) .tried ⌝ }
+    ensures { λ _. ⌜ now (dst .exit) ≡ (agreeListsOutcome (chromaPicture depth width height sx sy (now (skip .entry)) (now (dirs .entry))) damping
+        visible (now (snapshot .entry)) (now (original .entry)) (now (pris .entry)) (now (secs .entry)) (now (tried .entry)) (now (dst .entry))
+        (now (measured .entry)) (now (scratch .entry))) .dst ⌝ }
+    ensures { λ _. ⌜ now (measured .exit)
+        ≡ (agreeListsOutcome (chromaPicture depth width height sx sy (now (skip .entry)) (now (dirs .entry))) damping visible (now (snapshot .entry))
+        (now (original .entry)) (now (pris .entry)) (now (secs .entry)) (now (tried .entry)) (now (dst .entry)) (now (measured .entry))
+        (now (scratch .entry))) .measured ⌝ }
+    ensures { λ _. ⌜ now (scratch .exit) ≡
+        (agreeListsOutcome (chromaPicture depth width height sx sy (now (skip .entry)) (now (dirs .entry))) damping visible (now (snapshot .entry))
+        (now (original .entry)) (now (pris .entry)) (now (secs .entry)) (now (tried .entry)) (now (dst .entry)) (now (measured .entry))
+        (now (scratch .entry))) .scratch ⌝ }
+    ensures { λ r. ⌜ (isAgreed r ≡ true → Agrees (chromaPicture depth width height sx sy (now (skip .entry)) (now (dirs .entry)))
+        (pairsOf (now (pris .entry)) (now (secs .entry))) (now (tried .exit)) (now (measured .exit))) ⌝ }
 {
     let t = cdef::trying::try_chroma(
         tried,

@@ -30,12 +30,27 @@ pub fn agree_luma(
     secs: &[u8],
     damping: DampingChoice,
 ) -> Agreement
-    ensures { λ r. ⌜ r ≡ (agreeListsOutcome (lumaPicture depth width height (now (skip .entry)) (now (dirs .entry)) (now (vars .entry))) damping visible (now (snapshot .entry)) (now (original .entry)) (now (pris .entry)) (now (secs .entry)) (now (tried .entry)) (now (dst .entry)) (now (measured .entry)) (now (scratch .entry))) .answer ⌝ }
-    ensures { λ _. ⌜ now (tried .exit) ≡ (agreeListsOutcome (lumaPicture depth width height (now (skip .entry)) (now (dirs .entry)) (now (vars .entry))) damping visible (now (snapshot .entry)) (now (original .entry)) (now (pris .entry)) (now (secs .entry)) (now (tried .entry)) (now (dst .entry)) (now (measured .entry)) (now (scratch .entry))) .tried ⌝ }
-    ensures { λ _. ⌜ now (dst .exit) ≡ (agreeListsOutcome (lumaPicture depth width height (now (skip .entry)) (now (dirs .entry)) (now (vars .entry))) damping visible (now (snapshot .entry)) (now (original .entry)) (now (pris .entry)) (now (secs .entry)) (now (tried .entry)) (now (dst .entry)) (now (measured .entry)) (now (scratch .entry))) .dst ⌝ }
-    ensures { λ _. ⌜ now (measured .exit) ≡ (agreeListsOutcome (lumaPicture depth width height (now (skip .entry)) (now (dirs .entry)) (now (vars .entry))) damping visible (now (snapshot .entry)) (now (original .entry)) (now (pris .entry)) (now (secs .entry)) (now (tried .entry)) (now (dst .entry)) (now (measured .entry)) (now (scratch .entry))) .measured ⌝ }
-    ensures { λ _. ⌜ now (scratch .exit) ≡ (agreeListsOutcome (lumaPicture depth width height (now (skip .entry)) (now (dirs .entry)) (now (vars .entry))) damping visible (now (snapshot .entry)) (now (original .entry)) (now (pris .entry)) (now (secs .entry)) (now (tried .entry)) (now (dst .entry)) (now (measured .entry)) (now (scratch .entry))) .scratch ⌝ }
-    ensures { λ r. ⌜ (isAgreed r ≡ true → Agrees (lumaPicture depth width height (now (skip .entry)) (now (dirs .entry)) (now (vars .entry))) (pairsOf (now (pris .entry)) (now (secs .entry))) (now (tried .exit)) (now (measured .exit))) ⌝ }
+    ensures { λ r. ⌜ r ≡ (agreeListsOutcome (lumaPicture depth width height (now (skip .entry)) (now (dirs .entry)) (now (vars .entry))) damping
+        visible (now (snapshot .entry)) (now (original .entry)) (now (pris .entry)) (now (secs .entry)) (now (tried .entry)) (now (dst .entry))
+        (now (measured .entry)) (now (scratch .entry))) .answer ⌝ }
+    ensures { λ _. ⌜ now (tried .exit) ≡ (agreeListsOutcome
+        (lumaPicture depth width height (now (skip .entry)) (now (dirs .entry)) (now (vars .entry))) damping visible (now (snapshot .entry))
+        (now (original .entry)) (now (pris .entry)) (now (secs .entry)) (now (tried .entry)) (now (dst .entry)) (now (measured .entry))
+        (now (scratch .entry))) .tried ⌝ }
+    ensures { λ _. ⌜ now (dst .exit) ≡ (agreeListsOutcome
+        (lumaPicture depth width height (now (skip .entry)) (now (dirs .entry)) (now (vars .entry))) damping visible (now (snapshot .entry))
+        (now (original .entry)) (now (pris .entry)) (now (secs .entry)) (now (tried .entry)) (now (dst .entry)) (now (measured .entry))
+        (now (scratch .entry))) .dst ⌝ }
+    ensures { λ _. ⌜ now (measured .exit)
+        ≡ (agreeListsOutcome (lumaPicture depth width height (now (skip .entry)) (now (dirs .entry)) (now (vars .entry))) damping visible
+        (now (snapshot .entry)) (now (original .entry)) (now (pris .entry)) (now (secs .entry)) (now (tried .entry)) (now (dst .entry))
+        (now (measured .entry)) (now (scratch .entry))) .measured ⌝ }
+    ensures { λ _. ⌜ now (scratch .exit) ≡
+        (agreeListsOutcome (lumaPicture depth width height (now (skip .entry)) (now (dirs .entry)) (now (vars .entry))) damping visible
+        (now (snapshot .entry)) (now (original .entry)) (now (pris .entry)) (now (secs .entry)) (now (tried .entry)) (now (dst .entry))
+        (now (measured .entry)) (now (scratch .entry))) .scratch ⌝ }
+    ensures { λ r. ⌜ (isAgreed r ≡ true → Agrees (lumaPicture depth width height (now (skip .entry)) (now (dirs .entry)) (now (vars .entry)))
+        (pairsOf (now (pris .entry)) (now (secs .entry))) (now (tried .exit)) (now (measured .exit))) ⌝ }
 {
     let t = cdef::trying::try_luma(
         tried,

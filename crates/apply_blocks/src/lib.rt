@@ -38,10 +38,13 @@ fn filter_with(
     by: usize,
     bx: usize,
 )
-    requires { ⌜ Shaped f × (length (now dirs) ≡ blocksOf f) × (f .luma ≡ true → length (now vars) ≡ blocksOf f) × ((b : ℕ) → getD (now dirs) b 0 < 8) ⌝ }
+    requires { ⌜ Shaped f × (length (now dirs) ≡ blocksOf f) × (f .luma ≡ true → length (now vars) ≡ blocksOf f)
+        × ((b : ℕ) → getD (now dirs) b 0 < 8) ⌝ }
     requires { ⌜ Sampled f (now snapshot) × InForce d × (p .primary ≤ 15) × (p .secondary ≤ 4) ⌝ }
-    requires { ⌜ (w ≡ f .width / (1 + f .sx)) × (h ≡ f .height / (1 + f .sy)) × (by < f .height / 8) × (bx < f .width / 8) × (length (now dst) ≡ samplesOf f) ⌝ }
-    ensures { λ _. ⌜ ((s : List ℕ) → now (dst .exit) ≡ blockFiltered (pictureOf f s (now (dirs .entry)) (now (vars .entry))) d (now (snapshot .entry)) p by bx (now (dst .entry))) ⌝ }
+    requires { ⌜ (w ≡ f .width / (1 + f .sx)) × (h ≡ f .height / (1 + f .sy)) × (by < f .height / 8) × (bx < f .width / 8)
+        × (length (now dst) ≡ samplesOf f) ⌝ }
+    ensures { λ _. ⌜ ((s : List ℕ) → now (dst .exit) ≡ blockFiltered (pictureOf f s (now (dirs .entry)) (now (vars .entry))) d
+        (now (snapshot .entry)) p by bx (now (dst .entry))) ⌝ }
 {
     let block = frame_shape::geometry::block_of(f, by, bx);
     let q = frame_shape::params::params_for(f, dirs, vars, by * (f.width / 8) + bx, p, d);
@@ -80,8 +83,10 @@ pub fn apply_block(
     bx: usize,
 )
     requires { ⌜ Shaped f × Listed f (now skip) (now dirs) (now vars) × Sampled f (now snapshot) × Paired f (now pris) (now secs) × InForce d ⌝ }
-    requires { ⌜ (w ≡ f .width / (1 + f .sx)) × (h ≡ f .height / (1 + f .sy)) × (by < f .height / 8) × (bx < f .width / 8) × (length (now dst) ≡ samplesOf f) ⌝ }
-    ensures { λ _. ⌜ now (dst .exit) ≡ blockApplied (pictureOf f (now (skip .entry)) (now (dirs .entry)) (now (vars .entry))) d (now (snapshot .entry)) (pairsOf (now (pris .entry)) (now (secs .entry))) by bx (now (dst .entry)) ⌝ }
+    requires { ⌜ (w ≡ f .width / (1 + f .sx)) × (h ≡ f .height / (1 + f .sy)) × (by < f .height / 8) × (bx < f .width / 8)
+        × (length (now dst) ≡ samplesOf f) ⌝ }
+    ensures { λ _. ⌜ now (dst .exit) ≡ blockApplied (pictureOf f (now (skip .entry)) (now (dirs .entry)) (now (vars .entry))) d
+        (now (snapshot .entry)) (pairsOf (now (pris .entry)) (now (secs .entry))) by bx (now (dst .entry)) ⌝ }
 {
     if skip[by * (f.width / 8) + bx] != 0 {
         return;

@@ -27,7 +27,8 @@ fn apply_row(
 )
     requires { ⌜ Shaped f × Listed f (now skip) (now dirs) (now vars) × Sampled f (now snapshot) × Paired f (now pris) (now secs) × InForce d ⌝ }
     requires { ⌜ (w ≡ f .width / (1 + f .sx)) × (h ≡ f .height / (1 + f .sy)) × (by < f .height / 8) × (length (now dst) ≡ samplesOf f) ⌝ }
-    ensures { λ _. ⌜ now (dst .exit) ≡ rowApplied (pictureOf f (now (skip .entry)) (now (dirs .entry)) (now (vars .entry))) d (now (snapshot .entry)) (pairsOf (now (pris .entry)) (now (secs .entry))) by (now (dst .entry)) (f .width / 8) ⌝ }
+    ensures { λ _. ⌜ now (dst .exit) ≡ rowApplied (pictureOf f (now (skip .entry)) (now (dirs .entry)) (now (vars .entry))) d (now (snapshot .entry))
+        (pairsOf (now (pris .entry)) (now (secs .entry))) by (now (dst .entry)) (f .width / 8) ⌝ }
 {
     for bx in 0..f.width / 8 {
         apply_blocks::apply_block(
@@ -60,8 +61,10 @@ pub fn apply_plane(
     secs: &[u8],
     d: SignalledDamping,
 )
-    requires { ⌜ Shaped f × Listed f (now skip) (now dirs) (now vars) × Sampled f (now snapshot) × Paired f (now pris) (now secs) × InForce d × (length (now dst) ≡ samplesOf f) ⌝ }
-    ensures { λ _. ⌜ now (dst .exit) ≡ appliedPlane (pictureOf f (now (skip .entry)) (now (dirs .entry)) (now (vars .entry))) d (now (snapshot .entry)) (pairsOf (now (pris .entry)) (now (secs .entry))) (now (dst .entry)) ⌝ }
+    requires { ⌜ Shaped f × Listed f (now skip) (now dirs) (now vars) × Sampled f (now snapshot) × Paired f (now pris) (now secs) × InForce d
+        × (length (now dst) ≡ samplesOf f) ⌝ }
+    ensures { λ _. ⌜ now (dst .exit) ≡ appliedPlane (pictureOf f (now (skip .entry)) (now (dirs .entry)) (now (vars .entry))) d
+        (now (snapshot .entry)) (pairsOf (now (pris .entry)) (now (secs .entry))) (now (dst .entry)) ⌝ }
 {
     let w = frame_shape::geometry::plane_width(f);
     let h = frame_shape::geometry::plane_height(f);

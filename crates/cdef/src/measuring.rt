@@ -25,7 +25,9 @@ pub fn measure_luma(
     pair: UnitPair,
     damping: DampingChoice,
 ) -> Answer
-    ensures { λ r. ⌜ measuringOutcome (lumaPicture depth width height (now (skip .entry)) (now (dirs .entry)) (now (vars .entry))) damping visible (now (plane .entry)) (now (original .entry)) pair (now (totals .entry)) (now (scratch .entry)) ≡ record { answer = readAnswer r; totals = now (totals .exit); scratch = now (scratch .exit) } ⌝ }
+    ensures { λ r. ⌜ measuringOutcome (lumaPicture depth width height (now (skip .entry)) (now (dirs .entry)) (now (vars .entry))) damping visible
+        (now (plane .entry)) (now (original .entry)) pair (now (totals .entry)) (now (scratch .entry))
+        ≡ record { answer = readAnswer r; totals = now (totals .exit); scratch = now (scratch .exit) } ⌝ }
 {
     let f = Frame {
         luma: true,
@@ -68,7 +70,9 @@ pub fn measure_chroma(
     pair: UnitPair,
     damping: DampingChoice,
 ) -> Answer
-    ensures { λ r. ⌜ measuringOutcome (chromaPicture depth width height sx sy (now (skip .entry)) (now (dirs .entry))) damping visible (now (plane .entry)) (now (original .entry)) pair (now (totals .entry)) (now (scratch .entry)) ≡ record { answer = readAnswer r; totals = now (totals .exit); scratch = now (scratch .exit) } ⌝ }
+    ensures { λ r. ⌜ measuringOutcome (chromaPicture depth width height sx sy (now (skip .entry)) (now (dirs .entry))) damping visible
+        (now (plane .entry)) (now (original .entry)) pair (now (totals .entry)) (now (scratch .entry))
+        ≡ record { answer = readAnswer r; totals = now (totals .exit); scratch = now (scratch .exit) } ⌝ }
 {
     let f = Frame {
         luma: false,

@@ -13,7 +13,8 @@ pub fn direction_pass(
     height: usize,
     depth: u8,
 ) -> Answer
-    ensures { λ r. ⌜ directionPassOutcome (record { samples = now (plane .entry); width = width; height = height }) depth (now (dirs .entry)) (now (vars .entry)) ≡ record { answer = readAnswer r; dirs = now (dirs .exit); vars = now (vars .exit) } ⌝ }
+    ensures { λ r. ⌜ directionPassOutcome (record { samples = now (plane .entry); width = width; height = height }) depth (now (dirs .entry))
+        (now (vars .entry)) ≡ record { answer = readAnswer r; dirs = now (dirs .exit); vars = now (vars .exit) } ⌝ }
 {
     let no = check_pass::direction_pass_no(plane, width, height, depth, dirs, vars);
     if no != 0 {

@@ -22,7 +22,8 @@ pub fn try_luma(
     vars: &[u32],
     damping: DampingChoice,
 ) -> Answer
-    ensures { λ r. ⌜ tryingOutcome (lumaPicture depth width height (now (skip .entry)) (now (dirs .entry)) (now (vars .entry))) damping visible (now (snapshot .entry)) (now (original .entry)) (now (totals .entry)) ≡ record { answer = readAnswer r; totals = now (totals .exit) } ⌝ }
+    ensures { λ r. ⌜ tryingOutcome (lumaPicture depth width height (now (skip .entry)) (now (dirs .entry)) (now (vars .entry))) damping visible
+        (now (snapshot .entry)) (now (original .entry)) (now (totals .entry)) ≡ record { answer = readAnswer r; totals = now (totals .exit) } ⌝ }
 {
     let f = Frame {
         luma: true,
@@ -61,7 +62,8 @@ pub fn try_chroma(
     dirs: &[u8],
     damping: DampingChoice,
 ) -> Answer
-    ensures { λ r. ⌜ tryingOutcome (chromaPicture depth width height sx sy (now (skip .entry)) (now (dirs .entry))) damping visible (now (snapshot .entry)) (now (original .entry)) (now (totals .entry)) ≡ record { answer = readAnswer r; totals = now (totals .exit) } ⌝ }
+    ensures { λ r. ⌜ tryingOutcome (chromaPicture depth width height sx sy (now (skip .entry)) (now (dirs .entry))) damping visible
+        (now (snapshot .entry)) (now (original .entry)) (now (totals .entry)) ≡ record { answer = readAnswer r; totals = now (totals .exit) } ⌝ }
 {
     let f = Frame {
         luma: false,

@@ -14,7 +14,8 @@ pub fn distance(
     y: usize,
     depth: u8,
 ) -> DistanceAnswer
-    ensures { λ r. ⌜ readDistance r ≡ distanceOutcome (record { samples = now (orig .entry); width = width; height = height }) (now (other .entry)) depth y x ⌝ }
+    ensures { λ r. ⌜ readDistance r ≡ distanceOutcome (record { samples = now (orig .entry); width = width; height = height }) (now (other .entry))
+        depth y x ⌝ }
 {
     let no = check_block::distance::distance_no(orig, other, width, height, x, y, depth);
     if no != 0 {
@@ -35,7 +36,8 @@ pub fn squares(
     y: usize,
     depth: u8,
 ) -> DistanceAnswer
-    ensures { λ r. ⌜ readDistance r ≡ squaresOutcome (record { samples = now (orig .entry); width = width; height = height }) (now (other .entry)) depth y x ⌝ }
+    ensures { λ r. ⌜ readDistance r ≡ squaresOutcome (record { samples = now (orig .entry); width = width; height = height }) (now (other .entry))
+        depth y x ⌝ }
 {
     let no = check_block::distance::distance_no(orig, other, width, height, x, y, depth);
     if no != 0 {

@@ -17,7 +17,8 @@ pub fn filter_block(
     block: Block,
     params: FilterParams,
 ) -> Answer
-    ensures { λ r. ⌜ filterOutcome (record { samples = now (plane .entry); width = width; height = height }) block params y0 (now (dst .entry)) ≡ record { answer = readAnswer r; dst = now (dst .exit) } ⌝ }
+    ensures { λ r. ⌜ filterOutcome (record { samples = now (plane .entry); width = width; height = height }) block params y0 (now (dst .entry))
+        ≡ record { answer = readAnswer r; dst = now (dst .exit) } ⌝ }
 {
     let no = check_block::filter::filter_no(dst, y0, plane, width, height, block, params);
     if no != 0 {

@@ -20,7 +20,8 @@ pub fn trial(
     damping: WorkingDamping,
     depth: u8,
 ) -> Answer
-    ensures { λ r. ⌜ trialOutcome (record { samples = now (plane .entry); width = width; height = height }) block way dir damping depth (now (out .entry)) ≡ record { answer = readAnswer r; out = now (out .exit) } ⌝ }
+    ensures { λ r. ⌜ trialOutcome (record { samples = now (plane .entry); width = width; height = height }) block way dir damping depth
+        (now (out .entry)) ≡ record { answer = readAnswer r; out = now (out .exit) } ⌝ }
 {
     let no = check_block::trial::trial_no(
         out,

@@ -22,8 +22,11 @@ pub extern "C" fn quern_apply_luma(
     damping: u8,
     unstated: u8,
 ) -> u32
-    ensures { λ r. ⌜ r ≡ numberOf ((applyingListsOutcome (lumaPicture depth width height (now (skip .entry)) (now (dirs .entry)) (now (vars .entry))) (choiceOf damping unstated) (now (snapshot .entry)) (now (pris .entry)) (now (secs .entry)) (now (dst .entry))) .answer) ⌝ }
-    ensures { λ _. ⌜ now (dst .exit) ≡ (applyingListsOutcome (lumaPicture depth width height (now (skip .entry)) (now (dirs .entry)) (now (vars .entry))) (choiceOf damping unstated) (now (snapshot .entry)) (now (pris .entry)) (now (secs .entry)) (now (dst .entry))) .plane ⌝ }
+    ensures { λ r. ⌜ r ≡ numberOf ((applyingListsOutcome (lumaPicture depth width height (now (skip .entry)) (now (dirs .entry)) (now (vars .entry)))
+        (choiceOf damping unstated) (now (snapshot .entry)) (now (pris .entry)) (now (secs .entry)) (now (dst .entry))) .answer) ⌝ }
+    ensures { λ _. ⌜ now (dst .exit) ≡ (applyingListsOutcome
+        (lumaPicture depth width height (now (skip .entry)) (now (dirs .entry)) (now (vars .entry))) (choiceOf damping unstated)
+        (now (snapshot .entry)) (now (pris .entry)) (now (secs .entry)) (now (dst .entry))) .plane ⌝ }
 {
     let d = arith_damping::choice_of(damping, unstated);
     answer::number(cdef_lists::apply_luma(
@@ -58,8 +61,10 @@ pub extern "C" fn quern_apply_chroma(
     damping: u8,
     unstated: u8,
 ) -> u32
-    ensures { λ r. ⌜ r ≡ numberOf ((applyingListsOutcome (chromaPicture depth width height sx sy (now (skip .entry)) (now (dirs .entry))) (choiceOf damping unstated) (now (snapshot .entry)) (now (pris .entry)) (now (secs .entry)) (now (dst .entry))) .answer) ⌝ }
-    ensures { λ _. ⌜ now (dst .exit) ≡ (applyingListsOutcome (chromaPicture depth width height sx sy (now (skip .entry)) (now (dirs .entry))) (choiceOf damping unstated) (now (snapshot .entry)) (now (pris .entry)) (now (secs .entry)) (now (dst .entry))) .plane ⌝ }
+    ensures { λ r. ⌜ r ≡ numberOf ((applyingListsOutcome (chromaPicture depth width height sx sy (now (skip .entry)) (now (dirs .entry)))
+        (choiceOf damping unstated) (now (snapshot .entry)) (now (pris .entry)) (now (secs .entry)) (now (dst .entry))) .answer) ⌝ }
+    ensures { λ _. ⌜ now (dst .exit) ≡ (applyingListsOutcome (chromaPicture depth width height sx sy (now (skip .entry)) (now (dirs .entry)))
+        (choiceOf damping unstated) (now (snapshot .entry)) (now (pris .entry)) (now (secs .entry)) (now (dst .entry))) .plane ⌝ }
 {
     let d = arith_damping::choice_of(damping, unstated);
     answer::number(cdef_lists::apply_chroma(

@@ -18,8 +18,12 @@ pub extern "C" fn quern_direction(
     variance: &mut u32,
 ) -> u32
     ensures { λ r. ⌜ r ≡ numberOf (directionOutcome (record { samples = now (plane .entry); width = width; height = height }) depth y x) ⌝ }
-    ensures { λ _. ⌜ now (direction .exit) ≡ (valueOr (record { direction = now (direction .entry); variance = now (variance .entry) }) (directionOutcome (record { samples = now (plane .entry); width = width; height = height }) depth y x)) .direction ⌝ }
-    ensures { λ _. ⌜ now (variance .exit) ≡ (valueOr (record { direction = now (direction .entry); variance = now (variance .entry) }) (directionOutcome (record { samples = now (plane .entry); width = width; height = height }) depth y x)) .variance ⌝ }
+    ensures { λ _. ⌜ now (direction .exit)
+        ≡ (valueOr (record { direction = now (direction .entry); variance = now (variance .entry) })
+        (directionOutcome (record { samples = now (plane .entry); width = width; height = height }) depth y x)) .direction ⌝ }
+    ensures { λ _. ⌜ now (variance .exit)
+        ≡ (valueOr (record { direction = now (direction .entry); variance = now (variance .entry) })
+        (directionOutcome (record { samples = now (plane .entry); width = width; height = height }) depth y x)) .variance ⌝ }
 {
     match cdef_blocks::direction::direction(plane, width, height, x, y, depth) {
         DirectionAnswer::Direction(d, v) => {

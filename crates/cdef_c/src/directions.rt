@@ -14,9 +14,12 @@ pub extern "C" fn quern_direction_pass(
     height: usize,
     depth: u8,
 ) -> u32
-    ensures { λ r. ⌜ r ≡ numberOf ((directionPassOutcome (record { samples = now (plane .entry); width = width; height = height }) depth (now (dirs .entry)) (now (vars .entry))) .answer) ⌝ }
-    ensures { λ _. ⌜ now (dirs .exit) ≡ (directionPassOutcome (record { samples = now (plane .entry); width = width; height = height }) depth (now (dirs .entry)) (now (vars .entry))) .dirs ⌝ }
-    ensures { λ _. ⌜ now (vars .exit) ≡ (directionPassOutcome (record { samples = now (plane .entry); width = width; height = height }) depth (now (dirs .entry)) (now (vars .entry))) .vars ⌝ }
+    ensures { λ r. ⌜ r ≡ numberOf ((directionPassOutcome (record { samples = now (plane .entry); width = width; height = height }) depth
+        (now (dirs .entry)) (now (vars .entry))) .answer) ⌝ }
+    ensures { λ _. ⌜ now (dirs .exit) ≡ (directionPassOutcome (record { samples = now (plane .entry); width = width; height = height }) depth
+        (now (dirs .entry)) (now (vars .entry))) .dirs ⌝ }
+    ensures { λ _. ⌜ now (vars .exit) ≡ (directionPassOutcome (record { samples = now (plane .entry); width = width; height = height }) depth
+        (now (dirs .entry)) (now (vars .entry))) .vars ⌝ }
 {
     answer::number(cdef::pass::direction_pass(dirs, vars, plane, width, height, depth))
 }

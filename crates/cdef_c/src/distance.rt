@@ -17,8 +17,10 @@ pub extern "C" fn quern_distance(
     depth: u8,
     out: &mut i64,
 ) -> u32
-    ensures { λ r. ⌜ r ≡ numberOf (distanceOutcome (record { samples = now (orig .entry); width = width; height = height }) (now (other .entry)) depth y x) ⌝ }
-    ensures { λ _. ⌜ now (out .exit) ≡ valueOr (now (out .entry)) (distanceOutcome (record { samples = now (orig .entry); width = width; height = height }) (now (other .entry)) depth y x) ⌝ }
+    ensures { λ r. ⌜ r ≡ numberOf (distanceOutcome (record { samples = now (orig .entry); width = width; height = height }) (now (other .entry))
+        depth y x) ⌝ }
+    ensures { λ _. ⌜ now (out .exit) ≡ valueOr (now (out .entry))
+        (distanceOutcome (record { samples = now (orig .entry); width = width; height = height }) (now (other .entry)) depth y x) ⌝ }
 {
     match cdef_blocks::distance::distance(orig, other, width, height, x, y, depth) {
         DistanceAnswer::Distance(d) => {
@@ -41,8 +43,10 @@ pub extern "C" fn quern_squares(
     depth: u8,
     out: &mut i64,
 ) -> u32
-    ensures { λ r. ⌜ r ≡ numberOf (squaresOutcome (record { samples = now (orig .entry); width = width; height = height }) (now (other .entry)) depth y x) ⌝ }
-    ensures { λ _. ⌜ now (out .exit) ≡ valueOr (now (out .entry)) (squaresOutcome (record { samples = now (orig .entry); width = width; height = height }) (now (other .entry)) depth y x) ⌝ }
+    ensures { λ r. ⌜ r ≡ numberOf (squaresOutcome (record { samples = now (orig .entry); width = width; height = height }) (now (other .entry)) depth
+        y x) ⌝ }
+    ensures { λ _. ⌜ now (out .exit) ≡ valueOr (now (out .entry))
+        (squaresOutcome (record { samples = now (orig .entry); width = width; height = height }) (now (other .entry)) depth y x) ⌝ }
 {
     match cdef_blocks::distance::squares(orig, other, width, height, x, y, depth) {
         DistanceAnswer::Distance(d) => {

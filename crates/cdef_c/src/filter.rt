@@ -25,8 +25,12 @@ pub extern "C" fn quern_filter_block(
     damping: u8,
     depth: u8,
 ) -> u32
-    ensures { λ r. ⌜ r ≡ numberOf ((filterOutcome (record { samples = now (plane .entry); width = width; height = height }) (record { x = x; y = y; width = bw; height = bh }) (record { pri = pri; sec = sec; dir = dir; damping = record { 0 = damping }; depth = depth }) y0 (now (dst .entry))) .answer) ⌝ }
-    ensures { λ _. ⌜ now (dst .exit) ≡ (filterOutcome (record { samples = now (plane .entry); width = width; height = height }) (record { x = x; y = y; width = bw; height = bh }) (record { pri = pri; sec = sec; dir = dir; damping = record { 0 = damping }; depth = depth }) y0 (now (dst .entry))) .dst ⌝ }
+    ensures { λ r. ⌜ r ≡ numberOf ((filterOutcome (record { samples = now (plane .entry); width = width; height = height })
+        (record { x = x; y = y; width = bw; height = bh })
+        (record { pri = pri; sec = sec; dir = dir; damping = record { 0 = damping }; depth = depth }) y0 (now (dst .entry))) .answer) ⌝ }
+    ensures { λ _. ⌜ now (dst .exit) ≡ (filterOutcome (record { samples = now (plane .entry); width = width; height = height })
+        (record { x = x; y = y; width = bw; height = bh })
+        (record { pri = pri; sec = sec; dir = dir; damping = record { 0 = damping }; depth = depth }) y0 (now (dst .entry))) .dst ⌝ }
 {
     let block = Block {
         x: x,

@@ -28,9 +28,17 @@ pub extern "C" fn quern_measure_luma(
     damping: u8,
     unstated: u8,
 ) -> u32
-    ensures { λ r. ⌜ r ≡ numberOf ((measuringOutcome (lumaPicture depth width height (now (skip .entry)) (now (dirs .entry)) (now (vars .entry))) (choiceOf damping unstated) (record { width = «visible_width»; height = «visible_height» }) (now (plane .entry)) (now (original .entry)) (record { primary = primary; secondary = secondary }) (now (totals .entry)) (now (scratch .entry))) .answer) ⌝ }
-    ensures { λ _. ⌜ now (totals .exit) ≡ (measuringOutcome (lumaPicture depth width height (now (skip .entry)) (now (dirs .entry)) (now (vars .entry))) (choiceOf damping unstated) (record { width = «visible_width»; height = «visible_height» }) (now (plane .entry)) (now (original .entry)) (record { primary = primary; secondary = secondary }) (now (totals .entry)) (now (scratch .entry))) .totals ⌝ }
-    ensures { λ _. ⌜ now (scratch .exit) ≡ (measuringOutcome (lumaPicture depth width height (now (skip .entry)) (now (dirs .entry)) (now (vars .entry))) (choiceOf damping unstated) (record { width = «visible_width»; height = «visible_height» }) (now (plane .entry)) (now (original .entry)) (record { primary = primary; secondary = secondary }) (now (totals .entry)) (now (scratch .entry))) .scratch ⌝ }
+    ensures { λ r. ⌜ r ≡ numberOf ((measuringOutcome (lumaPicture depth width height (now (skip .entry)) (now (dirs .entry)) (now (vars .entry)))
+        (choiceOf damping unstated) (record { width = «visible_width»; height = «visible_height» }) (now (plane .entry)) (now (original .entry))
+        (record { primary = primary; secondary = secondary }) (now (totals .entry)) (now (scratch .entry))) .answer) ⌝ }
+    ensures { λ _. ⌜ now (totals .exit) ≡
+        (measuringOutcome (lumaPicture depth width height (now (skip .entry)) (now (dirs .entry)) (now (vars .entry))) (choiceOf damping unstated)
+        (record { width = «visible_width»; height = «visible_height» }) (now (plane .entry)) (now (original .entry))
+        (record { primary = primary; secondary = secondary }) (now (totals .entry)) (now (scratch .entry))) .totals ⌝ }
+    ensures { λ _. ⌜ now (scratch .exit) ≡
+        (measuringOutcome (lumaPicture depth width height (now (skip .entry)) (now (dirs .entry)) (now (vars .entry))) (choiceOf damping unstated)
+        (record { width = «visible_width»; height = «visible_height» }) (now (plane .entry)) (now (original .entry))
+        (record { primary = primary; secondary = secondary }) (now (totals .entry)) (now (scratch .entry))) .scratch ⌝ }
 {
     let visible = Visible {
         width: visible_width,
@@ -79,9 +87,17 @@ pub extern "C" fn quern_measure_chroma(
     damping: u8,
     unstated: u8,
 ) -> u32
-    ensures { λ r. ⌜ r ≡ numberOf ((measuringOutcome (chromaPicture depth width height sx sy (now (skip .entry)) (now (dirs .entry))) (choiceOf damping unstated) (record { width = «visible_width»; height = «visible_height» }) (now (plane .entry)) (now (original .entry)) (record { primary = primary; secondary = secondary }) (now (totals .entry)) (now (scratch .entry))) .answer) ⌝ }
-    ensures { λ _. ⌜ now (totals .exit) ≡ (measuringOutcome (chromaPicture depth width height sx sy (now (skip .entry)) (now (dirs .entry))) (choiceOf damping unstated) (record { width = «visible_width»; height = «visible_height» }) (now (plane .entry)) (now (original .entry)) (record { primary = primary; secondary = secondary }) (now (totals .entry)) (now (scratch .entry))) .totals ⌝ }
-    ensures { λ _. ⌜ now (scratch .exit) ≡ (measuringOutcome (chromaPicture depth width height sx sy (now (skip .entry)) (now (dirs .entry))) (choiceOf damping unstated) (record { width = «visible_width»; height = «visible_height» }) (now (plane .entry)) (now (original .entry)) (record { primary = primary; secondary = secondary }) (now (totals .entry)) (now (scratch .entry))) .scratch ⌝ }
+    ensures { λ r. ⌜ r ≡ numberOf ((measuringOutcome (chromaPicture depth width height sx sy (now (skip .entry)) (now (dirs .entry)))
+        (choiceOf damping unstated) (record { width = «visible_width»; height = «visible_height» }) (now (plane .entry)) (now (original .entry))
+        (record { primary = primary; secondary = secondary }) (now (totals .entry)) (now (scratch .entry))) .answer) ⌝ }
+    ensures { λ _. ⌜ now (totals .exit) ≡
+        (measuringOutcome (chromaPicture depth width height sx sy (now (skip .entry)) (now (dirs .entry))) (choiceOf damping unstated)
+        (record { width = «visible_width»; height = «visible_height» }) (now (plane .entry)) (now (original .entry))
+        (record { primary = primary; secondary = secondary }) (now (totals .entry)) (now (scratch .entry))) .totals ⌝ }
+    ensures { λ _. ⌜ now (scratch .exit) ≡
+        (measuringOutcome (chromaPicture depth width height sx sy (now (skip .entry)) (now (dirs .entry))) (choiceOf damping unstated)
+        (record { width = «visible_width»; height = «visible_height» }) (now (plane .entry)) (now (original .entry))
+        (record { primary = primary; secondary = secondary }) (now (totals .entry)) (now (scratch .entry))) .scratch ⌝ }
 {
     let visible = Visible {
         width: visible_width,

@@ -24,8 +24,10 @@ pub extern "C" fn quern_trial_luma(
     damping: u8,
     depth: u8,
 ) -> u32
-    ensures { λ r. ⌜ r ≡ numberOf ((trialOutcome (record { samples = now (plane .entry); width = width; height = height }) (record { x = x; y = y; width = bw; height = bh }) (Luma variance) dir (record { 0 = damping }) depth (now (out .entry))) .answer) ⌝ }
-    ensures { λ _. ⌜ now (out .exit) ≡ (trialOutcome (record { samples = now (plane .entry); width = width; height = height }) (record { x = x; y = y; width = bw; height = bh }) (Luma variance) dir (record { 0 = damping }) depth (now (out .entry))) .out ⌝ }
+    ensures { λ r. ⌜ r ≡ numberOf ((trialOutcome (record { samples = now (plane .entry); width = width; height = height })
+        (record { x = x; y = y; width = bw; height = bh }) (Luma variance) dir (record { 0 = damping }) depth (now (out .entry))) .answer) ⌝ }
+    ensures { λ _. ⌜ now (out .exit) ≡ (trialOutcome (record { samples = now (plane .entry); width = width; height = height })
+        (record { x = x; y = y; width = bw; height = bh }) (Luma variance) dir (record { 0 = damping }) depth (now (out .entry))) .out ⌝ }
 {
     let block = Block {
         x: x,
@@ -63,8 +65,10 @@ pub extern "C" fn quern_trial_chroma(
     damping: u8,
     depth: u8,
 ) -> u32
-    ensures { λ r. ⌜ r ≡ numberOf ((trialOutcome (record { samples = now (plane .entry); width = width; height = height }) (record { x = x; y = y; width = bw; height = bh }) Chroma dir (record { 0 = damping }) depth (now (out .entry))) .answer) ⌝ }
-    ensures { λ _. ⌜ now (out .exit) ≡ (trialOutcome (record { samples = now (plane .entry); width = width; height = height }) (record { x = x; y = y; width = bw; height = bh }) Chroma dir (record { 0 = damping }) depth (now (out .entry))) .out ⌝ }
+    ensures { λ r. ⌜ r ≡ numberOf ((trialOutcome (record { samples = now (plane .entry); width = width; height = height })
+        (record { x = x; y = y; width = bw; height = bh }) Chroma dir (record { 0 = damping }) depth (now (out .entry))) .answer) ⌝ }
+    ensures { λ _. ⌜ now (out .exit) ≡ (trialOutcome (record { samples = now (plane .entry); width = width; height = height })
+        (record { x = x; y = y; width = bw; height = bh }) Chroma dir (record { 0 = damping }) depth (now (out .entry))) .out ⌝ }
 {
     let block = Block {
         x: x,

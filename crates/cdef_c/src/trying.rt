@@ -24,8 +24,12 @@ pub extern "C" fn quern_try_luma(
     damping: u8,
     unstated: u8,
 ) -> u32
-    ensures { λ r. ⌜ r ≡ numberOf ((tryingOutcome (lumaPicture depth width height (now (skip .entry)) (now (dirs .entry)) (now (vars .entry))) (choiceOf damping unstated) (record { width = «visible_width»; height = «visible_height» }) (now (snapshot .entry)) (now (original .entry)) (now (totals .entry))) .answer) ⌝ }
-    ensures { λ _. ⌜ now (totals .exit) ≡ (tryingOutcome (lumaPicture depth width height (now (skip .entry)) (now (dirs .entry)) (now (vars .entry))) (choiceOf damping unstated) (record { width = «visible_width»; height = «visible_height» }) (now (snapshot .entry)) (now (original .entry)) (now (totals .entry))) .totals ⌝ }
+    ensures { λ r. ⌜ r ≡ numberOf ((tryingOutcome (lumaPicture depth width height (now (skip .entry)) (now (dirs .entry)) (now (vars .entry)))
+        (choiceOf damping unstated) (record { width = «visible_width»; height = «visible_height» }) (now (snapshot .entry)) (now (original .entry))
+        (now (totals .entry))) .answer) ⌝ }
+    ensures { λ _. ⌜ now (totals .exit) ≡ (tryingOutcome (lumaPicture depth width height (now (skip .entry)) (now (dirs .entry)) (now (vars .entry)))
+        (choiceOf damping unstated) (record { width = «visible_width»; height = «visible_height» }) (now (snapshot .entry)) (now (original .entry))
+        (now (totals .entry))) .totals ⌝ }
 {
     let visible = Visible {
         width: visible_width,
@@ -65,8 +69,13 @@ pub extern "C" fn quern_try_chroma(
     damping: u8,
     unstated: u8,
 ) -> u32
-    ensures { λ r. ⌜ r ≡ numberOf ((tryingOutcome (chromaPicture depth width height sx sy (now (skip .entry)) (now (dirs .entry))) (choiceOf damping unstated) (record { width = «visible_width»; height = «visible_height» }) (now (snapshot .entry)) (now (original .entry)) (now (totals .entry))) .answer) ⌝ }
-    ensures { λ _. ⌜ now (totals .exit) ≡ (tryingOutcome (chromaPicture depth width height sx sy (now (skip .entry)) (now (dirs .entry))) (choiceOf damping unstated) (record { width = «visible_width»; height = «visible_height» }) (now (snapshot .entry)) (now (original .entry)) (now (totals .entry))) .totals ⌝ }
+    ensures { λ r. ⌜ r ≡ numberOf ((tryingOutcome (chromaPicture depth width height sx sy (now (skip .entry)) (now (dirs .entry)))
+        (choiceOf damping unstated) (record { width = «visible_width»; height = «visible_height» }) (now (snapshot .entry)) (now (original .entry))
+        (now (totals .entry))) .answer) ⌝ }
+    ensures { λ _. ⌜ now (totals .exit) ≡
+        (tryingOutcome (chromaPicture depth width height sx sy (now (skip .entry)) (now (dirs .entry))) (choiceOf damping unstated)
+        (record { width = «visible_width»; height = «visible_height» }) (now (snapshot .entry)) (now (original .entry))
+        (now (totals .entry))) .totals ⌝ }
 {
     let visible = Visible {
         width: visible_width,

@@ -21,7 +21,9 @@ pub fn apply_luma(
     secs: &[u8],
     damping: DampingChoice,
 ) -> Answer
-    ensures { λ r. ⌜ applyingListsOutcome (lumaPicture depth width height (now (skip .entry)) (now (dirs .entry)) (now (vars .entry))) damping (now (snapshot .entry)) (now (pris .entry)) (now (secs .entry)) (now (dst .entry)) ≡ record { answer = readAnswer r; plane = now (dst .exit) } ⌝ }
+    ensures { λ r. ⌜ applyingListsOutcome (lumaPicture depth width height (now (skip .entry)) (now (dirs .entry)) (now (vars .entry))) damping
+        (now (snapshot .entry)) (now (pris .entry)) (now (secs .entry)) (now (dst .entry))
+        ≡ record { answer = readAnswer r; plane = now (dst .exit) } ⌝ }
 {
     let f = Frame {
         luma: true,
@@ -50,7 +52,9 @@ pub fn apply_chroma(
     secs: &[u8],
     damping: DampingChoice,
 ) -> Answer
-    ensures { λ r. ⌜ applyingListsOutcome (chromaPicture depth width height sx sy (now (skip .entry)) (now (dirs .entry))) damping (now (snapshot .entry)) (now (pris .entry)) (now (secs .entry)) (now (dst .entry)) ≡ record { answer = readAnswer r; plane = now (dst .exit) } ⌝ }
+    ensures { λ r. ⌜ applyingListsOutcome (chromaPicture depth width height sx sy (now (skip .entry)) (now (dirs .entry))) damping
+        (now (snapshot .entry)) (now (pris .entry)) (now (secs .entry)) (now (dst .entry))
+        ≡ record { answer = readAnswer r; plane = now (dst .exit) } ⌝ }
 {
     let f = Frame {
         luma: false,

@@ -16,7 +16,8 @@ pub mod trial; // trial.rt: the checks of the trial
 
 // 1, 2 and 4: the depth, the sides, the plane's length.
 pub fn plane_no(plane: &[u16], width: usize, height: usize, depth: u8) -> u8
-    ensures { λ r. ⌜ r ≡ firstNo (ask 1 (depthTaken depth) ∷ ask 2 (sideTaken width && sideTaken height) ∷ ask 4 (fullPlane (record { samples = now (plane .entry); width = width; height = height })) ∷ []) ⌝ }
+    ensures { λ r. ⌜ r ≡ firstNo (ask 1 (depthTaken depth) ∷ ask 2 (sideTaken width && sideTaken height) ∷ ask 4
+        (fullPlane (record { samples = now (plane .entry); width = width; height = height })) ∷ []) ⌝ }
 {
     if !check_sides::depth_taken(depth) {
         return 1;

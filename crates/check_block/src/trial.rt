@@ -34,7 +34,8 @@ pub fn trial_no(
     damping: WorkingDamping,
     depth: u8,
 ) -> u8
-    ensures { λ r. ⌜ r ≡ firstNo (trialFirst (record { samples = now (plane .entry); width = width; height = height }) b way dir damping depth (now (out .entry))) ⌝ }
+    ensures { λ r. ⌜ r ≡ firstNo (trialFirst (record { samples = now (plane .entry); width = width; height = height }) b way dir damping depth
+        (now (out .entry))) ⌝ }
 {
     let no = crate::plane_no(plane, width, height, depth);
     if no != 0 {

@@ -1,4 +1,5 @@
-// The checks of trying, measuring and applying, in order: the error code of the first that fails, or 0. All input is examined before anything is written, and no list is walked before the questions that come first have passed.
+// The checks of trying, measuring and applying, in order: the error code of the first that fails, or 0. All input is examined before anything is written,
+// and no list is walked before the questions that come first have passed.
 ghost use mathlib.Core.Path.{_≡_};
 ghost use mathlib.Core.Bool.{true, _&&_};
 ghost use mathlib.Core.List.{List};
@@ -17,7 +18,8 @@ use frame_shape::Frame;
 // Trying, 7: twelve totals per unit, and the visible size.
 fn trying_listed(f: Frame, v: Visible, totals: &[i64]) -> bool
     requires { ⌜ Shaped f ⌝ }
-    ensures { λ r. ⌜ ((s d vs : List ℕ) → r ≡ eqb (length (now (totals .entry))) (12 * units (pictureOf f s d vs)) && visibleTaken (pictureOf f s d vs) v) ⌝ }
+    ensures { λ r. ⌜ ((s d vs : List ℕ) → r ≡ eqb (length (now (totals .entry))) (12 * units (pictureOf f s d vs)) && visibleTaken
+        (pictureOf f s d vs) v) ⌝ }
 {
     if totals.len() != 12 * check_picture::units(f) {
         return false;
@@ -38,7 +40,8 @@ pub fn trying_no(
     totals: &[i64],
 ) -> u8
     requires { ⌜ (f .luma ≡ true → (f .sx ≡ 0) × (f .sy ≡ 0)) ⌝ }
-    ensures { λ r. ⌜ r ≡ tryingNo (pictureOf f (now (skip .entry)) (now (dirs .entry)) (now (vars .entry))) damping v (now (snapshot .entry)) (now (original .entry)) (now (totals .entry)) ⌝ }
+    ensures { λ r. ⌜ r ≡ tryingNo (pictureOf f (now (skip .entry)) (now (dirs .entry)) (now (vars .entry))) damping v (now (snapshot .entry))
+        (now (original .entry)) (now (totals .entry)) ⌝ }
 {
     let no = check_picture::shape_no(f);
     if no != 0 {
@@ -60,7 +63,9 @@ pub fn trying_no(
 // Measuring, 7: one total per unit, the scratch, and the visible size.
 fn measuring_listed(f: Frame, v: Visible, totals: &[i64], scratch: &[u16]) -> bool
     requires { ⌜ Shaped f ⌝ }
-    ensures { λ r. ⌜ ((s d vs : List ℕ) → r ≡ (eqb (length (now (totals .entry))) (units (pictureOf f s d vs)) && eqb (length (now (scratch .entry))) (scratchLength (pictureOf f s d vs))) && visibleTaken (pictureOf f s d vs) v) ⌝ }
+    ensures { λ r. ⌜ ((s d vs : List ℕ) → r
+        ≡ (eqb (length (now (totals .entry))) (units (pictureOf f s d vs)) && eqb (length (now (scratch .entry)))
+        (scratchLength (pictureOf f s d vs))) && visibleTaken (pictureOf f s d vs) v) ⌝ }
 {
     if totals.len() != check_picture::units(f) {
         return false;
@@ -87,7 +92,8 @@ pub fn measuring_no(
     scratch: &[u16],
 ) -> u8
     requires { ⌜ (f .luma ≡ true → (f .sx ≡ 0) × (f .sy ≡ 0)) ⌝ }
-    ensures { λ r. ⌜ r ≡ measuringNo (pictureOf f (now (skip .entry)) (now (dirs .entry)) (now (vars .entry))) damping v (now (plane .entry)) (now (original .entry)) p (now (totals .entry)) (now (scratch .entry)) ⌝ }
+    ensures { λ r. ⌜ r ≡ measuringNo (pictureOf f (now (skip .entry)) (now (dirs .entry)) (now (vars .entry))) damping v (now (plane .entry))
+        (now (original .entry)) p (now (totals .entry)) (now (scratch .entry)) ⌝ }
 {
     let no = check_picture::shape_no(f);
     if no != 0 {
@@ -110,7 +116,8 @@ pub fn measuring_no(
 // Applying, 7: a primary and a secondary strength per unit.
 fn applying_listed(f: Frame, pris: &[u8], secs: &[u8]) -> bool
     requires { ⌜ Shaped f ⌝ }
-    ensures { λ r. ⌜ ((s d vs : List ℕ) → r ≡ eqb (length (now (pris .entry))) (units (pictureOf f s d vs)) && eqb (length (now (secs .entry))) (units (pictureOf f s d vs))) ⌝ }
+    ensures { λ r. ⌜ ((s d vs : List ℕ) → r ≡ eqb (length (now (pris .entry))) (units (pictureOf f s d vs)) && eqb (length (now (secs .entry)))
+        (units (pictureOf f s d vs))) ⌝ }
 {
     let n = check_picture::units(f);
     if pris.len() != n {
@@ -142,7 +149,8 @@ pub fn applying_no(
     secs: &[u8],
 ) -> u8
     requires { ⌜ (f .luma ≡ true → (f .sx ≡ 0) × (f .sy ≡ 0)) ⌝ }
-    ensures { λ r. ⌜ r ≡ applyingListsNo (pictureOf f (now (skip .entry)) (now (dirs .entry)) (now (vars .entry))) damping (now (snapshot .entry)) (now (pris .entry)) (now (secs .entry)) (now (dst .entry)) ⌝ }
+    ensures { λ r. ⌜ r ≡ applyingListsNo (pictureOf f (now (skip .entry)) (now (dirs .entry)) (now (vars .entry))) damping (now (snapshot .entry))
+        (now (pris .entry)) (now (secs .entry)) (now (dst .entry)) ⌝ }
 {
     let no = check_picture::shape_no(f);
     if no != 0 {

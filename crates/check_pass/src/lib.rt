@@ -11,7 +11,8 @@ pub fn direction_pass_no(
     dirs: &[u8],
     vars: &[u32],
 ) -> u8
-    ensures { λ r. ⌜ r ≡ directionPassNo (record { samples = now (plane .entry); width = width; height = height }) depth (now (dirs .entry)) (now (vars .entry)) ⌝ }
+    ensures { λ r. ⌜ r ≡ directionPassNo (record { samples = now (plane .entry); width = width; height = height }) depth (now (dirs .entry))
+        (now (vars .entry)) ⌝ }
 {
     let no = check_picture::sides_no(depth, width, height);
     if no != 0 {

@@ -58,7 +58,8 @@ pub fn shape_no(f: Frame) -> u8
 // 4: a plane holds exactly as many samples as its own sides multiply to.
 fn full(f: Frame, plane: &[u16]) -> bool
     requires { ⌜ Shaped f ⌝ }
-    ensures { λ r. ⌜ ((s d vs : List ℕ) → r ≡ eqb (length (now (plane .entry))) (planeWidth (pictureOf f s d vs) * planeHeight (pictureOf f s d vs))) ⌝ }
+    ensures { λ r. ⌜ ((s d vs : List ℕ) → r ≡ eqb (length (now (plane .entry))) (planeWidth (pictureOf f s d vs) * planeHeight (pictureOf f s d vs)))
+        ⌝ }
 {
     plane.len() == frame_shape::geometry::plane_width(f) * frame_shape::geometry::plane_height(f)
 }
@@ -116,7 +117,8 @@ pub fn lists_no(
     own: bool,
 ) -> u8
     requires { ⌜ Shaped f ⌝ }
-    ensures { λ r. ⌜ r ≡ firstNo (listsNext (pictureOf f (now (skip .entry)) (now (dirs .entry)) (now (vars .entry))) (now (a .entry) ∷ now (b .entry) ∷ []) own) ⌝ }
+    ensures { λ r. ⌜ r ≡ firstNo (listsNext (pictureOf f (now (skip .entry)) (now (dirs .entry)) (now (vars .entry)))
+        (now (a .entry) ∷ now (b .entry) ∷ []) own) ⌝ }
 {
     if !full(f, a) {
         return 4;

@@ -34,7 +34,8 @@ pub fn block_sse_8x8(
 ) -> u64
     requires { ⌜ (length (now orig) ≡ width * height) × (length (now other) ≡ width * height) ⌝ }
     requires { ⌜ (width ≤ 4096) × (height ≤ 4096) × (x < width) × (y < height) ⌝ }
-    requires { ⌜ ((depth : ℕ) × (depth ≤ 12) × (cutTaken (record { samples = now orig; width = width; height = height }) depth y x ≡ true) × (cutTaken (record { samples = now other; width = width; height = height }) depth y x ≡ true)) ⌝ }
+    requires { ⌜ ((depth : ℕ) × (depth ≤ 12) × (cutTaken (record { samples = now orig; width = width; height = height }) depth y x ≡ true)
+        × (cutTaken (record { samples = now other; width = width; height = height }) depth y x ≡ true)) ⌝ }
     ensures { λ r. ⌜ r ≡ planeSquares (record { samples = now (orig .entry); width = width; height = height }) (now (other .entry)) y x ⌝ }
 {
     let rows = arith_numbers::lesser(8, height - y);
@@ -60,8 +61,10 @@ pub fn cdef_dist_8x8(
 ) -> u64
     requires { ⌜ (length (now orig) ≡ width * height) × (length (now other) ≡ width * height) ⌝ }
     requires { ⌜ (width ≤ 4096) × (height ≤ 4096) × (x < width) × (y < height) ⌝ }
-    requires { ⌜ ((depth : ℕ) × OfDepth c depth × (cutTaken (record { samples = now orig; width = width; height = height }) depth y x ≡ true) × (cutTaken (record { samples = now other; width = width; height = height }) depth y x ≡ true)) ⌝ }
-    ensures { λ r. ⌜ ((depth : ℕ) → c ≡ constantsOf depth → r ≡ planeDistance (record { samples = now (orig .entry); width = width; height = height }) (now (other .entry)) depth y x) ⌝ }
+    requires { ⌜ ((depth : ℕ) × OfDepth c depth × (cutTaken (record { samples = now orig; width = width; height = height }) depth y x ≡ true)
+        × (cutTaken (record { samples = now other; width = width; height = height }) depth y x ≡ true)) ⌝ }
+    ensures { λ r. ⌜ ((depth : ℕ) → c ≡ constantsOf depth → r
+        ≡ planeDistance (record { samples = now (orig .entry); width = width; height = height }) (now (other .entry)) depth y x) ⌝ }
 {
     if width < x + 8 {
         return block_sse_8x8(orig, other, width, height, x, y);

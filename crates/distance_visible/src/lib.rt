@@ -20,8 +20,10 @@ pub fn distance_cut(
     c: DistanceConstants,
 ) -> u64
     requires { ⌜ (rows ≤ 8) × (cols ≤ 8) ⌝ }
-    requires { ⌜ ((depth : ℕ) × OfDepth c depth × Within (now original) at pitch rows cols (2 ^ depth) × Within (now other) from step rows cols (2 ^ depth)) ⌝ }
-    ensures { λ r. ⌜ (r ≡ cutDistance luma c rows cols (sampleIn (now (original .entry)) at pitch) (sampleIn (now (other .entry)) from step)) × (r < 2 ^ 53) ⌝ }
+    requires { ⌜ ((depth : ℕ) × OfDepth c depth × Within (now original) at pitch rows cols (2 ^ depth)
+        × Within (now other) from step rows cols (2 ^ depth)) ⌝ }
+    ensures { λ r. ⌜ (r ≡ cutDistance luma c rows cols (sampleIn (now (original .entry)) at pitch) (sampleIn (now (other .entry)) from step))
+        × (r < 2 ^ 53) ⌝ }
 {
     if luma {
         if rows + cols == 16 {

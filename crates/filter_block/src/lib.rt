@@ -52,7 +52,8 @@ pub fn filter_window(
     requires { ⌜ (b .x < w) × (b .y < h) × (w ≤ 4096) × (h ≤ 4096) × (b .width ≤ 8) × (b .height ≤ 8) ⌝ }
     requires { ⌜ (y0 ≤ b .y) × ((b .y - y0 + min (b .height) (h - b .y)) * w ≤ length (now dst)) ⌝ }
     requires { ⌜ Held (now win) × Usable q ⌝ }
-    ensures { λ _. ⌜ now (dst .exit) ≡ putBlock (now (dst .entry)) w (blockTap (now (win .entry)) q (b .y - y0) (b .x)) (b .y - y0) (b .x) (min (b .width) (w - b .x)) (min (b .height) (h - b .y)) ⌝ }
+    ensures { λ _. ⌜ now (dst .exit) ≡ putBlock (now (dst .entry)) w (blockTap (now (win .entry)) q (b .y - y0) (b .x)) (b .y - y0) (b .x)
+        (min (b .width) (w - b .x)) (min (b .height) (h - b .y)) ⌝ }
 {
     let d = filter_kernel::from_one(q.damping);
     let t = filter_kernel::taps(q.dir as usize);
@@ -75,7 +76,8 @@ pub fn cdef_filter_block(
 )
     requires { ⌜ InPlane (now src) w h b × Held (upto (windowAt (planeOf (now src) w h) b) 144) × Usable q ⌝ }
     requires { ⌜ (y0 ≤ b .y) × ((b .y - y0 + min (b .height) (h - b .y)) * w ≤ length (now dst)) ⌝ }
-    ensures { λ _. ⌜ now (dst .exit) ≡ putBlock (now (dst .entry)) w (λ r c. filtered (planeOf (now (src .entry)) w h) q (y0 + r) c) (b .y - y0) (b .x) (min (b .width) (w - b .x)) (min (b .height) (h - b .y)) ⌝ }
+    ensures { λ _. ⌜ now (dst .exit) ≡ putBlock (now (dst .entry)) w (λ r c. filtered (planeOf (now (src .entry)) w h) q (y0 + r) c) (b .y - y0)
+        (b .x) (min (b .width) (w - b .x)) (min (b .height) (h - b .y)) ⌝ }
 {
     let win = filter_window::window(src, w, h, b);
     filter_window(dst, y0, &win, w, h, b, q);

@@ -21,8 +21,11 @@ pub fn try_frame(
     damping: DampingChoice,
 ) -> u8
     requires { ⌜ (f .luma ≡ true → (f .sx ≡ 0) × (f .sy ≡ 0)) ⌝ }
-    ensures { λ r. ⌜ r ≡ tryingNo (pictureOf f (now (skip .entry)) (now (dirs .entry)) (now (vars .entry))) damping v (now (snapshot .entry)) (now (original .entry)) (now (totals .entry)) ⌝ }
-    ensures { λ _. ⌜ now (totals .exit) ≡ (tryingOutcome (pictureOf f (now (skip .entry)) (now (dirs .entry)) (now (vars .entry))) damping v (now (snapshot .entry)) (now (original .entry)) (now (totals .entry))) .totals ⌝ }
+    ensures { λ r. ⌜ r ≡ tryingNo (pictureOf f (now (skip .entry)) (now (dirs .entry)) (now (vars .entry))) damping v (now (snapshot .entry))
+        (now (original .entry)) (now (totals .entry)) ⌝ }
+    ensures { λ _. ⌜ now (totals .exit) ≡
+        (tryingOutcome (pictureOf f (now (skip .entry)) (now (dirs .entry)) (now (vars .entry))) damping v (now (snapshot .entry))
+        (now (original .entry)) (now (totals .entry))) .totals ⌝ }
 {
     let no = check_frame::trying_no(f, damping, v, snapshot, original, skip, dirs, vars, totals);
     if no != 0 {
@@ -48,9 +51,14 @@ pub fn measure_frame(
     damping: DampingChoice,
 ) -> u8
     requires { ⌜ (f .luma ≡ true → (f .sx ≡ 0) × (f .sy ≡ 0)) ⌝ }
-    ensures { λ r. ⌜ r ≡ measuringNo (pictureOf f (now (skip .entry)) (now (dirs .entry)) (now (vars .entry))) damping v (now (plane .entry)) (now (original .entry)) p (now (totals .entry)) (now (scratch .entry)) ⌝ }
-    ensures { λ _. ⌜ now (totals .exit) ≡ (measuringOutcome (pictureOf f (now (skip .entry)) (now (dirs .entry)) (now (vars .entry))) damping v (now (plane .entry)) (now (original .entry)) p (now (totals .entry)) (now (scratch .entry))) .totals ⌝ }
-    ensures { λ _. ⌜ now (scratch .exit) ≡ (measuringOutcome (pictureOf f (now (skip .entry)) (now (dirs .entry)) (now (vars .entry))) damping v (now (plane .entry)) (now (original .entry)) p (now (totals .entry)) (now (scratch .entry))) .scratch ⌝ }
+    ensures { λ r. ⌜ r ≡ measuringNo (pictureOf f (now (skip .entry)) (now (dirs .entry)) (now (vars .entry))) damping v (now (plane .entry))
+        (now (original .entry)) p (now (totals .entry)) (now (scratch .entry)) ⌝ }
+    ensures { λ _. ⌜ now (totals .exit) ≡
+        (measuringOutcome (pictureOf f (now (skip .entry)) (now (dirs .entry)) (now (vars .entry))) damping v (now (plane .entry))
+        (now (original .entry)) p (now (totals .entry)) (now (scratch .entry))) .totals ⌝ }
+    ensures { λ _. ⌜ now (scratch .exit) ≡
+        (measuringOutcome (pictureOf f (now (skip .entry)) (now (dirs .entry)) (now (vars .entry))) damping v (now (plane .entry))
+        (now (original .entry)) p (now (totals .entry)) (now (scratch .entry))) .scratch ⌝ }
 {
     let no = check_frame::measuring_no(
         f,
@@ -98,8 +106,10 @@ pub fn apply_frame(
     damping: DampingChoice,
 ) -> u8
     requires { ⌜ (f .luma ≡ true → (f .sx ≡ 0) × (f .sy ≡ 0)) ⌝ }
-    ensures { λ r. ⌜ r ≡ applyingListsNo (pictureOf f (now (skip .entry)) (now (dirs .entry)) (now (vars .entry))) damping (now (snapshot .entry)) (now (pris .entry)) (now (secs .entry)) (now (dst .entry)) ⌝ }
-    ensures { λ _. ⌜ now (dst .exit) ≡ (applyingListsOutcome (pictureOf f (now (skip .entry)) (now (dirs .entry)) (now (vars .entry))) damping (now (snapshot .entry)) (now (pris .entry)) (now (secs .entry)) (now (dst .entry))) .plane ⌝ }
+    ensures { λ r. ⌜ r ≡ applyingListsNo (pictureOf f (now (skip .entry)) (now (dirs .entry)) (now (vars .entry))) damping (now (snapshot .entry))
+        (now (pris .entry)) (now (secs .entry)) (now (dst .entry)) ⌝ }
+    ensures { λ _. ⌜ now (dst .exit) ≡ (applyingListsOutcome (pictureOf f (now (skip .entry)) (now (dirs .entry)) (now (vars .entry))) damping
+        (now (snapshot .entry)) (now (pris .entry)) (now (secs .entry)) (now (dst .entry))) .plane ⌝ }
 {
     let no = check_frame::applying_no(f, damping, snapshot, dst, skip, dirs, vars, pris, secs);
     if no != 0 {

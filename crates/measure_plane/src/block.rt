@@ -35,9 +35,11 @@ fn filter_block(
     by: usize,
     bx: usize,
 )
-    requires { ⌜ Shaped f × Sampled f (now plane) × InForce d × (p .primary ≤ 15) × (p .secondary ≤ 4) × ((skip : List ℕ) × Listed f skip (now dirs) (now vars)) ⌝ }
+    requires { ⌜ Shaped f × Sampled f (now plane) × InForce d × (p .primary ≤ 15) × (p .secondary ≤ 4)
+        × ((skip : List ℕ) × Listed f skip (now dirs) (now vars)) ⌝ }
     requires { ⌜ (w ≡ f .width / (1 + f .sx)) × (by < f .height / 8) × (bx < f .width / 8) × (length (now scratch) ≡ scratchOf f) ⌝ }
-    ensures { λ _. ⌜ ((s : List ℕ) → Filled (pictureOf f s (now (dirs .entry)) (now (vars .entry))) d (now (plane .entry)) p by bx (now (scratch .exit))) ⌝ }
+    ensures { λ _. ⌜ ((s : List ℕ) → Filled (pictureOf f s (now (dirs .entry)) (now (vars .entry))) d (now (plane .entry)) p by bx
+        (now (scratch .exit))) ⌝ }
 {
     let b = frame_shape::geometry::block_of(f, by, bx);
     let h = frame_shape::geometry::plane_height(f);
@@ -75,7 +77,8 @@ fn rows_distance<'a>(
 ) -> u64
     requires { ⌜ Shaped f × Sampled f (now plane) × Sampled f (now original) × Seen f v × Begun f v by bx × OfDepth c (f .depth) ⌝ }
     requires { ⌜ (w ≡ f .width / (1 + f .sx)) × (length (now scratch) ≡ scratchOf f) × (on ≡ true → LowBlock f bx (now scratch)) ⌝ }
-    ensures { λ r. ⌜ ((s ds vs : List ℕ) → r ≡ blockDistance (pictureOf f s ds vs) v by bx (atPlace (pictureOf f s ds vs) (now (original .entry))) (rowSample (pictureOf f s ds vs) on (now (scratch .entry)) (now (plane .entry)) (by * blockHeight (pictureOf f s ds vs)))) × (r < 2 ^ 53) ⌝ }
+    ensures { λ r. ⌜ ((s ds vs : List ℕ) → r ≡ blockDistance (pictureOf f s ds vs) v by bx (atPlace (pictureOf f s ds vs) (now (original .entry)))
+        (rowSample (pictureOf f s ds vs) on (now (scratch .entry)) (now (plane .entry)) (by * blockHeight (pictureOf f s ds vs)))) × (r < 2 ^ 53) ⌝ }
 {
     let b = frame_shape::geometry::block_of(f, by, bx);
     let rows = arith_numbers::lesser(b.height, frame_shape::geometry::visible_rows(f, v) - b.y);
@@ -113,7 +116,8 @@ pub fn measure_block(
 ) -> u64
     requires { ⌜ ((skip : List ℕ) × Lent f v (now plane) (now original) skip (now dirs) (now vars) p d) ⌝ }
     requires { ⌜ Begun f v by bx × OfDepth c (f .depth) × (length (now scratch) ≡ scratchOf f) ⌝ }
-    ensures { λ r. ⌜ ((s : List ℕ) → r ≡ measuredDistance (pictureOf f s (now (dirs .entry)) (now (vars .entry))) d v (now (plane .entry)) (now (original .entry)) p by bx) × (r < 2 ^ 53) ⌝ }
+    ensures { λ r. ⌜ ((s : List ℕ) → r ≡ measuredDistance (pictureOf f s (now (dirs .entry)) (now (vars .entry))) d v (now (plane .entry))
+        (now (original .entry)) p by bx) × (r < 2 ^ 53) ⌝ }
 {
     let on = filters(p);
     let w = frame_shape::geometry::plane_width(f);

@@ -30,9 +30,12 @@ pub fn measure_plane(
     p: UnitPair,
     d: SignalledDamping,
 )
-    requires { ⌜ Shaped f × Listed f (now skip) (now dirs) (now vars) × Sampled f (now plane) × Sampled f (now original) × Seen f v × InForce d × (p .primary ≤ 15) × (p .secondary ≤ 4) ⌝ }
+    requires { ⌜ Shaped f × Listed f (now skip) (now dirs) (now vars) × Sampled f (now plane) × Sampled f (now original) × Seen f v × InForce d
+        × (p .primary ≤ 15) × (p .secondary ≤ 4) ⌝ }
     requires { ⌜ (length (now totals) ≡ unitsOf f) × (length (now scratch) ≡ scratchLength (pictureOf f (now skip) (now dirs) (now vars))) ⌝ }
-    ensures { λ _. ⌜ now (totals .exit) ≡ table (unitsIn (pictureOf f (now (skip .entry)) (now (dirs .entry)) (now (vars .entry)))) (λ u. pos (measuredTotal (pictureOf f (now (skip .entry)) (now (dirs .entry)) (now (vars .entry))) d v (now (plane .entry)) (now (original .entry)) p u)) ⌝ }
+    ensures { λ _. ⌜ now (totals .exit) ≡ table (unitsIn (pictureOf f (now (skip .entry)) (now (dirs .entry)) (now (vars .entry))))
+        (λ u. pos (measuredTotal (pictureOf f (now (skip .entry)) (now (dirs .entry)) (now (vars .entry))) d v (now (plane .entry))
+        (now (original .entry)) p u)) ⌝ }
     ensures { λ _. ⌜ now (scratch .exit) ≡ replicate (scratchLength (pictureOf f (now (skip .entry)) (now (dirs .entry)) (now (vars .entry)))) 0 ⌝ }
 {
     arith_totals::clear_totals(totals);

@@ -32,9 +32,13 @@ fn measure_one(
     bx: usize,
     c: DistanceConstants,
 )
-    requires { ⌜ Lent f v (now plane) (now original) (now skip) (now dirs) (now vars) p d × OfDepth c (f .depth) × (by < f .height / 8) × (bx < f .width / 8) ⌝ }
+    requires { ⌜ Lent f v (now plane) (now original) (now skip) (now dirs) (now vars) p d × OfDepth c (f .depth) × (by < f .height / 8)
+        × (bx < f .width / 8) ⌝ }
     requires { ⌜ (length (now scratch) ≡ scratchOf f) × (length (now totals) ≡ unitsOf f) × ((t : List ℕ) × (now totals ≡ signed t) × Small t) ⌝ }
-    ensures { λ _. ⌜ ((t : List ℕ) → now (totals .entry) ≡ signed t → now (totals .exit) ≡ signed (measureOne (pictureOf f (now (skip .entry)) (now (dirs .entry)) (now (vars .entry))) v (measuredDistance (pictureOf f (now (skip .entry)) (now (dirs .entry)) (now (vars .entry))) d v (now (plane .entry)) (now (original .entry)) p) by bx t)) ⌝ }
+    ensures { λ _. ⌜ ((t : List ℕ) → now (totals .entry) ≡ signed t → now (totals .exit)
+        ≡ signed (measureOne (pictureOf f (now (skip .entry)) (now (dirs .entry)) (now (vars .entry))) v
+        (measuredDistance (pictureOf f (now (skip .entry)) (now (dirs .entry)) (now (vars .entry))) d v (now (plane .entry)) (now (original .entry))
+        p) by bx t)) ⌝ }
 {
     if !frame_shape::geometry::counted(f, v, skip, by, bx) {
         return;
@@ -74,8 +78,13 @@ pub fn measure_row(
 )
     requires { ⌜ Lent f v (now plane) (now original) (now skip) (now dirs) (now vars) p d × OfDepth c (f .depth) × (by < f .height / 8) ⌝ }
     requires { ⌜ (length (now scratch) ≡ scratchOf f) × (length (now totals) ≡ unitsOf f) ⌝ }
-    requires { ⌜ ((t : List ℕ) × (now totals ≡ signed t) × SmallRow (pictureOf f (now skip) (now dirs) (now vars)) v (measuredDistance (pictureOf f (now skip) (now dirs) (now vars)) d v (now plane) (now original) p) by t) ⌝ }
-    ensures { λ _. ⌜ ((t : List ℕ) → now (totals .entry) ≡ signed t → now (totals .exit) ≡ signed (measureRow (pictureOf f (now (skip .entry)) (now (dirs .entry)) (now (vars .entry))) v (measuredDistance (pictureOf f (now (skip .entry)) (now (dirs .entry)) (now (vars .entry))) d v (now (plane .entry)) (now (original .entry)) p) by t (f .width / 8))) ⌝ }
+    requires { ⌜ ((t : List ℕ) × (now totals ≡ signed t)
+        × SmallRow (pictureOf f (now skip) (now dirs) (now vars)) v
+        (measuredDistance (pictureOf f (now skip) (now dirs) (now vars)) d v (now plane) (now original) p) by t) ⌝ }
+    ensures { λ _. ⌜ ((t : List ℕ) → now (totals .entry) ≡ signed t → now (totals .exit)
+        ≡ signed (measureRow (pictureOf f (now (skip .entry)) (now (dirs .entry)) (now (vars .entry))) v
+        (measuredDistance (pictureOf f (now (skip .entry)) (now (dirs .entry)) (now (vars .entry))) d v (now (plane .entry)) (now (original .entry))
+        p) by t (f .width / 8))) ⌝ }
 {
     for bx in 0..f.width / 8 {
         measure_one(

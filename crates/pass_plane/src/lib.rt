@@ -42,11 +42,16 @@ pub fn direction_pass(
     height: usize,
     depth: u8,
 )
-    requires { ⌜ (length (now plane) ≡ width * height) × (length (now dirs) ≡ height / 8 * (width / 8)) × (length (now vars) ≡ height / 8 * (width / 8)) ⌝ }
+    requires { ⌜ (length (now plane) ≡ width * height) × (length (now dirs) ≡ height / 8 * (width / 8))
+        × (length (now vars) ≡ height / 8 * (width / 8)) ⌝ }
     requires { ⌜ (1 ≤ width) × (width ≤ 4096) × (width % 8 ≡ 0) × (1 ≤ height) × (height ≤ 4096) × (height % 8 ≡ 0) × (8 ≤ depth) × (depth ≤ 12) ⌝ }
     requires { ⌜ ((k : ℕ) → getD (now plane) k 0 < 2 ^ depth) ⌝ }
-    ensures { λ _. ⌜ now (dirs .exit) ≡ table (height / 8 * (width / 8)) (λ b. blockDirection (record { samples = now (plane .entry); width = width; height = height }) depth (b / (width / 8) * 8) (b % (width / 8) * 8)) ⌝ }
-    ensures { λ _. ⌜ now (vars .exit) ≡ table (height / 8 * (width / 8)) (λ b. blockVariance (record { samples = now (plane .entry); width = width; height = height }) depth (b / (width / 8) * 8) (b % (width / 8) * 8)) ⌝ }
+    ensures { λ _. ⌜ now (dirs .exit) ≡ table (height / 8 * (width / 8))
+        (λ b. blockDirection (record { samples = now (plane .entry); width = width; height = height }) depth (b / (width / 8) * 8)
+        (b % (width / 8) * 8)) ⌝ }
+    ensures { λ _. ⌜ now (vars .exit) ≡ table (height / 8 * (width / 8))
+        (λ b. blockVariance (record { samples = now (plane .entry); width = width; height = height }) depth (b / (width / 8) * 8)
+        (b % (width / 8) * 8)) ⌝ }
 {
     let mut a = [0i16; 512];
     let mut s = [0i16; 512];

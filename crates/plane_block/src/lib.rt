@@ -31,7 +31,8 @@ fn filter_inside(
     damping: u8,
     depth: u8,
 )
-    requires { ⌜ InPlane (now src) w h (blockFrom x y bw bh) × AllLow (now src) × Usable (paramsFrom pri sec dir damping depth) × (depth ≡ 8 → AllByte (now src)) ⌝ }
+    requires { ⌜ InPlane (now src) w h (blockFrom x y bw bh) × AllLow (now src) × Usable (paramsFrom pri sec dir damping depth)
+        × (depth ≡ 8 → AllByte (now src)) ⌝ }
     requires { ⌜ (y0 ≤ y) × ((y - y0 + bh) * w ≤ length (now dst)) × Sided bw × Sided bh × Inner w h x y bw bh ⌝ }
     ensures { λ _. ⌜ now (dst .exit) ≡ storedBlock (now (dst .entry)) (now (src .entry)) w h (paramsFrom pri sec dir damping depth) y0 y x bw bh ⌝ }
 {
@@ -113,9 +114,11 @@ pub fn filter_block(
     damping: u8,
     depth: u8,
 )
-    requires { ⌜ InPlane (now src) w h (blockFrom x y bw bh) × AllLow (now src) × Usable (paramsFrom pri sec dir damping depth) × (depth ≡ 8 → AllByte (now src)) ⌝ }
+    requires { ⌜ InPlane (now src) w h (blockFrom x y bw bh) × AllLow (now src) × Usable (paramsFrom pri sec dir damping depth)
+        × (depth ≡ 8 → AllByte (now src)) ⌝ }
     requires { ⌜ (y0 ≤ y) × ((y - y0 + min bh (h - y)) * w ≤ length (now dst)) × Sided bw × Sided bh ⌝ }
-    ensures { λ _. ⌜ now (dst .exit) ≡ storedBlock (now (dst .entry)) (now (src .entry)) w h (paramsFrom pri sec dir damping depth) y0 y x (min bw (w - x)) (min bh (h - y)) ⌝ }
+    ensures { λ _. ⌜ now (dst .exit) ≡ storedBlock (now (dst .entry)) (now (src .entry)) w h (paramsFrom pri sec dir damping depth) y0 y x
+        (min bw (w - x)) (min bh (h - y)) ⌝ }
 {
     if plane_inside::inside(w, h, x, y, bw, bh) {
         filter_inside(

@@ -70,7 +70,8 @@ pub fn last(
     b3: &[u16; 16],
     g: Strength,
 ) -> [u16; 16]
-    requires { ⌜ BoundedAll m × AllLow (now c) × LowPairs (now a0) (now b0) (now a1) (now b1) × LowPairs (now a2) (now b2) (now a3) (now b3) × InRange g ⌝ }
+    requires { ⌜ BoundedAll m × AllLow (now c) × LowPairs (now a0) (now b0) (now a1) (now b1) × LowPairs (now a2) (now b2) (now a3) (now b3)
+        × InRange g ⌝ }
     ensures { λ r. ⌜ r ≡ lastLanes m (now (c .entry)) (now (a0 .entry)) (now (b0 .entry)) (now (a1 .entry)) (now (b1 .entry))
         (now (a2 .entry)) (now (b2 .entry)) (now (a3 .entry)) (now (b3 .entry)) g ⌝ }
 {
@@ -124,7 +125,8 @@ pub fn sec(
     f: Strength,
 ) -> [u16; 16]
     requires { ⌜ AllLow (now c) × LowPairs (now a0) (now b0) (now a1) (now b1) × LowPairs (now a2) (now b2) (now a3) (now b3) × InRange f ⌝ }
-    ensures { λ r. ⌜ r ≡ secLanes (now (c .entry)) (now (a0 .entry)) (now (b0 .entry)) (now (a1 .entry)) (now (b1 .entry)) (now (a2 .entry)) (now (b2 .entry)) (now (a3 .entry)) (now (b3 .entry)) f ⌝ }
+    ensures { λ r. ⌜ r ≡ secLanes (now (c .entry)) (now (a0 .entry)) (now (b0 .entry)) (now (a1 .entry)) (now (b1 .entry)) (now (a2 .entry))
+        (now (b2 .entry)) (now (a3 .entry)) (now (b3 .entry)) f ⌝ }
 {
     let mut out = [0u16; 16];
     for j in 0..16usize {

@@ -27,7 +27,8 @@ pub fn trial_window(
 )
     requires { ⌜ (length (now out) ≡ 768) × (b .width ≤ 8) × (b .height ≤ 8) × Held (now win) ⌝ }
     requires { ⌜ (dir < 8) × (damping .0 ≤ 31) × (8 ≤ depth) × (depth ≤ 12) ⌝ }
-    ensures { λ _. ⌜ now (out .exit) ≡ putBlock (now (out .entry)) 64 (trialTap (now (win .entry)) (twelveOf way dir damping depth) (b .width)) 0 0 (b .height * b .width) 12 ⌝ }
+    ensures { λ _. ⌜ now (out .exit) ≡ putBlock (now (out .entry)) 64 (trialTap (now (win .entry)) (twelveOf way dir damping depth) (b .width)) 0 0
+        (b .height * b .width) 12 ⌝ }
 {
     let u = trial_strengths::strengths(way, dir, damping, depth);
     crate::candidates(out, b.width, b.height, win, u);

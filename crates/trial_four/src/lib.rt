@@ -20,8 +20,10 @@ pub fn four(
     hi: &[u16; 64],
 )
     requires { ⌜ (length (now out) ≡ 768) × (t ≤ 8) × (w ≤ 8) × (h ≤ 8) ⌝ }
-    requires { ⌜ HeldTo (now c) (h * 8) × WithinTo (now z) 7680 (h * 8) × WithinTo (now s) 7680 (h * 8) × PriWithin p (h * 8) × HeldTo (now lo) (h * 8) × HeldTo (now hi) (h * 8) ⌝ }
-    ensures { λ _. ⌜ now (out .exit) ≡ fourLaid (now (out .entry)) (now (c .entry)) (now (z .entry)) (now (s .entry)) p (now (lo .entry)) (now (hi .entry)) t w (h * w) ⌝ }
+    requires { ⌜ HeldTo (now c) (h * 8) × WithinTo (now z) 7680 (h * 8) × WithinTo (now s) 7680 (h * 8) × PriWithin p (h * 8)
+        × HeldTo (now lo) (h * 8) × HeldTo (now hi) (h * 8) ⌝ }
+    ensures { λ _. ⌜ now (out .exit) ≡ fourLaid (now (out .entry)) (now (c .entry)) (now (z .entry)) (now (s .entry)) p (now (lo .entry))
+        (now (hi .entry)) t w (h * w) ⌝ }
 {
     trial_put::put_free(out, t, w, h, c, z);
     trial_put::put_both(out, t + 1, w, h, c, &p.p1, s, lo, hi);

@@ -17,7 +17,8 @@ pub fn both_block(
     hi: &[u16; 64],
 ) -> [u16; 64]
     requires { ⌜ (n ≤ 64) × HeldTo (now c) n × WithinTo (now p) 3840 n × WithinTo (now s) 7680 n × HeldTo (now lo) n × HeldTo (now hi) n ⌝ }
-    ensures { λ r. ⌜ take n r ≡ upto (λ k. finishOf (getD (now (c .entry)) k 0) (getD (now (p .entry)) k (pos 0) +ℤ getD (now (s .entry)) k (pos 0)) (getD (now (lo .entry)) k 0) (getD (now (hi .entry)) k 0)) n ⌝ }
+    ensures { λ r. ⌜ take n r ≡ upto (λ k. finishOf (getD (now (c .entry)) k 0) (getD (now (p .entry)) k (pos 0) +ℤ getD (now (s .entry)) k (pos 0))
+        (getD (now (lo .entry)) k 0) (getD (now (hi .entry)) k 0)) n ⌝ }
 {
     let mut out = [0u16; 64];
     for k in 0..n {

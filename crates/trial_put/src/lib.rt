@@ -65,8 +65,10 @@ pub fn put_both(
     hi: &[u16; 64],
 )
     requires { ⌜ (length (now out) ≡ 768) × (t < 12) × (w ≤ 8) × (h ≤ 8) ⌝ }
-    requires { ⌜ HeldTo (now c) (h * 8) × WithinTo (now p) 3840 (h * 8) × WithinTo (now s) 7680 (h * 8) × HeldTo (now lo) (h * 8) × HeldTo (now hi) (h * 8) ⌝ }
-    ensures { λ _. ⌜ now (out .exit) ≡ putRow (now (out .entry)) 64 (bothTap (now (c .entry)) (now (p .entry)) (now (s .entry)) (now (lo .entry)) (now (hi .entry)) w) t 0 (h * w) ⌝ }
+    requires { ⌜ HeldTo (now c) (h * 8) × WithinTo (now p) 3840 (h * 8) × WithinTo (now s) 7680 (h * 8) × HeldTo (now lo) (h * 8)
+        × HeldTo (now hi) (h * 8) ⌝ }
+    ensures { λ _. ⌜ now (out .exit) ≡ putRow (now (out .entry)) 64
+        (bothTap (now (c .entry)) (now (p .entry)) (now (s .entry)) (now (lo .entry)) (now (hi .entry)) w) t 0 (h * w) ⌝ }
 {
     let v = finish::both_block(h * 8, c, p, s, lo, hi);
     put_trial(out, t, w, h, &v);

@@ -34,7 +34,8 @@ pub fn make_trials(
 )
     requires { ⌜ Shaped f × Sampled f (now snapshot) × InForce d × (by < f .height / 8) × (bx < f .width / 8) × (length (now blocks) ≡ 768) ⌝ }
     requires { ⌜ ((s : List ℕ) × Listed f s (now dirs) (now vars)) ⌝ }
-    ensures { λ _. ⌜ ((s : List ℕ) → now (blocks .exit) ≡ trialBlocks (pictureOf f s (now (dirs .entry)) (now (vars .entry))) d (now (snapshot .entry)) by bx (now (blocks .entry))) ⌝ }
+    ensures { λ _. ⌜ ((s : List ℕ) → now (blocks .exit) ≡ trialBlocks (pictureOf f s (now (dirs .entry)) (now (vars .entry))) d
+        (now (snapshot .entry)) by bx (now (blocks .entry))) ⌝ }
 {
     let b = geometry::block_of(f, by, bx);
     let k = by * (f.width / 8) + bx;
@@ -59,7 +60,8 @@ pub fn make_trials(
 // The visible part of a block that begins inside the visible area.
 pub fn visible_part(f: Frame, v: Visible, by: usize, bx: usize) -> Block
     requires { ⌜ Shaped f × Seen f v × (by < f .height / 8) × (bx < f .width / 8) ⌝ }
-    requires { ⌜ ((s : List ℕ) × (ds : List ℕ) × (vs : List ℕ) × (by * blockHeight (pictureOf f s ds vs) ≤ visibleRows (pictureOf f s ds vs) v) × (bx * blockWidth (pictureOf f s ds vs) ≤ visibleCols (pictureOf f s ds vs) v)) ⌝ }
+    requires { ⌜ ((s : List ℕ) × (ds : List ℕ) × (vs : List ℕ) × (by * blockHeight (pictureOf f s ds vs) ≤ visibleRows (pictureOf f s ds vs) v)
+        × (bx * blockWidth (pictureOf f s ds vs) ≤ visibleCols (pictureOf f s ds vs) v)) ⌝ }
     ensures { λ r. ⌜ ((s ds vs : List ℕ) → r ≡ visiblePart (pictureOf f s ds vs) v by bx) ⌝ }
 {
     let b = geometry::block_of(f, by, bx);

@@ -32,9 +32,12 @@ fn try_block(
     bx: usize,
     c: DistanceConstants,
 )
-    requires { ⌜ Ready f v d (now snapshot) (now original) (now skip) (now dirs) (now vars) × (c ≡ constantsOf (f .depth)) × (by < f .height / 8) × (bx < f .width / 8) × (length (now blocks) ≡ 768) ⌝ }
+    requires { ⌜ Ready f v d (now snapshot) (now original) (now skip) (now dirs) (now vars) × (c ≡ constantsOf (f .depth)) × (by < f .height / 8)
+        × (bx < f .width / 8) × (length (now blocks) ≡ 768) ⌝ }
     requires { ⌜ now totals ≡ signed (triedBlocks (pictureOf f (now skip) (now dirs) (now vars)) d v (now snapshot) (now original) by bx) ⌝ }
-    ensures { λ _. ⌜ now (totals .exit) ≡ signed (triedBlocks (pictureOf f (now (skip .entry)) (now (dirs .entry)) (now (vars .entry))) d v (now (snapshot .entry)) (now (original .entry)) by (bx + 1)) ⌝ }
+    ensures { λ _. ⌜ now (totals .exit) ≡ signed
+        (triedBlocks (pictureOf f (now (skip .entry)) (now (dirs .entry)) (now (vars .entry))) d v (now (snapshot .entry)) (now (original .entry)) by
+        (bx + 1)) ⌝ }
 {
     if !geometry::counted(f, v, skip, by, bx) {
         return;
@@ -74,9 +77,12 @@ fn try_row(
     by: usize,
     c: DistanceConstants,
 )
-    requires { ⌜ Ready f v d (now snapshot) (now original) (now skip) (now dirs) (now vars) × (c ≡ constantsOf (f .depth)) × (by < f .height / 8) × (length (now blocks) ≡ 768) ⌝ }
+    requires { ⌜ Ready f v d (now snapshot) (now original) (now skip) (now dirs) (now vars) × (c ≡ constantsOf (f .depth)) × (by < f .height / 8)
+        × (length (now blocks) ≡ 768) ⌝ }
     requires { ⌜ now totals ≡ signed (triedRows (pictureOf f (now skip) (now dirs) (now vars)) d v (now snapshot) (now original) by) ⌝ }
-    ensures { λ _. ⌜ now (totals .exit) ≡ signed (triedRows (pictureOf f (now (skip .entry)) (now (dirs .entry)) (now (vars .entry))) d v (now (snapshot .entry)) (now (original .entry)) (by + 1)) ⌝ }
+    ensures { λ _. ⌜ now (totals .exit) ≡ signed
+        (triedRows (pictureOf f (now (skip .entry)) (now (dirs .entry)) (now (vars .entry))) d v (now (snapshot .entry)) (now (original .entry))
+        (by + 1)) ⌝ }
 {
     for bx in 0..f.width / 8 {
         try_block(
@@ -109,8 +115,11 @@ pub fn try_plane(
     vars: &[u32],
     d: SignalledDamping,
 )
-    requires { ⌜ Shaped f × Listed f (now skip) (now dirs) (now vars) × Sampled f (now snapshot) × Sampled f (now original) × Seen f v × InForce d × (length (now totals) ≡ 12 * unitsOf f) ⌝ }
-    ensures { λ _. ⌜ now (totals .exit) ≡ table (12 * units (pictureOf f (now (skip .entry)) (now (dirs .entry)) (now (vars .entry)))) (λ k. pos (triedTotal (pictureOf f (now (skip .entry)) (now (dirs .entry)) (now (vars .entry))) d v (now (snapshot .entry)) (now (original .entry)) (k / 12) (k % 12))) ⌝ }
+    requires { ⌜ Shaped f × Listed f (now skip) (now dirs) (now vars) × Sampled f (now snapshot) × Sampled f (now original) × Seen f v × InForce d
+        × (length (now totals) ≡ 12 * unitsOf f) ⌝ }
+    ensures { λ _. ⌜ now (totals .exit) ≡ table (12 * units (pictureOf f (now (skip .entry)) (now (dirs .entry)) (now (vars .entry))))
+        (λ k. pos (triedTotal (pictureOf f (now (skip .entry)) (now (dirs .entry)) (now (vars .entry))) d v (now (snapshot .entry))
+        (now (original .entry)) (k / 12) (k % 12))) ⌝ }
 {
     arith_totals::clear_totals(totals);
     let mut blocks = try_blocks::room();

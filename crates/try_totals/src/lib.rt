@@ -25,8 +25,11 @@ fn add_cut(
     c: DistanceConstants,
 )
     requires { ⌜ (base + 12 ≤ length (now totals)) × Low (now totals) × (rows ≤ 8) × (cols ≤ 8) ⌝ }
-    requires { ⌜ ((depth : ℕ) × OfDepth c depth × Within (now original) at pitch rows cols (2 ^ depth) × ((t : ℕ) → t < 12 → Within (now blocks) (t * 64) step rows cols (2 ^ depth))) ⌝ }
-    ensures { λ _. ⌜ now (totals .exit) ≡ signed (addTurns (plainOf (now (totals .entry))) base (trialDistances luma c rows cols (now (original .entry)) at pitch (now (blocks .entry)) step) 12) ⌝ }
+    requires { ⌜ ((depth : ℕ) × OfDepth c depth × Within (now original) at pitch rows cols (2 ^ depth)
+        × ((t : ℕ) → t < 12 → Within (now blocks) (t * 64) step rows cols (2 ^ depth))) ⌝ }
+    ensures { λ _. ⌜ now (totals .exit) ≡ signed
+        (addTurns (plainOf (now (totals .entry))) base (trialDistances luma c rows cols (now (original .entry)) at pitch (now (blocks .entry)) step)
+        12) ⌝ }
 {
     for t in 0..12usize {
         let n = distance_visible::distance_cut(
@@ -60,8 +63,11 @@ pub fn add_trials(
     c: DistanceConstants,
 )
     requires { ⌜ (base + 12 ≤ length (now totals)) × Low (now totals) × (rows ≤ 8) × (cols ≤ 8) × (cols ≤ step) × (step ≤ 8) ⌝ }
-    requires { ⌜ ((depth : ℕ) × OfDepth c depth × Within (now original) at pitch rows cols (2 ^ depth) × ((t : ℕ) → t < 12 → Within (now blocks) (t * 64) step rows cols (2 ^ depth))) ⌝ }
-    ensures { λ _. ⌜ now (totals .exit) ≡ signed (addTurns (plainOf (now (totals .entry))) base (trialDistances luma c rows cols (now (original .entry)) at pitch (now (blocks .entry)) step) 12) ⌝ }
+    requires { ⌜ ((depth : ℕ) × OfDepth c depth × Within (now original) at pitch rows cols (2 ^ depth)
+        × ((t : ℕ) → t < 12 → Within (now blocks) (t * 64) step rows cols (2 ^ depth))) ⌝ }
+    ensures { λ _. ⌜ now (totals .exit) ≡ signed
+        (addTurns (plainOf (now (totals .entry))) base (trialDistances luma c rows cols (now (original .entry)) at pitch (now (blocks .entry)) step)
+        12) ⌝ }
 {
     if luma {
         if rows + cols == 16 {

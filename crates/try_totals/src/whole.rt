@@ -19,7 +19,9 @@ pub struct Sums {
 // Of the 64 samples from `from` on, with those of an original. The remainders change nothing; from them the compiler sees that each number is small.
 fn sums_at(a: &[u16; 64], s: &[u16], from: usize) -> Sums
     requires { ⌜ Below (now a) 4096 × (from + 64 ≤ length (now s)) × ((k : ℕ) → k < 64 → getD (now s) (from + k) 0 < 4096) ⌝ }
-    ensures { λ r. ⌜ (r .own ≡ sum 64 (λ k. getD (now (s .entry)) (from + k) 0)) × (r .squares ≡ sum 64 (λ k. getD (now (s .entry)) (from + k) 0 * getD (now (s .entry)) (from + k) 0)) × (r .products ≡ sum 64 (λ k. getD (now (a .entry)) k 0 * getD (now (s .entry)) (from + k) 0)) ⌝ }
+    ensures { λ r. ⌜ (r .own ≡ sum 64 (λ k. getD (now (s .entry)) (from + k) 0))
+        × (r .squares ≡ sum 64 (λ k. getD (now (s .entry)) (from + k) 0 * getD (now (s .entry)) (from + k) 0))
+        × (r .products ≡ sum 64 (λ k. getD (now (a .entry)) k 0 * getD (now (s .entry)) (from + k) 0)) ⌝ }
 {
     let mut own = 0u32;
     let mut squares = 0u32;
@@ -68,7 +70,8 @@ pub fn add_whole(
 )
     requires { ⌜ (base + 12 ≤ length (now totals)) × Low (now totals) ⌝ }
     requires { ⌜ ((depth : ℕ) × OfDepth c depth × Below (now a) (2 ^ depth) × ((t : ℕ) → t < 12 → Within (now blocks) (t * 64) 8 8 8 (2 ^ depth))) ⌝ }
-    ensures { λ _. ⌜ now (totals .exit) ≡ signed (addTurns (plainOf (now (totals .entry))) base (wholeDistances c (now (a .entry)) (now (blocks .entry))) 12) ⌝ }
+    ensures { λ _. ⌜ now (totals .exit) ≡ signed
+        (addTurns (plainOf (now (totals .entry))) base (wholeDistances c (now (a .entry)) (now (blocks .entry))) 12) ⌝ }
 {
     let ss = distance_sums::total(a) as u64;
     let ss2 = distance_sums::products(a, a) as u64;

@@ -137,7 +137,8 @@ fn keep(all: &mut [u16; 64], to: usize, row: [u16; 8])
     }
 }
 
-// Stores n rows of a block's samples from index `to` on. They are stored once all are computed: where a destination and its plane have the same address modulo 4,096, a load that follows a store to such an address waits for it.
+// Stores n rows of a block's samples from index `to` on, once all are computed: stored one by one, planes of 4,096 by 4,096 took longer
+// where destination and plane have the same address modulo 4,096 (docs/DECISIONS.md, 77).
 pub fn store(dst: &mut [u16], w: usize, to: usize, all: &[u16; 64], n: usize)
     requires { ⌜ (n ≤ 8) × ((i : ℕ) → i < n → to + i * w + 8 ≤ length (now dst)) ⌝ }
     ensures { λ _. ⌜ now (dst .exit) ≡ placedRows (now (dst .entry)) w to (now (all .entry)) 8 n ⌝ }

@@ -7,8 +7,8 @@ use Prim.Native.Nat.{_/_}
 use lib.ListN.{length}
 use Rattle.cdef_spec.specs.LoopForm.{signed}
 use Rattle.frame_shape.specs.Frame.{pictureOf}
-use Rattle.try_plane.specs.Trying.{Ready, triedRows}
-use Rattle.try_plane.specs.TryLaws.{plane-none, plane-all}
+use Rattle.try_one.specs.Trying.{Ready, triedRows}
+use Rattle.try_one.specs.TryLaws.{plane-none, plane-all}
 use Rattle.try_plane.proofs.try_plane.Statement.{statement}
 use Rattle.try_plane.proofs.try_plane.Tie as tie
 

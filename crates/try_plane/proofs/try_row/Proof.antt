@@ -7,8 +7,8 @@ use Prim.Native.Nat.{_/_}
 use lib.ListN.{length}
 use Rattle.cdef_spec.specs.LoopForm.{signed}
 use Rattle.frame_shape.specs.Frame.{pictureOf}
-use Rattle.try_plane.specs.Trying.{triedBlocks}
-use Rattle.try_plane.specs.TryLaws.{blocks-none, row-all}
+use Rattle.try_one.specs.Trying.{triedBlocks}
+use Rattle.try_one.specs.TryLaws.{blocks-none, row-all}
 use Rattle.try_plane.proofs.try_row.Statement.{statement}
 use Rattle.try_plane.proofs.try_row.Tie as tie
 

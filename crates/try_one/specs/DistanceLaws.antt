@@ -24,7 +24,7 @@ use Rattle.frame_shape.specs.FrameLaws.{tried-with, width-is, height-is}
 use Rattle.frame_shape.specs.BlockLaws.{plane-wide, plane-high, block-wide, block-high, cols-in, rows-in, sample-low}
 use Rattle.frame_shape.specs.Lent.{Sampled}
 use Rattle.try_totals.specs.Totals.{trialDistances}
-use Rattle.try_plane.specs.Trying.{triedDistance}
+use Rattle.try_one.specs.Trying.{triedDistance}
 use Rattle.try_blocks.specs.TrialBlocks.{trialBlocks, visiblePart}
 
 module _ (f : Frame) (h : Shaped f) (skip dirs vars : List ℕ) (by bx : ℕ) (hy : by < f .height / 8) (hx : bx < f .width / 8) where

@@ -1,4 +1,4 @@
--- `try_plane::try_block` meets its contract.
+-- `try_one::try_block` meets its contract.
 use mathlib.Core.Path.{_≡_, sym, ap, _∙_}
 use Prim.Native.Nat.{ℕ, _+_, _*_, _≤_, _<_}
 use native.Mathlib.Omega.{arith}
@@ -11,13 +11,13 @@ use Rattle.cdef_spec.specs.LoopForm.{signed}
 use Rattle.cdef_spec.specs.Picture.{Picture, planeWidth, blockWidth, counted, unitAt, units}
 use Rattle.frame_shape.specs.Frame.{pictureOf}
 use Rattle.try_totals.specs.Totals.{Low}
-use Rattle.try_plane.specs.Trying.{Ready}
+use Rattle.try_one.specs.Trying.{Ready}
 use Rattle.try_blocks.specs.TrialBlocks.{visiblePart}
 use Rattle.try_blocks.specs.TrialBlockLaws.{block-parts}
-use Rattle.try_plane.specs.DistanceLaws.{part-sides, part-step, part-held, begin-low, trials-held}
-use Rattle.try_plane.specs.TryLaws.{begun, blocks-pass, blocks-long, low, asked, units-low, base-in, added}
-use Rattle.try_plane.proofs.try_block.Statement.{statement}
-use Rattle.try_plane.proofs.try_block.Tie as tie
+use Rattle.try_one.specs.DistanceLaws.{part-sides, part-step, part-held, begin-low, trials-held}
+use Rattle.try_one.specs.TryLaws.{begun, blocks-pass, blocks-long, low, asked, units-low, base-in, added}
+use Rattle.try_one.proofs.try_block.Statement.{statement}
+use Rattle.try_one.proofs.try_block.Tie as tie
 
 abbrev picture : tie.Start → Picture
 picture s = let a = s .args in pictureOf (a .f) (a .skip .now) (a .dirs .now) (a .vars .now)

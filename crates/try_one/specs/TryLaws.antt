@@ -28,10 +28,10 @@ use Rattle.frame_shape.specs.FrameLaws.{side-facts}
 use Rattle.frame_shape.specs.BlockLaws.{counts-low, number-low}
 use Rattle.frame_shape.specs.Lent.{unitsOf}
 use Rattle.try_totals.specs.Totals.{plainOf, Low, trialDistances}
-use Rattle.try_plane.specs.Trying.{Ready, triedDistance, triedRows, triedBlocks}
+use Rattle.try_one.specs.Trying.{Ready, triedDistance, triedRows, triedBlocks}
 use Rattle.try_blocks.specs.TrialBlocks.{trialBlocks, visiblePart}
 use Rattle.try_totals.specs.TurnLaws.{plain-signed, low-signed}
-use Rattle.try_plane.specs.DistanceLaws.{distance-is, distance-low}
+use Rattle.try_one.specs.DistanceLaws.{distance-is, distance-low}
 
 -- a counted block begins inside the visible area
 pub begun : (q : Picture) (v : Visible) (by bx : ℕ) → counted q v by bx ≡ true → (by * blockHeight q ≤ visibleRows q v) × (bx * blockWidth q ≤ visibleCols q v)

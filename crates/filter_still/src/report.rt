@@ -3,10 +3,12 @@ ghost use Prim.Native.Nat.{_+_, _*_, _≤_, _<_};
 ghost use mathlib.Core.Path.{_≡_};
 ghost use lib.ListN.{length};
 use cdef_spec::UnitPair;
-use pgm::header::Header;
-use pgm::sizes;
-use still_steps::lists;
-use still_steps::lists::Counts;
+use still_files::say;
+use still_lists::Counts;
+use still_pgm::header::Header;
+use still_pgm::sizes;
+use still_steps::steps::Outcome;
+use still_steps::totals;
 
 fn heading(h: Header, n: Counts, pair: UnitPair) {
     print::number(h.width as u64);
@@ -79,7 +81,7 @@ fn outcome(trial: usize, tried: &[i64], measured: &[i64])
         print::text(b"nothing compared\n");
         return;
     }
-    let count = lists::differing(tried, measured, trial);
+    let count = totals::differing(tried, measured, trial);
     if count == 0 {
         print::text(b"all agree\n");
         return;
@@ -92,7 +94,19 @@ pub fn report(h: Header, n: Counts, pair: UnitPair, tried: &[i64], measured: &[i
     requires { ⌜ (length (now tried) ≡ 12 * length (now measured)) × (length (now measured) ≤ 4096) ⌝ }
 {
     heading(h, n, pair);
-    let trial = lists::trial_of(pair);
+    let trial = totals::trial_of(pair);
     units(trial, tried, measured);
     outcome(trial, tried, measured);
+}
+
+// Whether the calls were done; an error code is printed.
+pub fn is_filtered(outcome: Outcome) -> bool {
+    match outcome {
+        Outcome::Filtered => return true,
+        Outcome::PassRefused(n) => say::refusal(b"the direction pass", n),
+        Outcome::TryingRefused(n) => say::refusal(b"trying", n),
+        Outcome::ApplyingRefused(n) => say::refusal(b"applying", n),
+        Outcome::MeasuringRefused(n) => say::refusal(b"measuring", n),
+    }
+    false
 }

@@ -1,11 +1,11 @@
 // The damping and the pair out of the arguments.
 use cdef_spec::DampingChoice;
 use cdef_spec::UnitPair;
-use pgm::numbers;
-use pgm::numbers::Number;
 use still_files::say;
 use still_steps::damping;
 use still_steps::damping::DampingText;
+use still_text::numbers;
+use still_text::numbers::Number;
 
 // What the still is filtered with.
 pub struct Request {

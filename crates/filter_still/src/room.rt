@@ -3,18 +3,17 @@ ghost use Prim.Native.Nat.{_*_, _≤_};
 ghost use mathlib.Core.Path.{_≡_};
 ghost use mathlib.Core.Bool.{true};
 ghost use lib.ListN.{length};
-ghost use Rattle.pgm.specs.Sizes.{isTaken};
-ghost use Rattle.still_steps.specs.Lists.{Counted};
+ghost use Rattle.still_pgm.specs.Sizes.{isTaken};
+ghost use Rattle.still_lists.specs.Lists.{Counted};
 use crate::report;
 use crate::request::Request;
 use cdef_spec::Visible;
-use pgm::header::Header;
-use pgm::sizes;
 use still_files::files;
 use still_files::files::Picture;
 use still_files::say;
-use still_steps::lists;
-use still_steps::lists::Counts;
+use still_lists::Counts;
+use still_pgm::header::Header;
+use still_pgm::sizes;
 use still_steps::space;
 use still_steps::steps;
 use still_steps::steps::Job;
@@ -66,7 +65,7 @@ fn sized(
     requires { ⌜ isTaken (h .width) (h .height) ≡ true ⌝ }
     requires { ⌜ (length (now file) ≡ 1580000) × (length (now still) ≡ 786432) × (length (now original) ≡ 786432) × (length (now filtered) ≡ 786432) ⌝ }
 {
-    let n = lists::counts_of(h.width, h.height);
+    let n = still_lists::counts_of(h.width, h.height);
     let samples = n.samples;
     let units = n.units;
     let totals = n.totals;
@@ -110,7 +109,7 @@ fn run(
         counts: n,
     };
     let outcome = steps::calls(job, still, original, filtered, tried, measured);
-    if !say::is_filtered(outcome) {
+    if !report::is_filtered(outcome) {
         return;
     }
     if files::write_picture(h, filtered, file) {

@@ -3,14 +3,14 @@ ghost use Prim.Native.Nat.{_+_, _≤_};
 ghost use mathlib.Core.Path.{_≡_};
 ghost use mathlib.Core.Bool.{true};
 ghost use lib.ListN.{length};
-ghost use Rattle.pgm.specs.Sizes.{isTaken};
+ghost use Rattle.still_pgm.specs.Sizes.{isTaken};
 ghost use Rattle.still_files.specs.Pictures.{TakenPicture};
 use crate::say;
-use pgm::decode;
-use pgm::encode;
-use pgm::header;
-use pgm::header::Header;
-use pgm::sizes;
+use still_pgm::decode;
+use still_pgm::encode;
+use still_pgm::header;
+use still_pgm::header::Header;
+use still_pgm::sizes;
 
 // How many bytes of a file lie at the start of a buffer; whole: all of them.
 pub struct Bytes {

@@ -1,6 +1,5 @@
 // What is printed on stderr.
-use pgm::sizes::Fault;
-use still_steps::steps::Outcome;
+use still_pgm::sizes::Fault;
 
 pub fn text(s: &[u8]) {
     io::write_all(libc::STDERR_FILENO, s);
@@ -58,7 +57,7 @@ pub fn index(n: u8) {
 }
 
 // A rejected frame call: its error code (RULES, Questions) and what that means.
-fn refusal(call: &[u8], n: u8) {
+pub fn refusal(call: &[u8], n: u8) {
     code(call, n);
     match n {
         1 => text(b": the depth is not 8 to 12\n"),
@@ -69,16 +68,4 @@ fn refusal(call: &[u8], n: u8) {
         9 => text(b": a sample is above the maximum\n"),
         _ => text(b"\n"),
     }
-}
-
-// Whether the calls were done; an error code is printed.
-pub fn is_filtered(outcome: Outcome) -> bool {
-    match outcome {
-        Outcome::Filtered => return true,
-        Outcome::PassRefused(n) => refusal(b"the direction pass", n),
-        Outcome::TryingRefused(n) => refusal(b"trying", n),
-        Outcome::ApplyingRefused(n) => refusal(b"applying", n),
-        Outcome::MeasuringRefused(n) => refusal(b"measuring", n),
-    }
-    false
 }

@@ -6,9 +6,9 @@ use lib.Dec.{eqb}
 use Rattle.cdef_spec.specs.declared.SignalledDamping.{SignalledDamping}
 use Rattle.cdef_spec.specs.Answers.{Result, taken, refused}
 use Rattle.cdef_spec.specs.BlockCalls.{dampingOutcome}
-use Rattle.pgm.specs.declared.numbers.Number.{Number}
-use Rattle.pgm.specs.declared.numbers.Number.the-variants.{Value, NoNumber}
-use Rattle.pgm.specs.Number.{numberOf}
+use Rattle.still_text.specs.declared.numbers.Number.{Number}
+use Rattle.still_text.specs.declared.numbers.Number.the-variants.{Value, NoNumber}
+use Rattle.still_text.specs.Number.{numberOf}
 use Rattle.still_steps.specs.declared.damping.DampingText.{DampingText}
 use Rattle.still_steps.specs.declared.damping.DampingText.the-variants.{Signalled, Rejected, NotDamping}
 

@@ -13,10 +13,10 @@ use Rattle.cdef_spec.specs.declared.DampingAnswer.{DampingAnswer}
 use Rattle.cdef_spec.specs.declared.DampingAnswer.the-variants.{Damping, NoDamping}
 use Rattle.cdef_spec.specs.Answers.{readDamping}
 use Rattle.cdef_spec.specs.BlockCalls.{dampingOutcome}
-use Rattle.pgm.specs.declared.numbers.Number.{Number}
-use Rattle.pgm.specs.declared.numbers.Number.the-variants.{Value, NoNumber}
-use Rattle.pgm.specs.Text.{digitCount, decimal, most}
-use Rattle.pgm.specs.Number.{numberOf}
+use Rattle.still_text.specs.declared.numbers.Number.{Number}
+use Rattle.still_text.specs.declared.numbers.Number.the-variants.{Value, NoNumber}
+use Rattle.still_text.specs.Text.{digitCount, decimal, most}
+use Rattle.still_text.specs.Number.{numberOf}
 use Rattle.still_steps.specs.declared.damping.DampingText.the-variants.{Signalled, Rejected, NotDamping}
 use Rattle.still_steps.specs.Damping.{ofResult, lettered, dampingOf}
 

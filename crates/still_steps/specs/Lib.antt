@@ -1,5 +1,3 @@
 pub mod Damping
 pub mod DampingLaws
-pub mod Lists
-pub mod ListsLaws
 pub mod TrialLaws

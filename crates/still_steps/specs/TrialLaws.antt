@@ -10,7 +10,7 @@ use lib.ListN.{getD}
 use lib.IntN.{ℤ, pos, negsuc}
 use Rattle.cdef_spec.specs.Document01.{primaries, secondaries, indexOf, isTrialPair, trialNumber}
 use Rattle.agree_parts.specs.PartLaws.{no-secondary, primary-four, primary-low}
-use Rattle.still_steps.specs.Lists.{sameTotal, differ}
+use Rattle.still_lists.specs.Lists.{sameTotal, differ}
 
 -- ---- the trial number
 

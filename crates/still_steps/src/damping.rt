@@ -5,8 +5,8 @@ ghost use Rattle.cdef_spec.specs.BlockCalls.{dampingOutcome};
 ghost use Rattle.still_steps.specs.Damping.{ofResult, dampingOf};
 use cdef_spec::DampingAnswer;
 use cdef_spec::SignalledDamping;
-use pgm::numbers;
-use pgm::numbers::Number;
+use still_text::numbers;
+use still_text::numbers::Number;
 
 // A signalled damping; or the error code of a quality index that its call rejected; or the text is neither.
 pub enum DampingText {

@@ -1,11 +1,11 @@
 // The calls, one after the other: the direction pass, trying, applying, measuring. The first that is rejected ends them.
-ghost use Rattle.still_steps.specs.Lists.{Counted};
-use crate::lists::Counts;
+ghost use Rattle.still_lists.specs.Lists.{Counted};
 use crate::space;
 use cdef_spec::Answer;
 use cdef_spec::DampingChoice;
 use cdef_spec::UnitPair;
 use cdef_spec::Visible;
+use still_lists::Counts;
 
 // What a still is filtered with, its visible size, its depth and its counts.
 pub struct Job {

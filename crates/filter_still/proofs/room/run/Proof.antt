@@ -6,9 +6,9 @@ use Rattle.filter_still.proofs.room.run.Reads as reads
 use Rattle.filter_still.proofs.room.run.Lts as lts
 use Rattle.filter_still.proofs.report.report.Reads as report-reads
 use Rattle.filter_still.proofs.room.visible.Reads as visible-reads
-use Rattle.pgm.proofs.sizes.depth_of.Reads as depth-of-reads
+use Rattle.still_pgm.proofs.sizes.depth_of.Reads as depth-of-reads
 use Rattle.still_files.proofs.files.write_picture.Reads as write-picture-reads
-use Rattle.still_files.proofs.say.is_filtered.Reads as is-filtered-reads
+use Rattle.filter_still.proofs.report.is_filtered.Reads as is-filtered-reads
 use Rattle.still_steps.proofs.steps.calls.Reads as calls-reads
 
 visible-requires : tie.Need-visible-requires

@@ -3,13 +3,13 @@ use mathlib.Core.Path.{_≡_}
 use native.Mathlib.Omega.{arith}
 use borrow.Author.Needs.{needs}
 use lib.ListN.{length, take}
-use Rattle.still_steps.specs.ListsLaws.{part-length}
+use Rattle.still_lists.specs.ListsLaws.{part-length}
 use Rattle.filter_still.proofs.room.sized.Statement.{statement}
 use Rattle.filter_still.proofs.room.sized.Tie as tie
 use Rattle.filter_still.proofs.room.sized.Reads as reads
 use Rattle.filter_still.proofs.room.sized.Lts as lts
 use Rattle.filter_still.proofs.room.run.Reads as run-reads
-use Rattle.still_steps.proofs.lists.counts_of.Reads as counts-of-reads
+use Rattle.still_lists.proofs.counts_of.Reads as counts-of-reads
 use Rattle.still_steps.proofs.space.trial_totals.Reads as trial-totals-reads
 use Rattle.still_steps.proofs.space.unit_totals.Reads as unit-totals-reads
 

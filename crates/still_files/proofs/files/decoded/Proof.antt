@@ -3,15 +3,15 @@ use mathlib.Core.Path.{sym, _∙_}
 use borrow.Author.Tests.{not-false}
 use borrow.Author.Needs.{needs}
 use lib.ListN.{length}
-use Rattle.pgm.specs.SizesLaws.{sound-taken}
+use Rattle.still_pgm.specs.SizesLaws.{sound-taken}
 use Rattle.still_files.proofs.files.decoded.Statement.{statement}
 use Rattle.still_files.proofs.files.decoded.Tie as tie
 use Rattle.still_files.proofs.files.decoded.Reads as reads
 use Rattle.still_files.proofs.files.decoded.Lts as lts
 use Rattle.still_files.proofs.say.fault.Reads as fault-reads
-use Rattle.pgm.proofs.decode.decode.Reads as decode-reads
-use Rattle.pgm.proofs.header.header_of.Reads as header-of-reads
-use Rattle.pgm.proofs.sizes.is_sound.Reads as is-sound-reads
+use Rattle.still_pgm.proofs.decode.decode.Reads as decode-reads
+use Rattle.still_pgm.proofs.header.header_of.Reads as header-of-reads
+use Rattle.still_pgm.proofs.sizes.is_sound.Reads as is-sound-reads
 
 header-of-requires : tie.Need-header-of-requires
 header-of-requires c κs = search needs

@@ -1,7 +1,7 @@
 -- `still_files::files::read_picture` meets its contract.
 use native.Mathlib.Omega.{arith}
 use borrow.Author.Needs.{needs}
-use Rattle.still_steps.specs.ListsLaws.{part-length}
+use Rattle.still_lists.specs.ListsLaws.{part-length}
 use Rattle.still_files.proofs.files.read_picture.Statement.{statement}
 use Rattle.still_files.proofs.files.read_picture.Tie as tie
 use Rattle.still_files.proofs.files.read_picture.Reads as reads

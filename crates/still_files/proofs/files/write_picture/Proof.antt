@@ -2,16 +2,16 @@
 use Prim.Native.Nat.{_*_, _≤_}
 use native.Mathlib.Omega.{arith}
 use borrow.Author.Needs.{needs}
-use Rattle.still_steps.specs.ListsLaws.{part-length}
-use Rattle.pgm.specs.SizesLaws.{taken, step-range, samples-room, bytes-room}
+use Rattle.still_lists.specs.ListsLaws.{part-length}
+use Rattle.still_pgm.specs.SizesLaws.{taken, step-range, samples-room, bytes-room}
 use Rattle.still_files.proofs.files.write_picture.Statement.{statement}
 use Rattle.still_files.proofs.files.write_picture.Tie as tie
 use Rattle.still_files.proofs.files.write_picture.Reads as reads
 use Rattle.still_files.proofs.files.write_picture.Lts as lts
 use Rattle.still_files.proofs.files.write_file.Reads as write-file-reads
-use Rattle.pgm.proofs.encode.encode.Reads as encode-reads
-use Rattle.pgm.proofs.sizes.padded_side.Reads as padded-side-reads
-use Rattle.pgm.proofs.sizes.step_of.Reads as step-of-reads
+use Rattle.still_pgm.proofs.encode.encode.Reads as encode-reads
+use Rattle.still_pgm.proofs.sizes.padded_side.Reads as padded-side-reads
+use Rattle.still_pgm.proofs.sizes.step_of.Reads as step-of-reads
 
 -- the bytes of the samples
 room : (c : tie.After-struct-known) → let h = c .before .before .before .before .args .h in h .width * h .height * c .before .step-of .result ≤ 1572864

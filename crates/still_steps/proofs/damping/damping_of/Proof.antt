@@ -7,7 +7,7 @@ use Rattle.still_steps.proofs.damping.damping_of.Statement.{statement}
 use Rattle.still_steps.proofs.damping.damping_of.Tie as tie
 use Rattle.still_steps.proofs.damping.damping_of.Reads as reads
 use Rattle.still_steps.proofs.damping.damping_of.Lts as lts
-use Rattle.pgm.proofs.numbers.number_of.Reads as number-of-reads
+use Rattle.still_text.proofs.numbers.number_of.Reads as number-of-reads
 use Rattle.still_steps.proofs.damping.of_index.Reads as of-index-reads
 use Rattle.still_steps.proofs.damping.small.Reads as small-reads
 

@@ -1,7 +1,7 @@
 -- `still_steps::steps::apply` meets its contract.
 use native.Mathlib.Omega.{arith}
 use borrow.Author.Needs.{needs}
-use Rattle.still_steps.specs.ListsLaws.{part-length}
+use Rattle.still_lists.specs.ListsLaws.{part-length}
 use Rattle.still_steps.proofs.steps.apply.Statement.{statement}
 use Rattle.still_steps.proofs.steps.apply.Tie as tie
 use Rattle.still_steps.proofs.steps.apply.Reads as reads

@@ -125,7 +125,7 @@ fn luma(
     let mut vars = [400000u32; 153];
     directions(number, snapshot, &mut dirs, &mut vars);
     if as_pairs {
-        return lend_pairs::agree::agree_luma(
+        return testlib_lend::agree_luma(
             tried,
             &mut [0u16; 9792],
             measured,
@@ -197,7 +197,7 @@ fn chroma(
     let mut scratch = [0u16; 576];
     let m = testlib_pictures::part(number, &scratch);
     if as_pairs {
-        return lend_pairs::agree::agree_chroma(
+        return testlib_lend::agree_chroma(
             tried,
             &mut dst[..n],
             measured,

@@ -6,52 +6,25 @@ use cdef_spec::SignalledDamping;
 use cdef_spec::UnitPair;
 
 pub fn lines() {
-    few(0, 4, 2);
-    few(1, 4, 2);
-    few(2, 4, 2);
-    few(3, 4, 2);
-    few(2, 16, 0);
-    few(2, 0, 3);
-    few(3, 16, 3);
-    many(2);
-    many(4096);
-    many(4097);
-    many(4100);
+    applied(0, 4, 2);
+    applied(1, 4, 2);
+    applied(2, 4, 2);
+    applied(3, 4, 2);
+    applied(2, 16, 0);
+    applied(2, 0, 3);
+    applied(3, 16, 3);
+    applied(2, 4, 2);
+    applied(4096, 4, 2);
+    applied(4097, 4, 2);
+    applied(4100, 4, 2);
 }
 
-fn five() -> DampingChoice {
-    DampingChoice::Given(SignalledDamping(5))
-}
-
-fn few(n: usize, primary: u8, secondary: u8)
-    requires { ⌜ n ≤ 128 ⌝ }
-{
-    let pair = UnitPair { primary, secondary };
-    let answer = lend_pairs::apply::apply_luma(
-        &mut [0u16; 8192],
-        &[100u16; 8192],
-        64,
-        128,
-        8,
-        &[0u8; 128],
-        &[0u8; 128],
-        &[0u32; 128],
-        n,
-        [pair; 128],
-        five(),
-    );
-    line(n, pair, answer);
-}
-
-// More pairs than any picture has units.
-fn many(n: usize)
+// The last are more pairs than any picture has units.
+fn applied(n: usize, primary: u8, secondary: u8)
     requires { ⌜ n ≤ 4100 ⌝ }
 {
-    let pair = UnitPair {
-        primary: 4,
-        secondary: 2,
-    };
-    let answer = lend_pairs::long::apply_luma(
+    let pair = UnitPair { primary, secondary };
+    let answer = testlib_lend::apply_luma(
         &mut [0u16; 8192],
         &[100u16; 8192],
         64,
@@ -62,7 +35,7 @@ fn many(n: usize)
         &[0u32; 128],
         n,
         [pair; 4100],
-        five(),
+        DampingChoice::Given(SignalledDamping(5)),
     );
     line(n, pair, answer);
 }

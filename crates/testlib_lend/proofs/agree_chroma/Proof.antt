@@ -1,4 +1,4 @@
--- `lend_pairs::agree::agree_chroma` meets its contract: a proof by hand over its MIR, step by step. walks/write generates this file.
+-- `testlib_lend::agree_chroma` meets its contract: a proof by hand over its MIR, step by step. walks/write generates this file.
 -- The array is borrowed as a slice for a lifetime created for the call, and owned in full again once that lifetime has ended.
 use mathlib.Core.Path.{_≡_, refl, sym, _∙_}
 use mathlib.Core.List.{List, [], _∷_}
@@ -69,10 +69,10 @@ use Rattle.cdef_agree.proofs.chroma.agree_chroma as callee
 use Rattle.cdef_agree.proofs.chroma.agree_chroma.Symbol as callee-def
 use Rattle.cdef_agree.proofs.chroma.agree_chroma.Symbol.{name as #callee}
 use Rattle.cdef_agree.proofs.chroma.agree_chroma.Met as callee-thm
-use Rattle.lend_pairs.proofs.agree.agree_chroma.Key.{name as #call}
-use Rattle.lend_pairs.proofs.agree.agree_chroma as fun
-use Rattle.lend_pairs.proofs.agree.agree_chroma.Statement as stated
-use Rattle.lend_pairs.proofs.agree.agree_chroma.Code as code
+use Rattle.testlib_lend.proofs.agree_chroma.Key.{name as #call}
+use Rattle.testlib_lend.proofs.agree_chroma as fun
+use Rattle.testlib_lend.proofs.agree_chroma.Statement as stated
+use Rattle.testlib_lend.proofs.agree_chroma.Code as code
 
 abbrev R : RattleType
 R = theUnitPair.the-row

@@ -1,4 +1,4 @@
--- `lend_pairs::agree::agree_luma` meets its contract: a proof by hand over its MIR, step by step. walks/write generates this file.
+-- `testlib_lend::agree_luma` meets its contract: a proof by hand over its MIR, step by step. walks/write generates this file.
 -- The array is borrowed as a slice for a lifetime created for the call, and owned in full again once that lifetime has ended.
 use mathlib.Core.Path.{_≡_, refl, sym, _∙_}
 use mathlib.Core.List.{List, [], _∷_}
@@ -69,10 +69,10 @@ use Rattle.cdef_agree.proofs.luma.agree_luma as callee
 use Rattle.cdef_agree.proofs.luma.agree_luma.Symbol as callee-def
 use Rattle.cdef_agree.proofs.luma.agree_luma.Symbol.{name as #callee}
 use Rattle.cdef_agree.proofs.luma.agree_luma.Met as callee-thm
-use Rattle.lend_pairs.proofs.agree.agree_luma.Key.{name as #call}
-use Rattle.lend_pairs.proofs.agree.agree_luma as fun
-use Rattle.lend_pairs.proofs.agree.agree_luma.Statement as stated
-use Rattle.lend_pairs.proofs.agree.agree_luma.Code as code
+use Rattle.testlib_lend.proofs.agree_luma.Key.{name as #call}
+use Rattle.testlib_lend.proofs.agree_luma as fun
+use Rattle.testlib_lend.proofs.agree_luma.Statement as stated
+use Rattle.testlib_lend.proofs.agree_luma.Code as code
 
 abbrev R : RattleType
 R = theUnitPair.the-row

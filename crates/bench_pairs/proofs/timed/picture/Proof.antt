@@ -1,13 +1,13 @@
--- `pairs_time::picture` meets its contract.
+-- `bench_pairs::picture` meets its contract.
 use mathlib.Core.Path.{_≡_}
 use Prim.Native.Nat.{ℕ, _-_, _≤_, _<_}
 use native.Mathlib.Omega.{arith}
 use borrow.Author.Needs.{needs}
 use lib.ListN.{length, length-set, length-replicate}
-use Rattle.pairs_time.proofs.timed.picture.Statement.{statement}
-use Rattle.pairs_time.proofs.timed.picture.Tie as tie
-use Rattle.pairs_time.proofs.timed.picture.Reads as reads
-use Rattle.pairs_time.proofs.timed.picture.Lts as lts
+use Rattle.bench_pairs.proofs.timed.picture.Statement.{statement}
+use Rattle.bench_pairs.proofs.timed.picture.Tie as tie
+use Rattle.bench_pairs.proofs.timed.picture.Reads as reads
+use Rattle.bench_pairs.proofs.timed.picture.Lts as lts
 
 abbrev Inv-loop : tie.InvT-loop
 Inv-loop samples₀ k₀ samples k = (length samples ≡ 307200) × (k ≤ 307200)

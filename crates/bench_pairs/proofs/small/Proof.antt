@@ -1,14 +1,14 @@
--- `pairs_time::small` meets its contract.
+-- `bench_pairs::small` meets its contract.
 use mathlib.Core.Path.{_≡_}
 use Prim.Native.Nat.{ℕ, _-_, _≤_, _<_}
 use native.Mathlib.Omega.{arith}
 use borrow.Author.Needs.{needs}
 use lib.ListN.{length, length-set, length-replicate}
-use Rattle.pairs_time.proofs.small.Statement.{statement}
-use Rattle.pairs_time.proofs.small.Tie as tie
-use Rattle.pairs_time.proofs.small.Reads as reads
-use Rattle.pairs_time.proofs.small.Lts as lts
-use Rattle.pairs_time.proofs.one_block.Reads as one-block-reads
+use Rattle.bench_pairs.proofs.small.Statement.{statement}
+use Rattle.bench_pairs.proofs.small.Tie as tie
+use Rattle.bench_pairs.proofs.small.Reads as reads
+use Rattle.bench_pairs.proofs.small.Lts as lts
+use Rattle.bench_pairs.proofs.one_block.Reads as one-block-reads
 
 abbrev Inv-loop : tie.InvT-loop
 Inv-loop k₀ k = k ≤ 25

@@ -6,7 +6,7 @@ ghost use Prim.Native.Nat.{_≤_};
 
 fn main() {
     if os::arg_count() < 2 {
-        print::text(b"pairs_time run: times the two forms of applying\n");
+        print::text(b"bench_pairs run: times the two forms of applying\n");
         return;
     }
     small();

@@ -1,15 +1,15 @@
--- `pairs_time::as_pairs` meets its contract.
+-- `bench_pairs::as_pairs` meets its contract.
 use mathlib.Core.Path.{_≡_, refl}
 use Prim.Native.Nat.{ℕ, _-_, _≤_, _<_}
 use native.Mathlib.Omega.{arith}
 use borrow.Author.Needs.{needs}
 use lib.ListN.{length, length-set, length-replicate}
-use Rattle.pairs_time.proofs.timed.as_pairs.Statement.{statement}
-use Rattle.pairs_time.proofs.timed.as_pairs.Tie as tie
-use Rattle.pairs_time.proofs.timed.as_pairs.Reads as reads
-use Rattle.pairs_time.proofs.timed.as_pairs.Lts as lts
+use Rattle.bench_pairs.proofs.timed.as_pairs.Statement.{statement}
+use Rattle.bench_pairs.proofs.timed.as_pairs.Tie as tie
+use Rattle.bench_pairs.proofs.timed.as_pairs.Reads as reads
+use Rattle.bench_pairs.proofs.timed.as_pairs.Lts as lts
 use Rattle.lend_pairs.proofs.apply.apply_luma.Reads as apply-luma-reads
-use Rattle.pairs_time.proofs.timed.done.Reads as done-reads
+use Rattle.bench_pairs.proofs.timed.done.Reads as done-reads
 
 abbrev Inv-loop : tie.InvT-loop
 Inv-loop calls dst₀ snapshot width height skip dirs vars n a k₀ dst k = (length dst ≡ length dst₀) × (k ≤ calls)

@@ -1,16 +1,16 @@
--- `pairs_time::whole` meets its contract.
+-- `bench_pairs::whole` meets its contract.
 use mathlib.Core.Path.{_≡_}
 use Prim.Native.Nat.{ℕ, _-_, _≤_, _<_}
 use native.Mathlib.Omega.{arith}
 use borrow.Author.Needs.{needs}
 use lib.ListN.{length, length-set, length-replicate}
-use Rattle.pairs_time.proofs.whole.Statement.{statement}
-use Rattle.pairs_time.proofs.whole.Tie as tie
-use Rattle.pairs_time.proofs.whole.Reads as reads
-use Rattle.pairs_time.proofs.whole.Lts as lts
+use Rattle.bench_pairs.proofs.whole.Statement.{statement}
+use Rattle.bench_pairs.proofs.whole.Tie as tie
+use Rattle.bench_pairs.proofs.whole.Reads as reads
+use Rattle.bench_pairs.proofs.whole.Lts as lts
 use Rattle.cdef.proofs.directions.direction_pass.Reads as direction-pass-reads
-use Rattle.pairs_time.proofs.timed.both.Reads as both-reads
-use Rattle.pairs_time.proofs.timed.picture.Reads as picture-reads
+use Rattle.bench_pairs.proofs.timed.both.Reads as both-reads
+use Rattle.bench_pairs.proofs.timed.picture.Reads as picture-reads
 use Rattle.print.proofs.text.Reads as text-reads
 
 abbrev Inv-loop : tie.InvT-loop

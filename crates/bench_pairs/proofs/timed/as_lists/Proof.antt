@@ -1,16 +1,16 @@
--- `pairs_time::as_lists` meets its contract.
+-- `bench_pairs::as_lists` meets its contract.
 use mathlib.Core.Path.{_≡_, refl, sym}
 use Prim.Native.Nat.{ℕ, _-_, _≤_, _<_}
 use native.Mathlib.Omega.{arith}
 use borrow.Author.Needs.{needs}
 use lib.ListN.{length}
 use lib.Seq.{length-take-le}
-use Rattle.pairs_time.proofs.timed.as_lists.Statement.{statement}
-use Rattle.pairs_time.proofs.timed.as_lists.Tie as tie
-use Rattle.pairs_time.proofs.timed.as_lists.Reads as reads
-use Rattle.pairs_time.proofs.timed.as_lists.Lts as lts
+use Rattle.bench_pairs.proofs.timed.as_lists.Statement.{statement}
+use Rattle.bench_pairs.proofs.timed.as_lists.Tie as tie
+use Rattle.bench_pairs.proofs.timed.as_lists.Reads as reads
+use Rattle.bench_pairs.proofs.timed.as_lists.Lts as lts
 use Rattle.cdef.proofs.applying_lists.apply_luma.Reads as apply-luma-reads
-use Rattle.pairs_time.proofs.timed.done.Reads as done-reads
+use Rattle.bench_pairs.proofs.timed.done.Reads as done-reads
 
 abbrev Inv-loop : tie.InvT-loop
 Inv-loop calls dst₀ snapshot width height skip dirs vars n pris secs k₀ dst k = (length dst ≡ length dst₀) × (k ≤ calls)

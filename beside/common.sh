@@ -122,13 +122,18 @@ check_sample() {
     [ "$different" = 0 ]
 }
 
-# Compares what the program agreement or, with --unstated, agreement_unstated printed with the
-# reference's answers: check_agreement STORED-FILE [--own-map | --unstated]
+# The headings of the parts of what the program test_agreement printed.
+as_lists='pairs as two lists'
+as_slice='pairs as one slice'
+not_stated='tried with no damping stated, applied with damping 3'
+
+# Compares the part under a heading with the reference's answers:
+# check_agreement STORED-FILE HEADING [--own-map | --unstated]
 check_agreement() {
-    printed=$1
-    shift
+    awk -v heading="$2" '/^(pairs as|tried with|lists of) / { on = $0 == heading; next } on' "$1" >"$out/part"
+    shift 2
     "$out/made" "$@" >"$out/made.txt" || fail "made failed"
-    lines_apart agreement "$printed" "$out/made.txt"
+    lines_apart agreement "$out/part" "$out/made.txt"
     echo "agreement${1:+ $1}: $(wc -l <"$out/made.txt") lines, $count different"
     [ "$count" = 0 ]
 }

@@ -1,7 +1,7 @@
-//! Prints, by the reference's answers alone, what the program `agreement` of this repository
-//! prints: made [--own-map | --unstated]. The pictures are those of the crate `made_pictures`.
+//! Prints, by the reference's answers alone, what the program `test_agreement` of this repository
+//! prints: made [--own-map | --unstated]. The pictures are those of the crate `testlib_pictures`.
 //! `--own-map` gives the reference its own chroma direction map; with `--unstated` it prints
-//! what the program `agreement_unstated` prints.
+//! what the program prints of the pictures tried with no damping stated.
 
 mod picture;
 mod report;
@@ -100,7 +100,10 @@ fn agree(
     original: &[u16],
     functions: (Try, Measure, Apply),
 ) {
-    let agreed = lines(f, number, snapshot, original, functions);
+    told(lines(f, number, snapshot, original, functions));
+}
+
+fn told(agreed: bool) {
     println!("{}", if agreed { "all agree" } else { "different" });
 }
 

@@ -1,4 +1,4 @@
-//! The samples and lists of a synthetic picture of 72 by 136, as in the crate `made_pictures`.
+//! The samples and lists of a synthetic picture of 72 by 136, as in the crate `testlib_pictures`.
 
 pub const WIDTH: usize = 72;
 pub const HEIGHT: usize = 136;

@@ -1,24 +1,28 @@
 -- `bench_pairs::as_pairs` meets its contract.
-use mathlib.Core.Path.{_≡_, refl}
-use Prim.Native.Nat.{ℕ, _-_, _≤_, _<_}
+use Prim.Native.Nat.{_-_}
 use native.Mathlib.Omega.{arith}
 use borrow.Author.Needs.{needs}
-use lib.ListN.{length, length-set, length-replicate}
-use Rattle.bench_pairs.proofs.timed.as_pairs.Statement.{statement}
-use Rattle.bench_pairs.proofs.timed.as_pairs.Tie as tie
-use Rattle.bench_pairs.proofs.timed.as_pairs.Reads as reads
-use Rattle.bench_pairs.proofs.timed.as_pairs.Lts as lts
+use lib.ListN.{length}
+use mathlib.Core.Path.{_≡_}
+use Rattle.bench_pairs.proofs.as_pairs.Statement.{statement}
+use Rattle.bench_pairs.proofs.as_pairs.Tie as tie
+use Rattle.bench_pairs.proofs.as_pairs.Reads as reads
+use Rattle.bench_pairs.proofs.as_pairs.Lts as lts
+use Rattle.bench_pairs.proofs.done.Reads as done-reads
+use Rattle.bench_pairs.proofs.five.Reads as five-reads
 use Rattle.lend_pairs.proofs.apply.apply_luma.Reads as apply-luma-reads
-use Rattle.bench_pairs.proofs.timed.done.Reads as done-reads
 
 abbrev Inv-loop : tie.InvT-loop
-Inv-loop calls dst₀ snapshot width height skip dirs vars n a k₀ dst k = (length dst ≡ length dst₀) × (k ≤ calls)
+Inv-loop calls dst₀ snapshot width height zeros vars n a k₀ dst k = length dst ≡ length dst₀
 
 abbrev μ-loop : tie.MeasureT-loop
-μ-loop calls dst₀ snapshot width height skip dirs vars n a k₀ dst k = calls - k
+μ-loop calls dst₀ snapshot width height zeros vars n a k₀ dst k = calls - k
 
 loop-holds : tie.Need-loop-holds Inv-loop μ-loop
-loop-holds c = (refl, omega arith)
+loop-holds c = omega arith
+
+five-requires : tie.Need-five-requires Inv-loop μ-loop
+five-requires c κs = search needs
 
 apply-luma-requires : tie.Need-apply-luma-requires Inv-loop μ-loop
 apply-luma-requires c κs = search needs
@@ -33,13 +37,13 @@ loop-less : tie.Need-loop-less Inv-loop μ-loop
 loop-less c = omega arith
 
 loop-again : tie.Need-loop-again Inv-loop μ-loop
-loop-again c = (omega arith, omega arith)
+loop-again c = omega arith
 
 same-length : tie.Need-same-length Inv-loop μ-loop
 same-length c = omega arith
 
 returns : tie.Need-returns Inv-loop μ-loop
-returns c = search needs
+returns c = omega arith
 
 pub as-pairs-spec : {M : Type 1} → statement M
 as-pairs-spec =
@@ -48,6 +52,7 @@ as-pairs-spec =
     Inv-loop
     μ-loop
     loop-holds
+    five-requires
     apply-luma-requires
     done-requires
     add-k

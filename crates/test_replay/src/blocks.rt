@@ -12,22 +12,6 @@ use testlib_lines::samples;
 // The most samples of a plane or of a destination that a case can have here.
 const MOST: usize = 8192;
 
-// A number of a line, 0 where it is above 8,192.
-fn side(line: &[u8], k: usize) -> usize
-    ensures { λ r. ⌜ r ≤ 8192 ⌝ }
-{
-    let side = testlib_lines::size(line, k);
-    if 8192 < side {
-        return 0;
-    }
-    side
-}
-
-// The samples of a plane or block whose sides are two numbers of a line.
-fn area(line: &[u8], j: usize, k: usize) -> usize {
-    side(line, j) * side(line, k)
-}
-
 // depth width height x y code direction variance, and the plane
 pub fn direction(line: &[u8]) -> bool {
     let mut plane = [0u16; MOST];
@@ -46,7 +30,9 @@ pub fn direction(line: &[u8]) -> bool {
 }
 
 fn found(line: &[u8], code: u64, direction: u64, variance: u64) -> bool {
-    numbers::is(line, 5, code) && numbers::is(line, 6, direction) && numbers::is(line, 7, variance)
+    testlib_lines::is(line, 5, code)
+        && testlib_lines::is(line, 6, direction)
+        && testlib_lines::is(line, 7, variance)
 }
 
 // x y width height of the block, behind three numbers
@@ -75,9 +61,9 @@ pub fn filter(line: &[u8]) -> bool {
     let mut plane = [0u16; MOST];
     let mut dst = [0u16; MOST];
     let planes = testlib_lines::place(line, 14);
-    let n = samples::taken(line, planes, area(line, 1, 2), &mut plane);
+    let n = samples::taken(line, planes, testlib_lines::area(line, 1, 2), &mut plane);
     let before = testlib_lines::behind(line, planes, n);
-    let m = samples::taken(line, before, area(line, 1, 8), &mut dst);
+    let m = samples::taken(line, before, testlib_lines::area(line, 1, 8), &mut dst);
     let after = testlib_lines::behind(line, before, m);
     filtered(line, after, &mut dst[..m], &plane[..n])
 }
@@ -94,7 +80,8 @@ fn filtered(line: &[u8], after: usize, dst: &mut [u16], plane: &[u16]) -> bool
         block(line),
         params(line),
     );
-    numbers::is(line, 13, numbers::code(answer)) && samples::same_in_blocks(line, after, 64, 0, dst)
+    testlib_lines::is(line, 13, numbers::code(answer))
+        && samples::same_in_blocks(line, after, 64, 0, dst)
 }
 
 // depth width height x y bw bh luma variance dir damping places held code,
@@ -104,7 +91,7 @@ pub fn trial(line: &[u8]) -> bool {
     let held = (testlib_lines::number(line, 12) % 65536) as u16;
     let mut out = [held; 1024];
     let planes = testlib_lines::place(line, 14);
-    let n = samples::taken(line, planes, area(line, 1, 2), &mut plane);
+    let n = samples::taken(line, planes, testlib_lines::area(line, 1, 2), &mut plane);
     let after = testlib_lines::behind(line, planes, n);
     let places = samples::least(testlib_lines::size(line, 11), &out);
     tried(line, after, &mut out[..places], &plane[..n])
@@ -125,20 +112,20 @@ fn tried(line: &[u8], after: usize, out: &mut [u16], plane: &[u16]) -> bool
         testlib_lines::byte(line, 0),
     );
     let held = testlib_lines::number(line, 12);
-    numbers::is(line, 13, numbers::code(answer))
+    testlib_lines::is(line, 13, numbers::code(answer))
         && samples::same_in_blocks(line, after, stored(line), held, out)
 }
 
 // The samples of each trial block that a line has stored: none where the call is rejected.
 fn stored(line: &[u8]) -> usize {
-    if numbers::is(line, 13, 0) {
-        return area(line, 5, 6);
+    if testlib_lines::is(line, 13, 0) {
+        return testlib_lines::area(line, 5, 6);
     }
     0
 }
 
 fn way(line: &[u8]) -> TrialWay {
-    if numbers::is(line, 7, 0) {
+    if testlib_lines::is(line, 7, 0) {
         return TrialWay::Chroma;
     }
     TrialWay::Luma(testlib_lines::word(line, 8))

@@ -30,8 +30,8 @@ fn applied(line: &[u8], dst: &mut [u16], plane: &[u16]) -> bool {
         &[testlib_lines::byte(line, 5)],
         damping(testlib_lines::byte(line, 6)),
     );
-    numbers::is(line, 8, numbers::code(answer))
-        && numbers::is(line, 9, sample(dst, testlib_lines::size(line, 7)))
+    testlib_lines::is(line, 8, numbers::code(answer))
+        && testlib_lines::is(line, 9, samples::at(dst, testlib_lines::size(line, 7)))
 }
 
 fn damping(stored: u8) -> DampingChoice {
@@ -39,15 +39,4 @@ fn damping(stored: u8) -> DampingChoice {
         return DampingChoice::Unstated;
     }
     DampingChoice::Given(SignalledDamping(stored))
-}
-
-fn wide(sample: u16) -> u64 {
-    sample as u64
-}
-
-fn sample(plane: &[u16], at: usize) -> u64 {
-    if at < plane.len() {
-        return wide(plane[at]);
-    }
-    testlib_lines::NONE
 }

@@ -1,6 +1,5 @@
 // The calls on two blocks.
 // depth width height x y code answer, and the original plane and the other one, as many samples each
-use crate::numbers;
 use cdef_spec::DistanceAnswer;
 use testlib_lines::samples;
 
@@ -25,9 +24,10 @@ pub fn same(line: &[u8], plain: bool) -> bool {
 
 fn answered(line: &[u8], answer: DistanceAnswer) -> bool {
     match answer {
-        DistanceAnswer::Distance(d) => numbers::is(line, 5, 0)
+        DistanceAnswer::Distance(d) => testlib_lines::is(line, 5, 0)
             && d == testlib_lines::number(line, 6) as i64,
-        DistanceAnswer::NoDistance(n) => numbers::is(line, 5, n as u64) && numbers::is(line, 6, 0),
+        DistanceAnswer::NoDistance(n) => testlib_lines::is(line, 5, n as u64)
+            && testlib_lines::is(line, 6, 0),
     }
 }
 

@@ -30,10 +30,7 @@ fn file(line: &[u8]) {
     let mut space = testlib_lines::file_space();
     let n = testlib_lines::read_file(&line[2..], &mut space);
     let same = replayed(testlib_lines::number(line, 0), &space[..n]);
-    io::write_all(1, &line[2..]);
-    io::write_all(1, b": as stored ");
-    io::print_decimal(1, same as u64);
-    io::write_all(1, b"\n");
+    testlib_lines::told(&line[2..], same as u64);
 }
 
 // How many cases of a text return what is stored.

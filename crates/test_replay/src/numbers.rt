@@ -1,5 +1,4 @@
 // The calls on numbers.
-ghost use Prim.Native.Nat.{_≤_};
 use cdef_spec::Answer;
 use cdef_spec::DampingAnswer;
 use cdef_spec::DifferenceAnswer;
@@ -26,20 +25,6 @@ fn signed(line: &[u8], k: usize) -> i32 {
     as_i32(false, testlib_lines::value_at(line, at))
 }
 
-// Whether the k-th number is this one.
-pub fn is(line: &[u8], k: usize, n: u64) -> bool {
-    testlib_lines::number(line, k) == n
-}
-
-// Whether the numbers from the k-th on are an error code and an answer and no more.
-fn ends(line: &[u8], k: usize, code: u8, answer: u64) -> bool
-    requires { ⌜ k ≤ 3 ⌝ }
-{
-    is(line, k, code as u64)
-        && is(line, k + 1, answer)
-        && testlib_lines::place(line, k + 2) == line.len()
-}
-
 // An answer as an error code; 0 where the work is done.
 pub fn code(answer: Answer) -> u64 {
     match answer {
@@ -53,32 +38,32 @@ pub fn constrain(line: &[u8]) -> bool {
     let difference = signed(line, 0);
     let damping = WorkingDamping(testlib_lines::byte(line, 2));
     match cdef_blocks::numbers::constrain(difference, testlib_lines::word(line, 1), damping) {
-        DifferenceAnswer::Difference(d) => is(line, 3, 0)
+        DifferenceAnswer::Difference(d) => testlib_lines::is(line, 3, 0)
             && d == signed(line, 4)
             && testlib_lines::place(line, 5) == line.len(),
-        DifferenceAnswer::NoDifference(n) => ends(line, 3, n, 0),
+        DifferenceAnswer::NoDifference(n) => testlib_lines::ends(line, 3, n, 0),
     }
 }
 
 // strength variance code answer
 pub fn adjust(line: &[u8]) -> bool {
     match cdef_blocks::numbers::adjust(testlib_lines::word(line, 0), testlib_lines::word(line, 1)) {
-        StrengthAnswer::Strength(s) => ends(line, 2, 0, s as u64),
-        StrengthAnswer::NoStrength(n) => ends(line, 2, n, 0),
+        StrengthAnswer::Strength(s) => testlib_lines::ends(line, 2, 0, s as u64),
+        StrengthAnswer::NoStrength(n) => testlib_lines::ends(line, 2, n, 0),
     }
 }
 
 // index code answer
 pub fn damping(line: &[u8]) -> bool {
     match cdef_blocks::numbers::damping(testlib_lines::word(line, 0)) {
-        DampingAnswer::Damping(d) => ends(line, 1, 0, d.0 as u64),
-        DampingAnswer::NoDamping(n) => ends(line, 1, n, 0),
+        DampingAnswer::Damping(d) => testlib_lines::ends(line, 1, 0, d.0 as u64),
+        DampingAnswer::NoDamping(n) => testlib_lines::ends(line, 1, n, 0),
     }
 }
 
 // v code answer: nothing is rejected
 pub fn log2(line: &[u8]) -> bool {
-    ends(
+    testlib_lines::ends(
         line,
         1,
         0,

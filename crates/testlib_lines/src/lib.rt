@@ -137,3 +137,39 @@ pub fn word(line: &[u8], k: usize) -> u32 {
 pub fn byte(line: &[u8], k: usize) -> u8 {
     (number(line, k) % 256) as u8
 }
+
+// Whether the number that k numbers precede is this one.
+pub fn is(line: &[u8], k: usize, n: u64) -> bool {
+    number(line, k) == n
+}
+
+// Whether the numbers from there on are an error code and an answer and no more.
+pub fn ends(line: &[u8], k: usize, code: u8, answer: u64) -> bool
+    requires { ⌜ k ≤ 3 ⌝ }
+{
+    is(line, k, code as u64) && is(line, k + 1, answer) && place(line, k + 2) == line.len()
+}
+
+// A side, 0 where it is above 8,192.
+fn side(line: &[u8], k: usize) -> usize
+    ensures { λ r. ⌜ r ≤ 8192 ⌝ }
+{
+    let side = size(line, k);
+    if 8192 < side {
+        return 0;
+    }
+    side
+}
+
+// The samples of a plane or block whose sides are two numbers of a line.
+pub fn area(line: &[u8], j: usize, k: usize) -> usize {
+    side(line, j) * side(line, k)
+}
+
+// Prints a file's name and how many of its cases return what is stored.
+pub fn told(path: &[u8], cases: u64) {
+    io::write_all(1, path);
+    io::write_all(1, b": as stored ");
+    io::print_decimal(1, cases);
+    io::write_all(1, b"\n");
+}

@@ -68,3 +68,15 @@ pub fn same_in_blocks(line: &[u8], from: usize, stored: usize, held: u64, list: 
     }
     at == line.len()
 }
+
+fn wide(sample: u16) -> u64 {
+    sample as u64
+}
+
+// The sample at a position of a list, NONE past its end.
+pub fn at(list: &[u16], k: usize) -> u64 {
+    if k < list.len() {
+        return wide(list[k]);
+    }
+    crate::NONE
+}

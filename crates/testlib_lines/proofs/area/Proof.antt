@@ -1,13 +1,12 @@
--- `test_replay::blocks::area` meets its contract.
+-- `testlib_lines::area` meets its contract.
 use native.Mathlib.Omega.{arith}
-use borrow.Author.Needs.{needs}
 use native.Mathlib.Nat.{mul-le-mul}
 use borrow.Author.Needs.{needs}
-use Rattle.test_replay.proofs.blocks.area.Statement.{statement}
-use Rattle.test_replay.proofs.blocks.area.Tie as tie
-use Rattle.test_replay.proofs.blocks.area.Reads as reads
-use Rattle.test_replay.proofs.blocks.area.Lts as lts
-use Rattle.test_replay.proofs.blocks.side.Reads as side-reads
+use Rattle.testlib_lines.proofs.area.Statement.{statement}
+use Rattle.testlib_lines.proofs.area.Tie as tie
+use Rattle.testlib_lines.proofs.area.Reads as reads
+use Rattle.testlib_lines.proofs.area.Lts as lts
+use Rattle.testlib_lines.proofs.side.Reads as side-reads
 
 side-requires : tie.Need-side-requires
 side-requires c κs = search needs

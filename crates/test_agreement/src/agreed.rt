@@ -1,5 +1,7 @@
 // Trying, applying and measuring a picture with six pairs, passed as one slice of structs or as two lists.
 ghost use Prim.Native.Nat.{_≤_, _<_};
+use crate::chroma;
+use crate::luma;
 use agree_lists::Agreement;
 use cdef_spec::DampingAnswer;
 use cdef_spec::DampingChoice;
@@ -9,7 +11,7 @@ use cdef_spec::Visible;
 use testlib_pictures::lists;
 use testlib_pictures::picture;
 
-fn visible() -> Visible {
+pub fn visible() -> Visible {
     Visible {
         width: 70,
         height: 131,
@@ -62,7 +64,7 @@ fn made(
 ) -> Agreement {
     planes(number, snapshot, original);
     if testlib_pictures::is_luma(number) {
-        return luma(
+        return luma::luma(
             as_pairs,
             number,
             damping,
@@ -72,7 +74,7 @@ fn made(
             original,
         );
     }
-    chroma(
+    chroma::chroma(
         as_pairs,
         number,
         damping,
@@ -102,7 +104,7 @@ fn planes(number: u32, snapshot: &mut [u16], original: &mut [u16]) {
 }
 
 // The directions and variances of luma, or each of the eight directions in turn.
-fn directions(number: u32, luma: &[u16], dirs: &mut [u8], vars: &mut [u32]) {
+pub fn directions(number: u32, luma: &[u16], dirs: &mut [u8], vars: &mut [u32]) {
     if 5 < number {
         lists::fill(dirs, lists::DIRECTIONS, number);
         return;
@@ -110,140 +112,21 @@ fn directions(number: u32, luma: &[u16], dirs: &mut [u8], vars: &mut [u32]) {
     cdef::pass::direction_pass(dirs, vars, luma, 72, 136, testlib_pictures::depth(number));
 }
 
-fn luma(
-    as_pairs: bool,
-    number: u32,
-    damping: DampingChoice,
-    tried: &mut [i64],
-    measured: &mut [i64],
-    snapshot: &[u16],
-    original: &[u16],
-) -> Agreement {
+pub fn skips() -> [u8; 153] {
     let mut skip = [0u8; 153];
-    lists::fill(&mut skip, lists::SKIPS, number);
-    let mut dirs = [0u8; 153];
-    let mut vars = [400000u32; 153];
-    directions(number, snapshot, &mut dirs, &mut vars);
-    if as_pairs {
-        return testlib_lend::agree_luma(
-            tried,
-            &mut [0u16; 9792],
-            measured,
-            &mut [0u16; 576],
-            snapshot,
-            original,
-            72,
-            136,
-            visible(),
-            testlib_pictures::depth(number),
-            &skip,
-            &dirs,
-            &vars,
-            6,
-            pairs(number),
-            damping,
-        );
-    }
-    let mut pris = [0u8; 6];
-    lists::fill(&mut pris, lists::PRIMARIES, number);
-    let mut secs = [0u8; 6];
-    lists::fill(&mut secs, lists::SECONDARIES, number);
-    agree_lists::luma::agree_luma(
-        tried,
-        &mut [0u16; 9792],
-        measured,
-        &mut [0u16; 576],
-        snapshot,
-        original,
-        72,
-        136,
-        visible(),
-        testlib_pictures::depth(number),
-        &skip,
-        &dirs,
-        &vars,
-        &pris,
-        &secs,
-        damping,
-    )
+    lists::fill(&mut skip, lists::SKIPS, 0);
+    skip
 }
 
-fn luma_directions(number: u32, dirs: &mut [u8]) {
-    let mut luma = [0u16; 9792];
-    picture::fill(
-        &mut luma,
-        72,
-        testlib_pictures::depth(number),
-        testlib_pictures::grain(number),
-    );
-    directions(number, &luma, dirs, &mut [0u32; 153]);
-}
-
-fn chroma(
-    as_pairs: bool,
-    number: u32,
-    damping: DampingChoice,
-    tried: &mut [i64],
-    measured: &mut [i64],
-    snapshot: &[u16],
-    original: &[u16],
-) -> Agreement {
-    let mut skip = [0u8; 153];
-    lists::fill(&mut skip, lists::SKIPS, number);
-    let mut dirs = [0u8; 153];
-    luma_directions(number, &mut dirs);
-    let mut dst = [0u16; 9792];
-    let n = testlib_pictures::part(number, &dst);
-    let mut scratch = [0u16; 576];
-    let m = testlib_pictures::part(number, &scratch);
-    if as_pairs {
-        return testlib_lend::agree_chroma(
-            tried,
-            &mut dst[..n],
-            measured,
-            &mut scratch[..m],
-            snapshot,
-            original,
-            72,
-            136,
-            testlib_pictures::sx(number),
-            testlib_pictures::sy(number),
-            visible(),
-            testlib_pictures::depth(number),
-            &skip,
-            &dirs,
-            6,
-            pairs(number),
-            damping,
-        );
-    }
-    let mut pris = [0u8; 6];
-    lists::fill(&mut pris, lists::PRIMARIES, number);
-    let mut secs = [0u8; 6];
-    lists::fill(&mut secs, lists::SECONDARIES, number);
-    agree_lists::chroma::agree_chroma(
-        tried,
-        &mut dst[..n],
-        measured,
-        &mut scratch[..m],
-        snapshot,
-        original,
-        72,
-        136,
-        testlib_pictures::sx(number),
-        testlib_pictures::sy(number),
-        visible(),
-        testlib_pictures::depth(number),
-        &skip,
-        &dirs,
-        &pris,
-        &secs,
-        damping,
-    )
+// The primary or the secondary strengths of the units.
+pub fn strengths(what: u32, number: u32) -> [u8; 6] {
+    let mut list = [0u8; 6];
+    lists::fill(&mut list, what, number);
+    list
 }
 
 // The pairs, and pairs 0, 0 after them.
-fn pairs(number: u32) -> [UnitPair; 128] {
+pub fn pairs(number: u32) -> [UnitPair; 128] {
     let mut a = [UnitPair {
         primary: 0,
         secondary: 0,

@@ -3,6 +3,8 @@
 // `beside/run` compares the file stdout with what the Rust reference gives on the same pictures.
 mod agreed; // agreed.rt: the three calls on a picture
 mod answers; // answers.rt: applying with some pairs
+mod chroma; // chroma.rt: a chroma picture
+mod luma; // luma.rt: a luma picture
 
 ghost use Prim.Native.Nat.{_≤_};
 use agree_lists::Agreement;

@@ -25,7 +25,7 @@ pub fn filter_block(
         return Answer::Refused(no);
     }
     let win = filter_window::window(plane, width, height, block);
-    let no9 = check_block::window_no(&win, params.depth);
+    let no9 = check_samples::window_no(&win, params.depth);
     if no9 != 0 {
         return Answer::Refused(no9);
     }

@@ -38,7 +38,7 @@ pub fn trial(
         return Answer::Refused(no);
     }
     let win = filter_window::window(plane, width, height, block);
-    let no9 = check_block::window_no(&win, depth);
+    let no9 = check_samples::window_no(&win, depth);
     if no9 != 0 {
         return Answer::Refused(no9);
     }

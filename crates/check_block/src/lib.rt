@@ -1,12 +1,10 @@
-// The checks of the calls on one block, in order: each returns the error code of the first that fails, or 0. No function of the crate but rows_taken and window_no requires anything.
+// The checks of the calls on one block, in order: each returns the error code of the first that fails, or 0. No public function of the crate requires anything.
 ghost use mathlib.Core.Path.{_≡_};
 ghost use mathlib.Core.Bool.{_&&_};
 ghost use mathlib.Core.List.{List, [], _∷_};
-ghost use Prim.Native.Nat.{ℕ, _≤_};
-ghost use lib.ListN.{getD};
-ghost use Rattle.cdef_spec.specs.Words.{every};
+ghost use Prim.Native.Nat.{ℕ};
 ghost use Rattle.cdef_spec.specs.Document01.{Plane};
-ghost use Rattle.cdef_spec.specs.Questions.{ask, firstNo, depthTaken, sideTaken, full as fullPlane, blockTaken, sampleOrMark};
+ghost use Rattle.cdef_spec.specs.Questions.{ask, firstNo, depthTaken, sideTaken, full as fullPlane, blockTaken};
 ghost use Rattle.cdef_spec.specs.BlockCalls.{directionNo};
 use cdef_spec::Block;
 
@@ -62,15 +60,4 @@ pub fn direction_no(plane: &[u16], width: usize, height: usize, x: usize, y: usi
         return 9;
     }
     0
-}
-
-// 9 of the block filter and the trial, on the gathered window: its entries are the examined samples, and marks.
-pub fn window_no(win: &[u16; 144], depth: u8) -> u8
-    requires { ⌜ depth ≤ 12 ⌝ }
-    ensures { λ r. ⌜ r ≡ firstNo (ask 9 (every 144 (λ k. sampleOrMark depth (getD (now (win .entry)) k 0))) ∷ []) ⌝ }
-{
-    if check_samples::window_taken(win, depth) {
-        return 0;
-    }
-    9
 }

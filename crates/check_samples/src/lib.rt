@@ -1,10 +1,11 @@
 // Question 9: whether the samples examined are below 2^depth; in a window also the mark.
 ghost use mathlib.Core.Path.{_≡_};
+ghost use mathlib.Core.List.{[], _∷_};
 ghost use Prim.Native.Nat.{ℕ, _+_, _*_, _^_, _≤_, _<_};
 ghost use lib.Dec.{eqb};
 ghost use lib.ListN.{getD, length};
 ghost use Rattle.cdef_spec.specs.Words.{every};
-ghost use Rattle.cdef_spec.specs.Questions.{cutTaken, sampleOrMark};
+ghost use Rattle.cdef_spec.specs.Questions.{ask, firstNo, cutTaken, sampleOrMark};
 ghost use Rattle.check_samples.specs.Looked.{orRow, orRows};
 
 // The bits that are set in any of n samples, from `at` on.
@@ -70,4 +71,15 @@ pub fn window_taken(w: &[u16; 144], depth: u8) -> bool
         bad += wrong(w[k], top, depth);
     }
     bad == 0
+}
+
+// The same as an error code, for the block filter and the trial, on the gathered window: its entries are the examined samples, and marks.
+pub fn window_no(win: &[u16; 144], depth: u8) -> u8
+    requires { ⌜ depth ≤ 12 ⌝ }
+    ensures { λ r. ⌜ r ≡ firstNo (ask 9 (every 144 (λ k. sampleOrMark depth (getD (now (win .entry)) k 0))) ∷ []) ⌝ }
+{
+    if window_taken(win, depth) {
+        return 0;
+    }
+    9
 }

@@ -1,9 +1,9 @@
--- `check_block::window_no` meets its contract.
+-- `check_samples::window_no` meets its contract.
 use mathlib.Core.Path.{sym, _∙_}
 use Rattle.cdef_spec.specs.Questions.{firstNo}
 use borrow.Author.Needs.{needs}
-use Rattle.check_block.proofs.window_no.Statement.{statement}
-use Rattle.check_block.proofs.window_no.Tie as tie
+use Rattle.check_samples.proofs.window_no.Statement.{statement}
+use Rattle.check_samples.proofs.window_no.Tie as tie
 
 window-taken-requires : tie.Need-window-taken-requires
 window-taken-requires c κs = search needs

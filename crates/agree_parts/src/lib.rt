@@ -2,22 +2,9 @@
 ghost use mathlib.Core.Path.{_≡_};
 ghost use mathlib.Core.Bool.{_&&_};
 ghost use lib.ListN.{getD};
-ghost use Rattle.cdef_spec.specs.Document01.{isTrialPair};
 ghost use Rattle.cdef_spec.specs.FrameCalls.{pairsOf};
 ghost use Rattle.agree_parts.specs.Parts.{trialPairs, copied};
-
-// Whether a pair is one of the twelve.
-fn is_trial_pair(primary: u8, secondary: u8) -> bool
-    ensures { λ r. ⌜ r ≡ isTrialPair (record { primary = primary; secondary = secondary }) ⌝ }
-{
-    if 2 < secondary {
-        return false;
-    }
-    if primary == 4 {
-        return true;
-    }
-    primary <= 2
-}
+use cdef_spec::UnitPair;
 
 // Entry k of a list, 0 past its end.
 fn at_or_zero(list: &[u8], k: usize) -> u8
@@ -48,7 +35,9 @@ pub fn trial_pairs(pris: &[u8], secs: &[u8]) -> bool
     }
     let mut all = true;
     for u in 0..pris.len() {
-        let this = is_trial_pair(pris[u], at_or_zero(secs, u));
+        let primary = pris[u];
+        let secondary = at_or_zero(secs, u);
+        let this = arith_trials::is_trial_pair(UnitPair { primary, secondary });
         all = both(all, this);
     }
     all

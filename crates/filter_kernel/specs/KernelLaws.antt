@@ -23,7 +23,7 @@ use Rattle.arith_sample.specs.Sample.{orCentre, conOf, finishOf, freeOf}
 use Rattle.arith_sample.specs.SampleLaws.{centre-mark, centre-tap, finish-mark, free-mark}
 use Rattle.arith_sample.specs.Bounds.{Held}
 use Rattle.arith_sample.specs.Upto.{upto}
-use Rattle.filter_rows.specs.Sums.{pairAt, lowPair, highPair, priAt, nearAt, farAt, secAt, lowAt, highAt, filteredAt}
+use Rattle.filter_rows.specs.Sums.{pairAt, lowPair, highPair, priAt, sideAt, secAt, lowAt, highAt, filteredAt}
 use Rattle.filter_window.specs.Window.{windowAt}
 use Rattle.filter_kernel.specs.Kernel.{tapsOf, offAt, shiftOf, priOf, secOf, kernelAt}
 use Rattle.filter_kernel.specs.ShapeLaws.{pri-shape, sec-shape, weights, low-lt, max-below}
@@ -139,7 +139,7 @@ module _ (p : Plane) (b : Block) (q : FilterParams) (i j : ℕ) (hh : b .height 
         ∙ sym (total-is c c-low n d (pri-matches p y x (dampingFrom1 q) hd low) ∙ pri-summed))
 
     sec-is : secAt win at (tapsOf (q .dir)) (secOf (q .sec) d) ≡ total c d (secTaps (available p) y x c (dampingFrom1 q))
-    unfolding secAt nearAt farAt tapsOf secOf dampingFrom1
+    unfolding secAt sideAt tapsOf secOf dampingFrom1
     sec-is =
         rw (here, pair-is q2 0 (q .sec) q8 (omega arith), pair-is q2 1 (q .sec) q8 (omega arith), pair-is q6 0 (q .sec) r8 (omega arith), pair-is q6 1 (q .sec) r8 (omega arith))
         (sec-shape 2 1 (con (q .sec) (on q2 0)) (con (q .sec) (back q2 0)) (con (q .sec) (on q2 1)) (con (q .sec) (back q2 1)) (con (q .sec) (on q6 0)) (con (q .sec) (back q6 0)) (con (q .sec) (on q6 1)) (con (q .sec) (back q6 1))

@@ -17,7 +17,7 @@ use Rattle.filter_rows.specs.Place.{tapOn, tapBack}
 use Rattle.arith_sample.specs.Bounds.{Held, Within}
 use Rattle.arith_sample.proofs.Joins.{Is, add-ok, add-is, back-is}
 use Rattle.arith_sample.specs.Upto.{upto, upto-all-of}
-use Rattle.filter_rows.specs.Sums.{InRange, pairAt, highPair, priAt, nearAt, farAt, secAt, lowAt, highAt}
+use Rattle.filter_rows.specs.Sums.{InRange, pairAt, highPair, priAt, sideAt, secAt, lowAt, highAt}
 use Rattle.filter_rows.specs.SumsLaws.{high-pair-le}
 use Rattle.filter_rows.specs.Pairs.{conTap, pairSum, weighed, priSum, secSum}
 use Rattle.filter_limits.specs.declared.Pair.{Pair}
@@ -47,26 +47,28 @@ module _ (w : List ℕ) (k : ℕ) (t : Taps) (f : Strength) (m : InRange f) wher
   unfolding priAt
   size-pri = two (scaled (m .w0) (at (t .p0))) (scaled (m .w1) (at (t .p1))) .small
 
-  pub size-near : natAbs (nearAt w k t f) ≤ 3840
-  unfolding nearAt
-  size-near = scaled (m .w0) (two (at (t .q0)) (at (t .r0))) .small
+  size-side : (q r v : ℕ) → v ≤ 4 → natAbs (sideAt w k q r v (f .s) (f .sh)) ≤ 3840
+  unfolding sideAt
+  size-side q r v h = scaled h (two (at q) (at r)) .small
 
-  pub size-far : natAbs (farAt w k t f) ≤ 3840
-  unfolding farAt
-  size-far = scaled (m .w1) (two (at (t .q1)) (at (t .r1))) .small
+  near : natAbs (sideAt w k (t .q0) (t .r0) (f .w0) (f .s) (f .sh)) ≤ 3840
+  near = size-side (t .q0) (t .r0) (f .w0) (m .w0)
+
+  far : natAbs (sideAt w k (t .q1) (t .r1) (f .w1) (f .s) (f .sh)) ≤ 3840
+  far = size-side (t .q1) (t .r1) (f .w1) (m .w1)
 
   pub size-sec : natAbs (secAt w k t f) ≤ 7680
   unfolding secAt
-  size-sec = omega (arith, size-add (nearAt w k t f) (farAt w k t f), size-near, size-far)
+  size-sec = omega (arith, size-add (sideAt w k (t .q0) (t .r0) (f .w0) (f .s) (f .sh)) (sideAt w k (t .q1) (t .r1) (f .w1) (f .s) (f .sh)), near, far)
 
   -- the two parts, as passed to `add`, and what it returns
-  module _ {x y : ℤ} (ex : x ≡ nearAt w k t f) (ey : y ≡ farAt w k t f) where
+  module _ {x y : ℤ} (ex : x ≡ sideAt w k (t .q0) (t .r0) (f .w0) (f .s) (f .sh)) (ey : y ≡ sideAt w k (t .q1) (t .r1) (f .w1) (f .s) (f .sh)) where
     pub sec-ok : natAbs (toZ w16 (ofZ w16 x)) + natAbs (toZ w16 (ofZ w16 y)) ≤ 32767
-    sec-ok = add-ok {m = 3840} {n = 3840} (record { is = ex; small = size-near }) (record { is = ey; small = size-far }) (omega arith)
+    sec-ok = add-ok {m = 3840} {n = 3840} (record { is = ex; small = near }) (record { is = ey; small = far }) (omega arith)
 
     pub sec-is : {r : ℤ} → r ≡ toZ w16 (ofZ w16 x) +ℤ toZ w16 (ofZ w16 y) → toZ w16 (ofZ w16 r) ≡ secAt w k t f
     unfolding secAt
-    sec-is e = back-is (add-is {m = 3840} {n = 3840} (record { is = ex; small = size-near }) (record { is = ey; small = size-far }) (omega arith) e) (omega arith)
+    sec-is e = back-is (add-is {m = 3840} {n = 3840} (record { is = ex; small = near }) (record { is = ey; small = far }) (omega arith) e) (omega arith)
 
 module _ (w : List ℕ) (k : ℕ) (t : Taps) (h : Held w) where
   pub low-le : lowAt w k t ≤ 16384

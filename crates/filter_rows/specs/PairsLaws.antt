@@ -12,7 +12,7 @@ use Rattle.arith_sample.specs.Sample.{orCentre, sizeOf, conOf, finishOf}
 use Rattle.arith_sample.specs.SampleLaws.{con-above, finish-mark}
 use Rattle.arith_sample.specs.Bounds.{Held}
 use Rattle.filter_rows.specs.Place.{onFrom, backFrom, tapOn, tapBack}
-use Rattle.filter_rows.specs.Sums.{pairAt, lowPair, highPair, priAt, nearAt, farAt, secAt, lowAt, highAt, filteredAt}
+use Rattle.filter_rows.specs.Sums.{pairAt, lowPair, highPair, priAt, sideAt, secAt, lowAt, highAt, filteredAt}
 use Rattle.filter_rows.specs.Pairs.{pairOf, pairsOf, conTap, pairSum, weighed, priSum, secSum}
 use Rattle.filter_limits.specs.Limits.{HeldPair, HeldPairs, leastOf, unmarkedOf, mostOf, lowestOf, highestOf}
 use Rattle.filter_rows.specs.declared.Taps.{Taps}
@@ -119,7 +119,7 @@ module _ (w : List ℕ) (k : ℕ) (t : Taps) (h : Held w) where
     pri-is f = rw (sum (t .p0) (f .s) (f .sh), sum (t .p1) (f .s) (f .sh))
 
     sec-is : (f : Strength) → secSum (pairsOf w k t) (getD w k 0) f ≡ secAt w k t f
-    unfolding secSum pairsOf weighed secAt nearAt farAt
+    unfolding secSum pairsOf weighed secAt sideAt
     sec-is f = rw (sum (t .q0) (f .s) (f .sh), sum (t .q1) (f .s) (f .sh), sum (t .r0) (f .s) (f .sh), sum (t .r1) (f .s) (f .sh))
 
     lowest-is : lowestOf (pairsOf w k t) (getD w k 0) ≡ lowAt w k t

@@ -37,19 +37,15 @@ priAt w k t f =
     let c = getD w k 0 in
     pos (f .w0) *ℤ pairAt w k (t .p0) c (f .s) (f .sh) +ℤ pos (f .w1) *ℤ pairAt w k (t .p1) c (f .s) (f .sh)
 
--- the near taps and the far ones of the two side directions
-unfoldable pub nearAt : List ℕ → ℕ → Taps → Strength → ℤ
-nearAt w k t f =
+-- the taps of the two side directions at one distance, q and r, weighed by v
+unfoldable pub sideAt : List ℕ → ℕ → ℕ → ℕ → ℕ → ℕ → ℕ → ℤ
+sideAt w k q r v s sh =
     let c = getD w k 0 in
-    pos (f .w0) *ℤ (pairAt w k (t .q0) c (f .s) (f .sh) +ℤ pairAt w k (t .r0) c (f .s) (f .sh))
+    pos v *ℤ (pairAt w k q c s sh +ℤ pairAt w k r c s sh)
 
-unfoldable pub farAt : List ℕ → ℕ → Taps → Strength → ℤ
-farAt w k t f =
-    let c = getD w k 0 in
-    pos (f .w1) *ℤ (pairAt w k (t .q1) c (f .s) (f .sh) +ℤ pairAt w k (t .r1) c (f .s) (f .sh))
-
+-- the near ones, and the far ones
 unfoldable pub secAt : List ℕ → ℕ → Taps → Strength → ℤ
-secAt w k t f = nearAt w k t f +ℤ farAt w k t f
+secAt w k t f = sideAt w k (t .q0) (t .r0) (f .w0) (f .s) (f .sh) +ℤ sideAt w k (t .q1) (t .r1) (f .w1) (f .s) (f .sh)
 
 unfoldable pub lowAt : List ℕ → ℕ → Taps → ℕ
 lowAt w k t =

@@ -9,7 +9,7 @@ ghost use Rattle.arith_sample.specs.Sample.{freeOf};
 ghost use Rattle.arith_sample.specs.Upto.{upto};
 ghost use Rattle.filter_rows.specs.Place.{Near, tapOn, tapBack};
 ghost use Rattle.arith_sample.specs.Bounds.{Held, Within};
-ghost use Rattle.filter_rows.specs.Sums.{Near6, InRange, pairAt, lowPair, highPair, priAt, nearAt, farAt, secAt, lowAt, highAt, filteredAt};
+ghost use Rattle.filter_rows.specs.Sums.{Near6, InRange, pairAt, lowPair, highPair, priAt, sideAt, secAt, lowAt, highAt, filteredAt};
 
 // offsets of the taps in a window of pitch 12, wrapped; the opposite tap lies as far the other way
 pub struct Taps {
@@ -86,25 +86,15 @@ pub fn pri_at(w: &[u16; 144], k: usize, t: Taps, f: Strength) -> i16
     arith_sample::add(arith_sample::scale(f.w0, a), arith_sample::scale(f.w1, b))
 }
 
-// The secondary sum of the sample at k has two parts: the near taps, and the far ones.
-pub fn sec_near(w: &[u16; 144], k: usize, t: Taps, f: Strength) -> i16
-    requires { ⌜ (26 ≤ k) × (k ≤ 117) × Held (now w) × Near6 t × InRange f ⌝ }
-    ensures { λ r. ⌜ r ≡ nearAt (now (w .entry)) k t f ⌝ }
+// The secondary sum of the sample at k has two parts of this form, the near taps and the far ones: the taps at q and r from it, weighed by v.
+pub fn side_at(w: &[u16; 144], k: usize, q: usize, r: usize, v: u16, s: u16, sh: u32) -> i16
+    requires { ⌜ (26 ≤ k) × (k ≤ 117) × Held (now w) × Near q × Near r × (v ≤ 4) × (s ≤ 240) × (sh ≤ 15) ⌝ }
+    ensures { λ z. ⌜ z ≡ sideAt (now (w .entry)) k q r v s sh ⌝ }
 {
     let c = w[k];
-    let q = pair(w, k, t.q0, c, f.s, f.sh);
-    let r = pair(w, k, t.r0, c, f.s, f.sh);
-    arith_sample::scale(f.w0, arith_sample::add(q, r))
-}
-
-pub fn sec_far(w: &[u16; 144], k: usize, t: Taps, f: Strength) -> i16
-    requires { ⌜ (26 ≤ k) × (k ≤ 117) × Held (now w) × Near6 t × InRange f ⌝ }
-    ensures { λ r. ⌜ r ≡ farAt (now (w .entry)) k t f ⌝ }
-{
-    let c = w[k];
-    let q = pair(w, k, t.q1, c, f.s, f.sh);
-    let r = pair(w, k, t.r1, c, f.s, f.sh);
-    arith_sample::scale(f.w1, arith_sample::add(q, r))
+    let a = pair(w, k, q, c, s, sh);
+    let b = pair(w, k, r, c, s, sh);
+    arith_sample::scale(v, arith_sample::add(a, b))
 }
 
 // The least of the sample at k and its taps.
@@ -149,7 +139,10 @@ pub fn sec_row(w: &[u16; 144], row: usize, t: Taps, f: Strength) -> [i16; 8]
     let mut out = [0i16; 8];
     for j in 0..8usize {
         let k = row + j;
-        out[j] = arith_sample::add(sec_near(w, k, t, f), sec_far(w, k, t, f));
+        out[j] = arith_sample::add(
+            side_at(w, k, t.q0, t.r0, f.w0, f.s, f.sh),
+            side_at(w, k, t.q1, t.r1, f.w1, f.s, f.sh),
+        );
     }
     out
 }

@@ -94,7 +94,7 @@ pub fn report(h: Header, n: Counts, pair: UnitPair, tried: &[i64], measured: &[i
     requires { ⌜ (length (now tried) ≡ 12 * length (now measured)) × (length (now measured) ≤ 4096) ⌝ }
 {
     heading(h, n, pair);
-    let trial = totals::trial_of(pair);
+    let trial = arith_trials::trial_of(pair);
     units(trial, tried, measured);
     outcome(trial, tried, measured);
 }

@@ -21,7 +21,7 @@ use Rattle.arith_sample.specs.Sample.{orCentre}
 use Rattle.arith_sample.specs.Bounds.{Held}
 use Rattle.arith_sample.specs.Upto.{upto}
 use Rattle.filter_rows.specs.Place.{tapOn, tapBack}
-use Rattle.filter_rows.specs.Sums.{pairAt, lowPair, highPair, priAt, nearAt, farAt, secAt, lowAt, highAt, filteredAt}
+use Rattle.filter_rows.specs.Sums.{pairAt, lowPair, highPair, priAt, sideAt, secAt, lowAt, highAt, filteredAt}
 use Rattle.filter_rows.specs.declared.Strength.{Strength}
 use Rattle.filter_window.specs.Window.{planeOf, windowAt}
 use Rattle.filter_window.specs.WindowLaws.{sample-in}
@@ -95,7 +95,7 @@ module _ (l : List ℕ) (w h : ℕ) (b : Block) (i j : ℕ) (hw : w ≤ 4096) (h
     pri-same f = rw (centre-same, pair-same dir 0 hd (omega arith) _ (f .s) (f .sh), pair-same dir 1 hd (omega arith) _ (f .s) (f .sh))
 
     sec-same : (f : Strength) → secAt l k (tapsIn w dir) f ≡ secAt win at (tapsOf dir) f
-    unfolding secAt nearAt farAt tapsIn tapsOf
+    unfolding secAt sideAt tapsIn tapsOf
     sec-same f = rw (centre-same, pair-same ((dir + 2) % 8) 0 q8 (omega arith) _ (f .s) (f .sh), pair-same ((dir + 2) % 8) 1 q8 (omega arith) _ (f .s) (f .sh), pair-same ((dir + 6) % 8) 0 r8 (omega arith) _ (f .s) (f .sh), pair-same ((dir + 6) % 8) 1 r8 (omega arith) _ (f .s) (f .sh))
 
     lowest-same : lowAt l k (tapsIn w dir) ≡ lowAt win at (tapsOf dir)

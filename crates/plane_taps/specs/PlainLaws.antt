@@ -15,7 +15,7 @@ use Rattle.arith_sample.specs.Sample.{orCentre, sizeOf, conOf, underOf, finishO
 use Rattle.arith_sample.specs.SampleLaws.{con-below, con-above, size-con, centre-tap}
 use Rattle.filter_rows.specs.Place.{onFrom, backFrom, tapOn, tapBack}
 use Rattle.cdef_spec.specs.SignedLaws.{size-add, size-scale}
-use Rattle.filter_rows.specs.Sums.{InRange, pairAt, lowPair, highPair, priAt, nearAt, farAt, secAt, lowAt, highAt, filteredAt}
+use Rattle.filter_rows.specs.Sums.{InRange, pairAt, lowPair, highPair, priAt, sideAt, secAt, lowAt, highAt, filteredAt}
 use Rattle.filter_rows.specs.Pairs.{pairOf, weighed}
 use Rattle.filter_limits.specs.declared.Pair.{Pair}
 use Rattle.filter_rows.specs.declared.Taps.{Taps}
@@ -104,7 +104,7 @@ module _ (l : List ℕ) (low : AllLow l) (k : ℕ) (t : Taps) where
   pri-plain f = rw (pair-is (t .p0) (f .s) (f .sh), pair-is (t .p1) (f .s) (f .sh))
 
   pub sec-plain : (f : Strength) → secPlain (pairOf l k (t .q0)) (pairOf l k (t .q1)) (pairOf l k (t .r0)) (pairOf l k (t .r1)) (getD l k 0) f ≡ secAt l k t f
-  unfolding secPlain weighed secAt nearAt farAt
+  unfolding secPlain weighed secAt sideAt
   sec-plain f = rw (pair-is (t .q0) (f .s) (f .sh), pair-is (t .q1) (f .s) (f .sh), pair-is (t .r0) (f .s) (f .sh), pair-is (t .r1) (f .s) (f .sh))
 
   low-is : (o u : ℕ) → lowTwo (pairOf l k o) (pairOf l k u) ≡ min (lowPair l k o (getD l k 0)) (lowPair l k u (getD l k 0))

@@ -1,3 +1,3 @@
 pub mod Damping
 pub mod DampingLaws
-pub mod TrialLaws
+pub mod TotalLaws

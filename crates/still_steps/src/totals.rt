@@ -1,28 +1,9 @@
-// Trial numbers, and totals compared.
+// Totals compared.
 ghost use Prim.Native.Nat.{_+_, _*_, _≤_, _<_};
 ghost use mathlib.Core.Path.{_≡_};
 ghost use mathlib.Core.Bool.{cond};
 ghost use lib.ListN.{length};
-ghost use Rattle.cdef_spec.specs.Document01.{isTrialPair, trialNumber};
 ghost use Rattle.still_lists.specs.Lists.{sameTotal, differ};
-use cdef_spec::UnitPair;
-
-// The trial number of a pair; 12 where it is none of the twelve.
-pub fn trial_of(pair: UnitPair) -> usize
-    ensures { λ r. ⌜ r ≡ cond (isTrialPair pair) (trialNumber pair) 12 ⌝ }
-{
-    if 2 < pair.secondary {
-        return 12;
-    }
-    let row = pair.secondary as usize * 4;
-    if pair.primary <= 2 {
-        return row + pair.primary as usize;
-    }
-    if pair.primary == 4 {
-        return row + 3;
-    }
-    12
-}
 
 // A count, one more where two totals differ.
 fn counted(count: usize, tried: i64, measured: i64) -> usize

@@ -21,8 +21,8 @@ pub fn element(what: u32, picture: u32, k: usize) -> u8 {
     match what {
         0 => skip(k),
         1 => (k % 8) as u8,
-        2 => primary(trial_of(picture, k)),
-        _ => (trial_of(picture, k) / 4) as u8,
+        2 => arith_trials::trial_pair(trial_of(picture, k)).primary,
+        _ => arith_trials::trial_pair(trial_of(picture, k)).secondary,
     }
 }
 
@@ -39,13 +39,4 @@ pub fn trial_of(picture: u32, unit: usize) -> usize
     ensures { λ r. ⌜ r < 12 ⌝ }
 {
     (unit % 12 * 5 + crate::grain(picture) as usize * 2 + 1) % 12
-}
-
-fn primary(trial: usize) -> u8 {
-    match trial % 4 {
-        0 => 0,
-        1 => 1,
-        2 => 2,
-        _ => 4,
-    }
 }

@@ -84,12 +84,12 @@ pub fn sec_blocks(w: &[u16; 144], rows: usize, t: Taps, f: Strength, g: Strength
         let to = i * 8;
         for j in 0..8usize {
             s1[to + j] = arith_sample::add(
-                filter_rows::sec_near(w, from + j, t, f),
-                filter_rows::sec_far(w, from + j, t, f),
+                filter_rows::side_at(w, from + j, t.q0, t.r0, f.w0, f.s, f.sh),
+                filter_rows::side_at(w, from + j, t.q1, t.r1, f.w1, f.s, f.sh),
             );
             s2[to + j] = arith_sample::add(
-                filter_rows::sec_near(w, from + j, t, g),
-                filter_rows::sec_far(w, from + j, t, g),
+                filter_rows::side_at(w, from + j, t.q0, t.r0, g.w0, g.s, g.sh),
+                filter_rows::side_at(w, from + j, t.q1, t.r1, g.w1, g.s, g.sh),
             );
         }
     }

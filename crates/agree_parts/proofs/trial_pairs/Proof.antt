@@ -13,7 +13,7 @@ use Rattle.agree_parts.proofs.trial_pairs.Reads as reads
 use Rattle.agree_parts.proofs.trial_pairs.Lts as lts
 use Rattle.agree_parts.proofs.at_or_zero.Reads as at-or-zero-reads
 use Rattle.agree_parts.proofs.both.Reads as both-reads
-use Rattle.agree_parts.proofs.is_trial_pair.Reads as is-trial-pair-reads
+use Rattle.arith_trials.proofs.is_trial_pair.Reads as is-trial-pair-reads
 
 abbrev Inv-loop : tie.InvT-loop
 Inv-loop pris secs all₀ u₀ u-end all u = (all ≡ every u (λ u. isTrialPair (record { primary = getD pris u 0; secondary = getD secs u 0 }))) × (u ≤ length pris) × (u-end ≡ length pris)
@@ -27,8 +27,8 @@ returns c = many-pairs _ _ (c .if1 .taken)
 loop-holds : tie.Need-loop-holds Inv-loop μ-loop
 loop-holds c = (every-none _, omega arith, refl)
 
-shared-slice-read-is-trial-pair : tie.Need-shared-slice-read-is-trial-pair Inv-loop μ-loop
-shared-slice-read-is-trial-pair c = omega arith
+shared-slice-read-primary : tie.Need-shared-slice-read-primary Inv-loop μ-loop
+shared-slice-read-primary c = omega arith
 
 at-or-zero-requires : tie.Need-at-or-zero-requires Inv-loop μ-loop
 at-or-zero-requires c κs = search needs
@@ -59,7 +59,7 @@ trial-pairs-spec =
     μ-loop
     returns
     loop-holds
-    shared-slice-read-is-trial-pair
+    shared-slice-read-primary
     at-or-zero-requires
     is-trial-pair-requires
     both-requires

@@ -11,8 +11,7 @@ use Rattle.filter_rows.proofs.sec_row.Statement.{statement}
 use Rattle.filter_rows.proofs.sec_row.Tie as tie
 use Rattle.filter_rows.proofs.sec_row.Reads as reads
 use Rattle.filter_rows.proofs.sec_row.Lts as lts
-use Rattle.filter_rows.proofs.sec_far.Reads as sec-far-reads
-use Rattle.filter_rows.proofs.sec_near.Reads as sec-near-reads
+use Rattle.filter_rows.proofs.side_at.Reads as side-at-reads
 use Rattle.arith_sample.proofs.add.Reads as add-reads
 
 abbrev Inv-loop : tie.InvT-loop
@@ -27,14 +26,14 @@ loop-holds c = (sym (upto-none _), refl, omega arith)
 add-k : tie.Need-add-k Inv-loop μ-loop
 add-k c = let s = c .before .before in omega (arith, s .pre .1)
 
-sec-near-requires : tie.Need-sec-near-requires Inv-loop μ-loop
-sec-near-requires c κs = let s = c .before .before in (omega (arith, s .pre .0), omega (arith, s .pre .1), s .pre .2, s .pre .3, s .pre .4)
+side-at-requires : tie.Need-side-at-requires Inv-loop μ-loop
+side-at-requires c κs = let s = c .before .before in (omega (arith, s .pre .0), omega (arith, s .pre .1), s .pre .2, s .pre .3 .q0, s .pre .3 .r0, s .pre .4 .w0, s .pre .4 .s, s .pre .4 .sh)
 
-sec-far-requires : tie.Need-sec-far-requires Inv-loop μ-loop
-sec-far-requires c κs = let s = c .before .before .before in (omega (arith, s .pre .0), omega (arith, s .pre .1), s .pre .2, s .pre .3, s .pre .4)
+side-at-requires-2 : tie.Need-side-at-requires-2 Inv-loop μ-loop
+side-at-requires-2 c κs = let s = c .before .before .before in (omega (arith, s .pre .0), omega (arith, s .pre .1), s .pre .2, s .pre .3 .q1, s .pre .3 .r1, s .pre .4 .w1, s .pre .4 .s, s .pre .4 .sh)
 
 add-requires : tie.Need-add-requires Inv-loop μ-loop
-add-requires c κs = let s = c .before .before .before .before in let a = s .args in sec-ok (a .w .now) _ (a .t) (a .f) (s .pre .4) (c .before .sec-near .ensures) (c .sec-far .ensures)
+add-requires c κs = let s = c .before .before .before .before in let a = s .args in sec-ok (a .w .now) _ (a .t) (a .f) (s .pre .4) (c .before .side-at .ensures) (c .side-at2 .ensures)
 
 mul-out : tie.Need-mul-out Inv-loop μ-loop
 mul-out c = omega arith
@@ -49,7 +48,7 @@ loop-less : tie.Need-loop-less Inv-loop μ-loop
 loop-less c = omega arith
 
 loop-again : tie.Need-loop-again Inv-loop μ-loop
-loop-again c = let s = c .before .before .before .before .before in let a = s .args in let p = c .before .before .before .before in (upto-more _ _ _ _ (p .loop .inv .0) (omega arith) (sec-is (a .w .now) _ (a .t) (a .f) (s .pre .4) (c .before .before .sec-near .ensures) (c .before .sec-far .ensures) (c .add .ensures)), simp length-set (p .loop .inv .1), omega arith)
+loop-again c = let s = c .before .before .before .before .before in let a = s .args in let p = c .before .before .before .before in (upto-more _ _ _ _ (p .loop .inv .0) (omega arith) (sec-is (a .w .now) _ (a .t) (a .f) (s .pre .4) (c .before .before .side-at .ensures) (c .before .side-at2 .ensures) (c .add .ensures)), simp length-set (p .loop .inv .1), omega arith)
 
 returns : tie.Need-returns Inv-loop μ-loop
 returns c = let p = c .before in upto-all _ _ 8 _ (p .loop .inv .0) (p .loop .inv .1) (omega arith)
@@ -62,8 +61,8 @@ sec-row-spec =
     μ-loop
     loop-holds
     add-k
-    sec-near-requires
-    sec-far-requires
+    side-at-requires
+    side-at-requires-2
     add-requires
     mul-out
     array-set-from-out

@@ -13,8 +13,7 @@ use Rattle.trial_sums.proofs.sec_blocks.Statement.{statement}
 use Rattle.trial_sums.proofs.sec_blocks.Tie as tie
 use Rattle.trial_sums.proofs.sec_blocks.Reads as reads
 use Rattle.trial_sums.proofs.sec_blocks.Lts as lts
-use Rattle.filter_rows.proofs.sec_far.Reads as sec-far-reads
-use Rattle.filter_rows.proofs.sec_near.Reads as sec-near-reads
+use Rattle.filter_rows.proofs.side_at.Reads as side-at-reads
 use Rattle.arith_sample.proofs.add.Reads as add-reads
 
 abbrev Inv-loop2 : tie.InvT-loop2
@@ -47,20 +46,20 @@ mul-to c = omega arith
 loop2-holds : tie.Need-loop2-holds Inv-loop2 μ-loop2 Inv-loop μ-loop
 loop2-holds c = let p = c .before in (upto-at _ _ _ _ (omega arith) (p .loop .inv .0), upto-at _ _ _ _ (omega arith) (p .loop .inv .1), p .loop .inv .2, p .loop .inv .3, omega arith)
 
-add-sec-near : tie.Need-add-sec-near Inv-loop2 μ-loop2 Inv-loop μ-loop
-add-sec-near c = omega arith
+add-side-at : tie.Need-add-side-at Inv-loop2 μ-loop2 Inv-loop μ-loop
+add-side-at c = omega arith
 
-sec-near-requires : tie.Need-sec-near-requires Inv-loop2 μ-loop2 Inv-loop μ-loop
-sec-near-requires c κs = let s = c .before .before .before .before in (omega arith, omega arith, s .pre .1, s .pre .2, s .pre .3)
+side-at-requires : tie.Need-side-at-requires Inv-loop2 μ-loop2 Inv-loop μ-loop
+side-at-requires c κs = let s = c .before .before .before .before in (omega arith, omega arith, s .pre .1, s .pre .2 .q0, s .pre .2 .r0, s .pre .3 .w0, s .pre .3 .s, s .pre .3 .sh)
 
-add-sec-far : tie.Need-add-sec-far Inv-loop2 μ-loop2 Inv-loop μ-loop
-add-sec-far c = omega arith
+add-side-at-2 : tie.Need-add-side-at-2 Inv-loop2 μ-loop2 Inv-loop μ-loop
+add-side-at-2 c = omega arith
 
-sec-far-requires : tie.Need-sec-far-requires Inv-loop2 μ-loop2 Inv-loop μ-loop
-sec-far-requires c κs = let s = c .before .before .before .before .before in (omega arith, omega arith, s .pre .1, s .pre .2, s .pre .3)
+side-at-requires-2 : tie.Need-side-at-requires-2 Inv-loop2 μ-loop2 Inv-loop μ-loop
+side-at-requires-2 c κs = let s = c .before .before .before .before .before in (omega arith, omega arith, s .pre .1, s .pre .2 .q1, s .pre .2 .r1, s .pre .3 .w1, s .pre .3 .s, s .pre .3 .sh)
 
 add-requires : tie.Need-add-requires Inv-loop2 μ-loop2 Inv-loop μ-loop
-add-requires c κs = let s = c .before .before .before .before .before .before in let a = s .args in sec-ok (a .w .now) _ (a .t) (a .f) (s .pre .3) (c .before .sec-near .ensures) (c .sec-far .ensures)
+add-requires c κs = let s = c .before .before .before .before .before .before in let a = s .args in sec-ok (a .w .now) _ (a .t) (a .f) (s .pre .3) (c .before .side-at .ensures) (c .side-at2 .ensures)
 
 add-s1 : tie.Need-add-s1 Inv-loop2 μ-loop2 Inv-loop μ-loop
 add-s1 c = omega arith
@@ -71,20 +70,20 @@ mul-s1 c = omega arith
 array-set-from-s1 : tie.Need-array-set-from-s1 Inv-loop2 μ-loop2 Inv-loop μ-loop
 array-set-from-s1 c = omega arith
 
-add-sec-near-2 : tie.Need-add-sec-near-2 Inv-loop2 μ-loop2 Inv-loop μ-loop
-add-sec-near-2 c = omega arith
+add-side-at-3 : tie.Need-add-side-at-3 Inv-loop2 μ-loop2 Inv-loop μ-loop
+add-side-at-3 c = omega arith
 
-sec-near-requires-2 : tie.Need-sec-near-requires-2 Inv-loop2 μ-loop2 Inv-loop μ-loop
-sec-near-requires-2 c κs = let s = c .before .before .before .before .before .before .before in (omega arith, omega arith, s .pre .1, s .pre .2, s .pre .4)
+side-at-requires-3 : tie.Need-side-at-requires-3 Inv-loop2 μ-loop2 Inv-loop μ-loop
+side-at-requires-3 c κs = let s = c .before .before .before .before .before .before .before in (omega arith, omega arith, s .pre .1, s .pre .2 .q0, s .pre .2 .r0, s .pre .4 .w0, s .pre .4 .s, s .pre .4 .sh)
 
-add-sec-far-2 : tie.Need-add-sec-far-2 Inv-loop2 μ-loop2 Inv-loop μ-loop
-add-sec-far-2 c = omega arith
+add-side-at-4 : tie.Need-add-side-at-4 Inv-loop2 μ-loop2 Inv-loop μ-loop
+add-side-at-4 c = omega arith
 
-sec-far-requires-2 : tie.Need-sec-far-requires-2 Inv-loop2 μ-loop2 Inv-loop μ-loop
-sec-far-requires-2 c κs = let s = c .before .before .before .before .before .before .before .before in (omega arith, omega arith, s .pre .1, s .pre .2, s .pre .4)
+side-at-requires-4 : tie.Need-side-at-requires-4 Inv-loop2 μ-loop2 Inv-loop μ-loop
+side-at-requires-4 c κs = let s = c .before .before .before .before .before .before .before .before in (omega arith, omega arith, s .pre .1, s .pre .2 .q1, s .pre .2 .r1, s .pre .4 .w1, s .pre .4 .s, s .pre .4 .sh)
 
 add-requires-2 : tie.Need-add-requires-2 Inv-loop2 μ-loop2 Inv-loop μ-loop
-add-requires-2 c κs = let s = c .before .before .before .before .before .before .before .before .before in let a = s .args in sec-ok (a .w .now) _ (a .t) (a .g) (s .pre .4) (c .before .sec-near2 .ensures) (c .sec-far2 .ensures)
+add-requires-2 c κs = let s = c .before .before .before .before .before .before .before .before .before in let a = s .args in sec-ok (a .w .now) _ (a .t) (a .g) (s .pre .4) (c .before .side-at3 .ensures) (c .side-at4 .ensures)
 
 add-s2 : tie.Need-add-s2 Inv-loop2 μ-loop2 Inv-loop μ-loop
 add-s2 c = omega arith
@@ -102,9 +101,9 @@ loop2-less : tie.Need-loop2-less Inv-loop2 μ-loop2 Inv-loop μ-loop
 loop2-less c = omega arith
 
 loop2-again : tie.Need-loop2-again Inv-loop2 μ-loop2 Inv-loop μ-loop
-loop2-again c = let s = c .before .before .before .before .before .before .before .before .before .before in let a = s .args in let q = c .before .before .before .before .before .before .before .loop2 in let i = c .before .before .before .before .before .before .before .before .before .loop .i in let j = q .j in (
-  filled (λ (p : ℕ). secAt (a .w .now) p (a .t) (a .f)) _ i j _ (omega arith) (q .inv .2) (omega arith) (sec-is (a .w .now) _ (a .t) (a .f) (s .pre .3) (c .before .before .before .before .before .sec-near .ensures) (c .before .before .before .before .sec-far .ensures) (c .before .before .before .add .ensures)) (q .inv .0),
-  filled (λ (p : ℕ). secAt (a .w .now) p (a .t) (a .g)) _ i j _ (omega arith) (q .inv .3) (omega arith) (sec-is (a .w .now) _ (a .t) (a .g) (s .pre .4) (c .before .before .sec-near2 .ensures) (c .before .sec-far2 .ensures) (c .add2 .ensures)) (q .inv .1),
+loop2-again c = let s = c .before .before .before .before .before .before .before .before .before .before in let a = s .args in let q = c .before .before .before .before .before .before .before .loop2 in let n = c .before .before .before .before .before .before .before .before .loop-test .taken in let i = c .before .before .before .before .before .before .before .before .before .loop .i in let j = q .j in (
+  filled (λ (p : ℕ). secAt (a .w .now) p (a .t) (a .f)) _ i j _ (omega arith) (q .inv .2) (omega (arith, s .pre .0, n)) (sec-is (a .w .now) _ (a .t) (a .f) (s .pre .3) (c .before .before .before .before .before .side-at .ensures) (c .before .before .before .before .side-at2 .ensures) (c .before .before .before .add .ensures)) (q .inv .0),
+  filled (λ (p : ℕ). secAt (a .w .now) p (a .t) (a .g)) _ i j _ (omega arith) (q .inv .3) (omega (arith, s .pre .0, n)) (sec-is (a .w .now) _ (a .t) (a .g) (s .pre .4) (c .before .before .side-at3 .ensures) (c .before .side-at4 .ensures) (c .add2 .ensures)) (q .inv .1),
   simp length-set (q .inv .2),
   simp length-set (q .inv .3),
   omega arith,
@@ -136,18 +135,18 @@ sec-blocks-spec =
     add-from-2
     mul-to
     loop2-holds
-    add-sec-near
-    sec-near-requires
-    add-sec-far
-    sec-far-requires
+    add-side-at
+    side-at-requires
+    add-side-at-2
+    side-at-requires-2
     add-requires
     add-s1
     mul-s1
     array-set-from-s1
-    add-sec-near-2
-    sec-near-requires-2
-    add-sec-far-2
-    sec-far-requires-2
+    add-side-at-3
+    side-at-requires-3
+    add-side-at-4
+    side-at-requires-4
     add-requires-2
     add-s2
     mul-s2

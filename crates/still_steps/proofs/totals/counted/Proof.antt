@@ -5,7 +5,7 @@ use borrow.Author.Needs.{needs}
 use mir.Syntax.{w64}
 use mir.Val.{ofZ, toZ}
 use mir.ValLaws.{toZ-ofZ}
-use Rattle.still_steps.specs.TrialLaws.{same-is, other-is}
+use Rattle.still_steps.specs.TotalLaws.{same-is, other-is}
 use Rattle.still_steps.proofs.totals.counted.Statement.{statement}
 use Rattle.still_steps.proofs.totals.counted.Tie as tie
 use Rattle.still_steps.proofs.totals.counted.Reads as reads

@@ -6,7 +6,7 @@ use lib.IntN.{pos}
 use lib.ListN.{getD, length}
 use mir.Syntax.{w64}
 use mir.ValLaws.{toZ-ofZ}
-use Rattle.still_steps.specs.TrialLaws.{differ-none, differ-more, differ-low}
+use Rattle.still_steps.specs.TotalLaws.{differ-none, differ-more, differ-low}
 use Rattle.still_lists.specs.Lists.{differ}
 use Rattle.still_steps.proofs.totals.differing.Statement.{statement}
 use Rattle.still_steps.proofs.totals.differing.Tie as tie

@@ -1,11 +1,11 @@
--- `still_steps::totals::trial_of` meets its contract.
+-- `arith_trials::trial_of` meets its contract.
 use native.Mathlib.Omega.{arith}
 use borrow.Author.Needs.{needs}
-use Rattle.still_steps.specs.TrialLaws.{number-none, number-low, number-four, number-other}
-use Rattle.still_steps.proofs.totals.trial_of.Statement.{statement}
-use Rattle.still_steps.proofs.totals.trial_of.Tie as tie
-use Rattle.still_steps.proofs.totals.trial_of.Reads as reads
-use Rattle.still_steps.proofs.totals.trial_of.Lts as lts
+use Rattle.arith_trials.specs.TrialLaws.{number-none, number-low, number-four, number-other}
+use Rattle.arith_trials.proofs.trial_of.Statement.{statement}
+use Rattle.arith_trials.proofs.trial_of.Tie as tie
+use Rattle.arith_trials.proofs.trial_of.Reads as reads
+use Rattle.arith_trials.proofs.trial_of.Lts as lts
 
 returns : tie.Need-returns
 returns c = number-none _ _ (c .if1 .taken)

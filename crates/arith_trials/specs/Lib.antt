@@ -1,0 +1,2 @@
+-- Laws of the trial numbers.
+pub mod TrialLaws

@@ -1,124 +1,101 @@
-"""The proof of a public call that takes a slice of unit pairs: it copies them into an array, and calls its covered core."""
-from script import Script, after_entry, low, operands, tuple_of
-from signature import lawful
-from walk import Walk
-
-PAIRS = '(Array theUnitPair.the-row 4096)'
+"""A call in a walk: what is passed to it, the terms that the proof says of it, and its steps."""
+from terms import bound, low, part, tuple_of
 
 
-class Call(Walk):
-    def __init__(self, function, core):
-        super().__init__(function, core)
-        self.pairs = next(p for p in self.params if p.pairs)
-        after = 1 + len(self.params)
-        self.thin = {p.name: after + 2 * i for i, p in enumerate(function.mutable())}
-        self.length = after + 2 * len(self.thin)
-        self.array = self.length + 1
-        self.locals = self.array + 1
+class Value:
+    """Plain data: its term, its machine value, the fact that relates the two, and the term over plain values, where a slice's name is its list."""
 
-    # ---- terms of the core's call: the length and the array stand where the pairs stood
+    def __init__(self, kind, term, machine, fact, plain=None):
+        self.kind, self.term, self.machine, self.fact, self.plain = kind, term, machine, fact, plain or term
+        self.had = f'made {kind.made(term, machine, fact)}'
 
-    def core_values(self):
-        return tuple_of([{'n': 'length (pairs .now)'}.get(p.name, p.name) for p in self.callee.params])
+    def typed(self):
+        return self.kind.typed(self.term, self.machine, self.fact)
 
-    def core_machines(self):
-        special = {'n': 'vint w64 (length (pairs .now))', 'a': 'a-val'}
-        return tuple_of([f'{special.get(p.name, p.machine)} ∷ []' for p in self.callee.params])
 
-    def core_lives(self, letter):
-        return tuple_of([f'{letter}{low(self.of(p.name).life)}' for p in self.callee.lent()])
+class Slice:
+    """A slice that the function was passed."""
+    had = 'here'
 
-    def core_tokens(self):
-        return [f'token_{self.of(p.name).life}' for p in self.callee.lent()]
+    def __init__(self, param):
+        self.param, self.machine = param, param.machine
+        self.term = self.plain = self.name = param.name
+        self.lft, self.share = f'κ{low(param.life)}', f'q{low(param.life)}'
+        self.token, self.own, self.last = f'token_{param.life}', f'own_{param.name}', f'{param.name}′'
 
-    def claim(self):
-        return f'Claims {" ".join(p.value for p in self.params)} a r{self.ends()}'
 
-    def handed(self):
-        """What the core is given: the array, the tokens, and what its borrowed parameters own."""
-        return ['own_a'] + self.core_tokens() + [f'own_{p.name}' if p.kind == 'mutable' else f'copy_{p.name}' for p in self.callee.lent()]
+class Call:
+    def __init__(self, number, contract, function, passed, results):
+        """number: the call's own. contract: the number of its contract, one for all calls of a function. results: of the calls before."""
+        self.number, self.function, self.passed, self.results = low(number), function, passed, results
+        self.alias, self.contract = f'callee{low(contract)}', f'Callee{low(contract)}'
+        name = f'r{self.number}'
+        self.result = Value(function.result, name, f'{name}-val', f'{name}-is')
+        self.loan = next((v for v in passed if hasattr(v, 'lend')), None)
 
-    def handed_items(self):
-        lent = [(self.of(p.name), p.life) for p in self.callee.lent()]
-        return [f'‵ ({PAIRS} .own a (a-val ∷ []))'] + [self.token(p.life) for p, _ in lent] + [self.owns(p, life) for p, life in lent]
+    def pairs(self):
+        return list(zip(self.function.params, self.passed))
 
-    def passed(self, p):
-        """The local that holds what the core is passed."""
-        if p.name in ('n', 'a'):
-            return f'_{self.length if p.name == "n" else self.array}'
-        return f'_{self.thin[p.name] + 1}' if p.kind == 'mutable' else f'_{self.local[p.name]}'
+    def lent(self):
+        return [v for p, v in self.pairs() if p.lent]
 
-    # ---- the proof by hand over the MIR
+    def mutable(self):
+        return [v for p, v in self.pairs() if p.way == 'mutable']
 
-    def walk(self):
-        s = Script(after_entry(self.locals))
-        self.enter(s)
-        for p in self.function.mutable():
-            self.lend_on(s, p)
-        s.assign(f'(of-opd ! {s.read_part(self.at(self.pairs), 1)})', f'_{self.length}', '(tt, record { fits = pairs-room .0 })')
-        self.gather(s)
-        for p in self.callee.lent():
-            if p.kind == 'shared':
-                self.twice(s, self.of(p.name), f'copy_{p.name}')
-        tokens = [self.token(self.of(p.name).life) for p in self.callee.lent()]
-        self.work(s, 'to-callee a a-val', lambda s: [s.read(self.passed(p)) for p in self.callee.params], tokens, self.core_lives('κ'), self.core_values())
-        for token in self.core_tokens():
-            s.front('tokens_back')
-            s.split(token, 'tokens_back')
-        self.land(s)
-        self.leave(s, f'(answer {" ".join(p.value for p in self.params)} a r{self.ends()} gathers said)')
-        return s.text(8) + ')' * self.locals
+    def taken(self):
+        """The entries of the context that the call takes."""
+        return [v.token for v in self.lent()] + [v.own for v in self.lent()]
 
-    def gather(self, s):
-        """The call of `gather`; its array is stored, and its postcondition is named `gathers`."""
-        p = self.pairs
-        life = low(p.life)
-        self.twice(s, p, 'copy')
-        s.front(f'token_{p.life}', 'copy')
-        s.do('use2 W (raw (Gather 𝓤 H A mem run .pre to-gather)) goes-gather', 2, 'pre')
-        s.line()
-        s.binds(f'calls-at ! fm (Gather 𝓤 H A mem run) known-gather to-gather {operands([s.read(self.at(p))])} (λ a-val.')
-        s.binds(f'use1 W (later (some (λ (a : List UnitPair). ({self.tokens([self.token(p.life)])} ⊛ ‵ ({PAIRS} .own a (a-val ∷ []))) ⊛ raw (ensured 𝓤 H A gather.ended (gather.clauses 𝓤 H A mem run) (κ{life}, tt) (pairs, tt) tt a)))) (id⊢ 𝓤 _) $ await ! tt $ pick ! (λ a.')
-        s.turn(1, 'result')
-        s.split('result', 'promise')
-        s.front('promise')
-        s.binds('use1 W (raw (fact 𝓤 (a ≡ gathered (pairs .now)))) (gather-said a) $ heard ! (a ≡ gathered (pairs .now)) (λ gathers.')
-        s.turn(1)
-        s.front('result')
-        s.split('back', 'own_a')
-        s.split(f'token_{p.life}', 'none')
-        s.front('own_a')
-        s.line()
-        s.binds(f'peeks ! {PAIRS} (Is {PAIRS}) (shows 𝓤 H A {PAIRS}) a (a-val ∷ []) (λ a-is.')
-        typed = f'(array-lawful 𝓤 H A W theUnitPair.the-row ({lawful("UnitPair")}) 4096 .typed a (a-val ∷ []) a-is .0)'
-        s.say(f'land ! (from ! (stop !)) (init ! {s.at(f"_{self.array}")} refl {typed}) $')
+    # ---- what the contract is cited at
 
-    def into_callee(self):
-        s = Script(self.handed())
-        self.join_tokens(s, self.core_tokens())
-        names = {p.name: f'own_{p.name}' if p.kind == 'mutable' else f'copy_{p.name}' for p in self.callee.lent()}
-        names['a'] = 'own_a'
-        length = 'owned ! usize (Is usize) (uint-makes 𝓤 H A W w64) (length (pairs .now)) (vint w64 (length (pairs .now)) ∷ []) (refl, pairs-room .0) $'
-        self.join_owns(s, self.callee.params, lambda p: names.get(p.name, 'made'), lambda p: length if p.name == 'n' else self.of(p.name).makes())
-        s.join('tokens', 'owns', 'all')
-        s.say('frame ! $ done !')
-        return s.text(6)
+    def at(self):
+        """Its name in the walk, with what it is given there."""
+        more = ([self.loan.at] if self.loan else []) + [f'{v.term} {v.machine}' for v in self.results]
+        return f'({" ".join([f"to{self.number}", *more])})'
 
-    def required(self):
-        return 'via 𝓤 _ (fst∗ 𝓤 _ (emp 𝓤)) ('
+    def definition(self):
+        results = [f'{v.term} {v.machine}' for v in self.results]
+        binders = ([self.loan.binders] if self.loan else []) + [f'{bound(v.term, v.kind.plain)} {bound(v.machine, "Val")}' for v in self.results]
+        names = [f'to{self.number}'] + ([self.loan.names] if self.loan else []) + results
+        lfts, shares, terms = (tuple_of(items) for items in ([v.lft for v in self.lent()], [v.share for v in self.lent()], [v.term for v in self.passed]))
+        machines = tuple_of([f'{v.machine} ∷ []' for v in self.passed])
+        return (f'  -- the call of `{self.function.name}`\n'
+                f'  abbrev to{self.number} : {" ".join(binders)}{" → " if binders else ""}{self.contract} 𝓤 H A mem run .Ghost\n'
+                f'  {" ".join(names)} = (({lfts}, {shares}, tt, {terms}, {machines}), tt)\n')
 
-    def unfolding(self):
-        return ''
+    # ---- what it promises
 
-    def also(self):
-        return []
+    def lasts(self):
+        """The term for the last list of each mutable slice."""
+        return {v.name: f'({part(f"left{self.number}", i)})' for i, (p, v) in enumerate(self.pairs()) if p.way == 'mutable'}
 
-    def places(self):
-        """The values of the template's placeholders."""
-        life = low(self.pairs.life)
-        return {
-            'CLAIM': self.callee.claim([('n', '(length pairs)')]), 'SAID': self.function.claim(),
-            'KAPPA': f'κ{life}', 'SHARE': f'q{life}', 'PAIRS': self.pairs.machine, 'TOKEN': self.token(self.pairs.life), 'OWN': self.owns(self.pairs),
-            'CALLEE-KAPPAS': self.core_lives('κ'), 'CALLEE-SHARES': self.core_lives('q'),
-            'CALLEE-VALUES': self.core_values(), 'CALLEE-MACHINES': self.core_machines(),
-        }
+    def said(self, params):
+        """The promise in the walk."""
+        terms = [p.value for p in params] + [v.term for v in self.results] + [self.result.term] + list(self.lasts().values())
+        return ' '.join([f'Says{self.number}', *terms])
+
+    def plain(self):
+        """The promise over plain values."""
+        return ' '.join([f'Says{self.number}', *[v.term for v in self.results], self.result.term, *[v.last for v in self.mutable()]])
+
+    def promise(self):
+        """The definition of that."""
+        binders = [bound(v.term, v.kind.plain) for v in [*self.results, self.result]] + [bound(v.last, p.plain) for p, v in self.pairs() if p.way == 'mutable']
+        claim = self.function.claim({p.name: v.plain for p, v in self.pairs()}, {p.name: v.last for p, v in self.pairs() if p.way == 'mutable'}, self.result.term)
+        return f'  -- of `{self.function.name}`\n  abbrev Says{self.number} : {" ".join(binders)} → Type 0\n  {self.plain()} = {claim}\n'
+
+    # ---- its steps
+
+    def make(self, s, locals_, claim):
+        """The call, up to the store of its result. claim: the promise; it is heard as said₁, and what the result owns is own_₁."""
+        r, callee = self.result, f'{self.alias}.ended ({self.alias}.spec 𝓤 H A mem run) {self.at()}'
+        s.front(*self.taken())
+        s.say(f'hands W {self.alias}.signature ({self.alias}.spec 𝓤 H A mem run) {self.at()} (id⊢ 𝓤 (emp 𝓤)) {tuple_of([v.had for v in self.passed])} $')
+        s.turn(len(self.taken()), 'required')
+        s.under(f'calls-at ! fm ({self.contract} 𝓤 H A mem run) known-{self.alias} {self.at()} {s.operands([s.read(f"_{i}") for i in locals_])} (λ {r.machine}.')
+        s.under(f'answered W ! {callee} (λ {r.term} left{self.number}. {claim}) (λ {r.term}. id⊢ 𝓤 _) tt {r.machine} (λ {r.term} left{self.number} said{self.number}.')
+        s.turn(1, f'own_{self.number}', *[v.token for v in self.lent()], *[f'last_{v.name}' for v in self.mutable()])
+        s.under(f'peeks ! {r.kind.row} (Is {r.kind.row}) (shows 𝓤 H A {r.kind.row}) {r.term} ({r.machine} ∷ []) (λ {r.fact}.')
+        for slice_ in self.mutable():
+            s.under(f'lasting W ! {s.at(f"last_{slice_.name}")} refl (λ {slice_.name}-long.')
+            s.lift(f'last_{slice_.name}', f'final_{slice_.name}')

@@ -1,107 +1,141 @@
-"""The text of a proof: a template with its placeholders filled, without the imported names that it does not use."""
+"""The text of a proof: a template with its places filled, and the imports that the text needs."""
 import re
 
-from script import items_of, low, tuple_of
-
-
-def dashed(path):
-    return path.replace('_', '-').replace('::', '·')
+from kinds import modules
+from terms import bound, dashed, list_of, low, part, tuple_of
 
 
 class Cited:
-    """A contract that a proof cites: its name in the proof (gather or callee), and the function's path."""
+    """A contract that a walk of the crate `crate` cites."""
 
-    def __init__(self, name, path, inside):
-        self.name, self.path, self.inside = name, path, inside
+    def __init__(self, number, path, crate):
+        self.alias, self.contract, self.path, self.crate = f'callee{low(number)}', f'Callee{low(number)}', path, crate
 
     def uses(self):
-        crate, *rest = self.path.split('::')
-        module = '.'.join([f'Rattle.{crate}.proofs' if self.inside else f'Rattle.{crate}.proofs'] + rest)
-        return [f'use {module} as {self.name}', f'use {module}.Symbol as {self.name}-def',
-                f'use {module}.Symbol.{{name as #{self.name}}}', f'use {module}.Met as {self.name}-thm']
+        return function_uses(self.alias, self.path, self.crate, f'Symbol as {self.alias}-def', f'Symbol.{{name as #{self.alias}}}', f'Met as {self.alias}-thm')
 
-    def contract(self):
-        return self.name.capitalize()
+    def definition(self):
+        return f'  abbrev {self.contract} : Contract 𝓤\n  {self.contract} = tripleOf 𝓤 H A {self.alias}.signature ({self.alias}.spec 𝓤 H A mem run)\n'
 
     def known(self, table):
-        return f'(known-{self.name} : Triple 𝓤 ({table} #{self.name}) ({self.contract()} 𝓤 H A mem run))'
+        return bound(f'known-{self.alias}', f'Triple 𝓤 ({table} #{self.alias}) ({self.contract} 𝓤 H A mem run)')
 
     def citing(self):
-        return f'(cited 𝓤 H ({self.contract()} 𝓤 H (𝓖 .A) (𝓜 .mem) (𝓡 .run)) 𝓜 𝓡 code.env #{self.name} {self.name}-def.routine code.calls-{dashed(self.path)} ({self.name}-thm.met 𝓤 H 𝓜 𝓖 𝓡))'
+        contract = f'({self.contract} 𝓤 H (𝓖 .A) (𝓜 .mem) (𝓡 .run))'
+        return f'(cited 𝓤 H {contract} 𝓜 𝓡 code.env #{self.alias} {self.alias}-def.routine code.calls-{dashed(self.path)} ({self.alias}-thm.met 𝓤 H 𝓜 𝓖 𝓡))'
 
 
-def promise(w):
-    """The placeholders that concern the contract alone."""
-    mutable = w.function.mutable()
+def function_uses(alias, path, crate, *more):
+    """The imports of a function's modules. more: those below the module of its contract."""
+    home, *rest = path.split('::')
+    module = '.'.join([modules(home, crate)[1], *rest])
+    return [f'use {module} as {alias}'] + [f'use {module}.{below}' for below in more]
+
+
+# ---- a line of calls
+
+def promises(line, answer):
+    """The places that concern what is promised. answer: the proof of the function's promise from those of its callees."""
+    mutable, last = line.function.mutable(), line.results[-1].term
+    lasts, last_names = ''.join(f' ({p.name}′ : {p.plain})' for p in mutable), ''.join(f' {p.name}′' for p in mutable)
+    results, names = ' '.join(bound(v.term, v.kind.plain) for v in line.results), ' '.join(v.term for v in line.results)
+    claims, said = ' → '.join(c.plain() for c in line.calls), ' '.join(f'said{c.number}' for c in line.calls)
     return {
-        'PURE': ' '.join(f'({p.name} : {p.pure})' for p in w.params),
-        'RESULT': w.function.result,
-        'LASTS': ''.join(f' ({p.name}′ : {p.pure})' for p in mutable),
-        'LAST-NAMES': ''.join(f' {p.name}′' for p in mutable),
-        'VALUES': ' '.join(p.value for p in w.params),
-        'LONGS': ''.join(f' → length {p.name}′ ≡ length ({p.name} .now)' for p in mutable),
-        'LONG-NAMES': ''.join(f' {p.name}-long' for p in mutable),
-        'ENDS': tuple_of([f'{p.name}′' if p.kind == 'mutable' else 'tt' for p in w.params]),
-        'FITS': tuple_of([f'{p.name}-long' if p.kind == 'mutable' else 'tt' for p in w.params]),
+        'PLAIN': ' '.join(bound(p.name, p.plain) for p in line.params), 'RESULT': line.function.result.plain, 'LASTS': lasts, 'LAST-NAMES': last_names,
+        'SAID': line.function.claim({p.name: p.name for p in line.params}, {p.name: f'{p.name}′' for p in mutable}, 'r'),
+        'PROMISES': '\n'.join(c.promise() for c in line.calls),
+        'ANSWER': f'  answer : {results}{lasts} → {claims} → Said {last}{last_names}\n  answer {names}{last_names} {said} = {answer}',
     }
 
 
-def entry(w):
-    """The placeholders that concern what is passed."""
-    numbers = range(w.lives)
-    down = [' .1' * i + ' .0' for i in range(len(w.params))]
-    passed = [f'(args{d})' + (' _' if p.kind == 'array' else '') for p, d in zip(w.params, down)]
-    facts = [f'(are{d} .0 .1)' if p.lent else f'(are{d})' for p, d in zip(w.params, down)]
-    bound = [f'({p.name} : {p.bound})' + (f' ({p.name}-val : Val)' if p.kind == 'array' else '') for p in w.params]
-    kappas, shares = (' '.join(f'{letter}{low(i)}' for i in numbers) for letter in 'κq')
+def entry(line):
+    """The places that concern what the function is called with."""
+    params, lent, asks = line.params, line.function.lent(), line.function.asks
+    lfts, shares = ([f'{letter}{low(p.life)}' for p in lent] for letter in 'κq')
+    lives = [f'({" ".join(lfts)} : Lft) ({" ".join(shares)} : Share)'] if lent else []
+    values = [bound(p.name, f'RefT ({p.plain})' if p.lent else p.plain) + (f' ({p.name}-val : Val)' if p.named else '') for p in params]
+    facts = [f'({p.name}-room : Room {p.kind.row} (length ({p.name} .now)))' if p.lent else bound(f'{p.name}-is', p.kind.fact(p.name, p.machine)) for p in params]
+    terms = [p.name + (f' (only ({p.kind.spelt("vals")} {p.name}))' if p.named else '') for p in params]
+    known = [f'({p.name}-fact .0 .1)' if p.lent else f'{p.name}-fact' for p in params]
     return {
-        'GIVEN': ' '.join([f'({kappas} : Lft) ({shares} : Share)'] + bound + [p.fact() for p in w.params]),
-        'AT': w.bound(), 'LIVES': w.lives_of('κ'), 'LIFE-SHARES': w.lives_of('q'),
-        'PARAMS': w.values(), 'MACHINES': w.machines(), 'PASSED': items_of([p.machine for p in w.params]),
-        'TOKENS': w.tokens([w.token(i) for i in numbers]), 'TYPES': items_of([p.type(p.life, f'κ{low(p.life)}') for p in w.params]),
-        'STAYS': w.stays(), 'GOES': w.goes(), 'SPELLS': w.spells(), 'TELLS': w.tells(),
-        'WALK-ARGS': ' '.join([f'(κs{" .1" * i} .0)' for i in numbers] + [f'(qs{" .1" * i} .0)' for i in numbers] + passed + facts + w.also()),
-        'KEPT': items_of(w.kept_items()), 'OUT': w.out(),
-        'HANDED': items_of(w.handed_items()), 'INTO-CALLEE': w.into_callee(),
-        'REQUIRED': w.required(), 'UNFOLDING': w.unfolding(), 'ALLOCS': w.allocs(), 'WALK': w.walk(),
+        'GIVEN': ' '.join([*lives, *values, *facts] + ([bound('asked', asks)] if asks else [])),
+        'LFTS': tuple_of(lfts), 'SHARES': tuple_of(shares), 'ARGS': tuple_of([p.name for p in params]), 'MACHINES': tuple_of([f'{p.machine} ∷ []' for p in params]),
+        'PASSED': list_of([p.machine for p in params]), 'FIT': tuple_of([p.typed() for p in params]), 'BLOCKS': ' '.join(f'l{low(i)}' for i in range(len(line.locals))),
+        'BINDERS': ' '.join([*lfts, *shares, 'bounds', *[p.name for p in params], 'g', *[f'{p.name}-fact' for p in params], 'asked']),
+        'ARGUMENTS': ' '.join([*lfts, *shares, *terms, *known] + (['asked'] if asks else [])), 'ASKED': asked(line.function),
+        'SPELT': tuple_of(['slice-vals' if p.lent else p.kind.spelt('vals') for p in params]), 'TELLS': tuple_of([tells(p) for p in params]),
     }
 
 
-def of_function(crate, module, name):
-    here = f'Rattle.{crate}.proofs.{module}.{name}'
-    return [f'use {here}.Key.{{name as #call}}', f'use {here} as fun', f'use {here}.Statement as stated', f'use {here}.Code as code']
+def asked(function):
+    """What the function requires as a fact about its arguments, and that the clause gives it."""
+    if not function.asks:
+        return '(λ κs a. Unit {0}) (λ κs a g P Q h. via 𝓤 P (fst∗ 𝓤 P (emp 𝓤)) (h tt))'
+    fact = function.asked({p.name: f'({part("a", i)})' for i, p in enumerate(function.params)})
+    return f'(λ κs a. {fact}) (λ κs a g P Q h. needs 𝓤 ({fact}) P h)'
 
 
-def text(templates, w, crate, module, uses, answer, cited):
-    """templates: the shared names, the body and its ending."""
-    lines = [templates['uses'].rstrip()] + uses + [line for c in cited for line in c.uses()] + of_function(crate, module, w.function.name)
+def tells(p):
+    way = {'shared': 'shr', 'mutable': 'mut'}
+    return f'{way[p.way]}-slice-tells (named {p.life}) ({part("κs", p.life)}) {p.kind.row}' if p.lent else p.kind.spelt('tells')
+
+
+def at_exit(line):
+    """The places that concern what is had of each parameter at exit."""
+    lives, row = len(line.function.lent()), '(plain (λ _. {}))'
+
+    def one(p, gave, dropped):
+        here = row.format(p.kind.row)
+        if p.way == 'mutable':
+            return gave.format(life=p.life, lives=lives, row=here)
+        return dropped.format(lives=lives, slot=f'(shrSliceOf ({p.life} ∷ []) tt {here})' if p.lent else here)
+    return {
+        'STAYED': tuple_of([one(p, 'gave-slice ({life} ∷ []) tt {row}', 'stay-dropped {slot} yes') for p in line.params]),
+        'GOES': tuple_of([one(p, 'goes-gave-slice 𝓤 H A W {lives} {life} tt {row}', 'goes-dropped 𝓤 H A W {lives} {slot} yes (λ κs x f. refl)') for p in line.params]),
+    }
+
+
+def line_places(line, answer):
+    return {
+        'TO': '\n'.join(c.definition() for c in line.calls), 'LOAN': line.loan.lemmas() if line.loan else '', 'WALK': line.script.text(8),
+        **promises(line, answer), **entry(line), **at_exit(line),
+    }
+
+
+# ---- any walk
+
+def proof(templates, name, path, paths, places, uses):
+    """The proof of the function at `path`, by the template `name`. paths: the functions whose contracts it cites. uses: the imports of its types and laws."""
+    crate = path.split('::')[0]
+    cited = [Cited(i, callee, crate) for i, callee in enumerate(paths, 1)]
+    more = [use for c in cited for use in c.uses()]
+    more += function_uses('fun', path, crate, 'Key.{name as #fun}', 'Statement as stated', 'Code as code', 'Code.Mir as code-mir')
     places = {
-        'ENDING': templates['ending'].rstrip(), 'CRATE': crate, 'MODULE': module, 'FN': w.function.name, 'SPEC': dashed(w.function.name), 'ANSWER': answer,
+        'THEOREM': templates['theorem'], 'PATH': path, 'SPEC': dashed(path.split('::')[-1]), 'CONTRACTS': '\n'.join(c.definition() for c in cited),
         'KNOWN-IN-C': ' '.join(c.known('C') for c in cited), 'KNOWN': ' '.join(c.known('𝓣 .C') for c in cited),
-        'KNOWN-NAMES': ' '.join(f'known-{c.name}' for c in cited), 'CITED': '\n    '.join(c.citing() for c in cited),
+        'KNOWN-NAMES': ' '.join(f'known-{c.alias}' for c in cited), 'CITED': '\n    '.join(c.citing() for c in cited), **places,
     }
-    body = templates['body']
-    for name, value in {**places, **promise(w), **entry(w), **w.places()}.items():
-        body = body.replace(f'@{name}@', value)
-    return body.replace('@USES@', '\n'.join(used(lines, body)))
+    text = templates[name]
+    for place, value in places.items():
+        text = text.replace(f'@{place}@', value)
+    return text.replace('@USES@', '\n'.join(used(uses + more, text)))
 
 
-def used(lines, body):
-    """The `use` lines that the body needs, with the names that it uses."""
-    words = set(re.split(r'[\s(){};,]+', body))
+def used(uses, text):
+    """The imports, with the names that the text uses. Its comments are not read."""
+    words = set(re.split(r'[\s(){};,]+', re.sub(r'(^|\s)--\s.*$', '', text, flags=re.M)))
     spoken = words | {word.split('.')[0] for word in words}
     kept = []
-    for line in '\n'.join(lines).split('\n'):
-        listed = re.match(r'use (.*)\.\{(.*)\}$', line)
+    for use in uses:
+        listed = re.fullmatch(r'use (.*)\.\{(.*)\}', use)
         if not listed:
-            if line.split(' as ')[1] in spoken:
-                kept.append(line)
+            kept += [use] if use.split(' as ')[-1] in spoken else []
             continue
-        names = [n for n in listed.group(2).split(', ') if says(n.split(' as ')[-1], spoken)]
-        if names:
-            kept.append(f'use {listed.group(1)}.{{{", ".join(names)}}}')
+        names = [name for name in listed.group(2).split(', ') if says(name.split(' as ')[-1], spoken)]
+        kept += [f'use {listed.group(1)}.{{{", ".join(names)}}}'] if names else []
     return kept
 
 
 def says(name, spoken):
-    return name.strip('_') in spoken if len(name) > 2 and name[0] == '_' and name[-1] == '_' else name in spoken
+    """Whether a name is used; an operator `_+_` is used as `+` or by its name."""
+    return name in spoken or len(name) > 2 and name[0] + name[-1] == '__' and name[1:-1] in spoken

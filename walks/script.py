@@ -1,122 +1,82 @@
 """The steps of a proof over the MIR, and the context that they act on.
 
-A step of the toolchain's calculus names an entry of the context by its position. Here an entry has a name, and the
-positions are computed: a local i is `_i` once it holds a value or room for one, and `die_i` is the right to free it.
+A step of the toolchain's calculus names an entry of the context by its position. Here each entry has a name, and the positions are computed.
 """
 
 
 class Script:
     def __init__(self, context):
-        self.context = list(context)
-        self.lines = [[]]
-        self.open = 0
+        self.context, self.lines, self.brackets = list(context), [], 0
 
     def at(self, name):
+        if self.context.count(name) != 1:
+            raise ValueError(f'{name} stands in the context {self.context.count(name)} times')
         return self.context.index(name)
 
+    # ---- the text
+
+    def line(self, text):
+        """A step that begins a line."""
+        self.lines.append(text)
+
     def say(self, text):
-        self.lines[-1].append(text)
+        """A step that goes on in the line."""
+        self.lines[-1] += f' {text}'
 
-    def line(self):
-        self.lines.append([])
+    def under(self, text):
+        """A step whose binder the rest stands under."""
+        self.line(text)
+        self.brackets += 1
 
-    def binds(self, text):
-        """A step that goes on under a binder; its bracket is closed at the end."""
-        self.say(text)
-        self.open += 1
+    def text(self, indent):
+        return '\n'.join(' ' * indent + line.strip() for line in self.lines) + ')' * self.brackets
 
-    def positions(self, names):
-        return '(' + ' ∷ '.join([str(self.at(n)) for n in names] + ['[]']) + ')'
-
-    def front(self, *names):
-        self.say(f'move ! {self.positions(names)} $')
-        self.context = list(names) + [n for n in self.context if n not in names]
-
-    def only(self, *names):
-        self.say(f'keep ! {self.positions(names)} $')
-        self.context = list(names)
+    # ---- the context
 
     def turn(self, count, *names):
         """The first entries have become others."""
-        self.context = list(names) + self.context[count:]
+        self.context[:count] = names
 
-    def push(self, name):
-        self.context.insert(0, name)
+    def lift(self, old, new):
+        """An entry has come to the front, under another name."""
+        del self.context[self.at(old)]
+        self.context.insert(0, new)
 
-    def rename(self, old, new):
-        self.context[self.at(old)] = new
+    def places(self, names):
+        return '(' + ' ∷ '.join([*(str(self.at(name)) for name in names), '[]']) + ')'
 
-    def do(self, text, count, *names):
-        self.say(text + ' $')
-        self.turn(count, *names)
+    def front(self, *names):
+        """A line that begins with these entries in front."""
+        self.line('' if self.context[:len(names)] == list(names) else f'move ! {self.places(names)} $')
+        self.context = [*names, *(name for name in self.context if name not in names)]
 
-    def split(self, *names):
-        self.do('split !', 1, *names)
+    def keep(self, *names):
+        """These entries, and no other."""
+        self.line(f'keep ! {self.places(names)} $')
+        self.context = list(names)
 
     def parts(self, *names):
-        self.do('fsplit !', 1, *names)
-
-    def join(self, a, b, new, step='join'):
-        self.front(a, b)
-        self.do(f'{step} !', 2, new)
-
-    def read(self, local):
-        return f'(load ! (from ! (stop !)) (look ! {self.at(local)} refl))'
-
-    def read_part(self, local, part):
-        return f'(load ! (from ! (fld ! refl (stop !))) (look-in ! {self.at(local)} (sub ! {part} refl (whole !))))'
-
-    def assign(self, value, local, typed):
-        self.line()
-        self.say(f'assigns ! {value} (from ! (stop !)) (init ! {self.at(local)} refl {typed}) $')
+        """The first entry, a conjunction, as two."""
+        self.say('fsplit ! $')
+        self.turn(1, *names)
 
     def rewrite(self, name, binder, item, path):
         self.say(f'rewrite ! {self.at(name)} (λ {binder}. ‵ ({item})) {path} refl $')
 
-    def forget(self, *locals_):
-        for local in locals_:
-            self.say(f'forget ! {self.at(local)} refl $')
+    # ---- memory
 
-    def free(self, count):
-        for i in range(count):
-            self.front(f'_{i}', f'die_{i}')
-            self.do('free1 !', 2)
-        self.say('free0 ! $')
-        self.line()
+    def read(self, local):
+        return f'(load ! (from ! (stop !)) (look ! {self.at(local)} refl))'
 
-    def text(self, indent):
-        lines = [' '.join(words) for words in self.lines if words]
-        return '\n'.join(' ' * indent + line for line in lines) + ')' * self.open
+    def read_field(self, local, field):
+        return f'(load ! (from ! (fld ! refl (stop !))) (look-in ! {self.at(local)} (sub ! {field} refl (whole !))))'
 
+    def operands(self, reads):
+        text = '(no-more !)'
+        for read in reversed(reads):
+            text = f'(and-then ! {read} {text})'
+        return text
 
-def after_entry(locals_):
-    """The context once the locals are allocated: the last local first."""
-    context = []
-    for i in reversed(range(locals_)):
-        context += [f'_{i}', f'die_{i}']
-    return context + ['tokens', 'owned']
-
-
-def low(i):
-    """A number as an index written low."""
-    return str(i).translate(str.maketrans('0123456789', '₀₁₂₃₄₅₆₇₈₉'))
-
-
-def tuple_of(items):
-    """(a, (b, .. tt))"""
-    text = 'tt'
-    for item in reversed(items):
-        text = f'({item}, {text})'
-    return text
-
-
-def items_of(items):
-    """A context as the calculus writes it."""
-    return ' ∷ '.join(items + ['[]'])
-
-
-def operands(reads):
-    text = '(no-more !)'
-    for read in reversed(reads):
-        text = f'(and-then ! {read} {text})'
-    return text
+    def assign(self, value, local, typed):
+        """A value stored in a local that holds none."""
+        self.line(f'assigns ! {value} (from ! (stop !)) (init ! {self.at(local)} refl {typed}) $')

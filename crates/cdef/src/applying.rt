@@ -23,7 +23,8 @@ fn apply_luma_of(
     a: [UnitPair; 4096],
     damping: DampingChoice,
 ) -> Answer
-    ensures { λ r. ⌜ applyingOutcome (lumaPicture depth width height (now (skip .entry)) (now (dirs .entry)) (now (vars .entry))) damping (now (snapshot .entry)) (listed n a) (now (dst .entry)) ≡ record { answer = readAnswer r; plane = now (dst .exit) } ⌝ }
+    ensures { λ r. ⌜ applyingOutcome (lumaPicture depth width height (now (skip .entry)) (now (dirs .entry)) (now (vars .entry))) damping
+        (now (snapshot .entry)) (listed n a) (now (dst .entry)) ≡ record { answer = readAnswer r; plane = now (dst .exit) } ⌝ }
 {
     let lists = cdef_pairs::lists_of(a);
     let pris = lists.pris;
@@ -60,7 +61,8 @@ fn apply_chroma_of(
     a: [UnitPair; 4096],
     damping: DampingChoice,
 ) -> Answer
-    ensures { λ r. ⌜ applyingOutcome (chromaPicture depth width height sx sy (now (skip .entry)) (now (dirs .entry))) damping (now (snapshot .entry)) (listed n a) (now (dst .entry)) ≡ record { answer = readAnswer r; plane = now (dst .exit) } ⌝ }
+    ensures { λ r. ⌜ applyingOutcome (chromaPicture depth width height sx sy (now (skip .entry)) (now (dirs .entry))) damping (now (snapshot .entry))
+        (listed n a) (now (dst .entry)) ≡ record { answer = readAnswer r; plane = now (dst .exit) } ⌝ }
 {
     let lists = cdef_pairs::lists_of(a);
     let pris = lists.pris;
@@ -96,7 +98,8 @@ pub fn apply_luma(
     pairs: &[UnitPair],
     damping: DampingChoice,
 ) -> Answer
-    ensures { λ r. ⌜ applyingOutcome (lumaPicture depth width height (now (skip .entry)) (now (dirs .entry)) (now (vars .entry))) damping (now (snapshot .entry)) (now (pairs .entry)) (now (dst .entry)) ≡ record { answer = readAnswer r; plane = now (dst .exit) } ⌝ }
+    ensures { λ r. ⌜ applyingOutcome (lumaPicture depth width height (now (skip .entry)) (now (dirs .entry)) (now (vars .entry))) damping
+        (now (snapshot .entry)) (now (pairs .entry)) (now (dst .entry)) ≡ record { answer = readAnswer r; plane = now (dst .exit) } ⌝ }
 {
     apply_luma_of(
         dst,
@@ -127,7 +130,8 @@ pub fn apply_chroma(
     pairs: &[UnitPair],
     damping: DampingChoice,
 ) -> Answer
-    ensures { λ r. ⌜ applyingOutcome (chromaPicture depth width height sx sy (now (skip .entry)) (now (dirs .entry))) damping (now (snapshot .entry)) (now (pairs .entry)) (now (dst .entry)) ≡ record { answer = readAnswer r; plane = now (dst .exit) } ⌝ }
+    ensures { λ r. ⌜ applyingOutcome (chromaPicture depth width height sx sy (now (skip .entry)) (now (dirs .entry))) damping (now (snapshot .entry))
+        (now (pairs .entry)) (now (dst .entry)) ≡ record { answer = readAnswer r; plane = now (dst .exit) } ⌝ }
 {
     apply_chroma_of(
         dst,

@@ -30,7 +30,16 @@ fn agree_chroma_of(
     a: [UnitPair; 4096],
     damping: DampingChoice,
 ) -> Agreement
-    ensures { λ r. ⌜ agreeOutcome (chromaPicture depth width height sx sy (now (skip .entry)) (now (dirs .entry))) damping visible (now (snapshot .entry)) (now (original .entry)) (listed n a) (now (tried .entry)) (now (dst .entry)) (now (measured .entry)) (now (scratch .entry)) ≡ record { answer = r; tried = now (tried .exit); dst = now (dst .exit); measured = now (measured .exit); scratch = now (scratch .exit) } ⌝ }
+    ensures { λ r. ⌜ agreeOutcome (chromaPicture depth width height sx sy (now (skip .entry)) (now (dirs .entry))) damping visible
+        (now (snapshot .entry)) (now (original .entry)) (listed n a) (now (tried .entry)) (now (dst .entry)) (now (measured .entry))
+        (now (scratch .entry)) ≡ record {
+          answer = r;
+          tried = now (tried .exit);
+          dst = now (dst .exit);
+          measured = now (measured .exit);
+          scratch
+              = now (scratch .exit);
+        } ⌝ }
 {
     let lists = cdef_pairs::lists_of(a);
     let pris = lists.pris;
@@ -77,7 +86,17 @@ pub fn agree_chroma(
     pairs: &[UnitPair],
     damping: DampingChoice,
 ) -> Agreement
-    ensures { λ r. ⌜ (agreeOutcome (chromaPicture depth width height sx sy (now (skip .entry)) (now (dirs .entry))) damping visible (now (snapshot .entry)) (now (original .entry)) (now (pairs .entry)) (now (tried .entry)) (now (dst .entry)) (now (measured .entry)) (now (scratch .entry)) ≡ record { answer = r; tried = now (tried .exit); dst = now (dst .exit); measured = now (measured .exit); scratch = now (scratch .exit) }) × (isAgreed r ≡ true → Agrees (chromaPicture depth width height sx sy (now (skip .entry)) (now (dirs .entry))) (now (pairs .entry)) (now (tried .exit)) (now (measured .exit))) ⌝ }
+    ensures { λ r. ⌜ (agreeOutcome (chromaPicture depth width height sx sy (now (skip .entry)) (now (dirs .entry))) damping visible
+        (now (snapshot .entry)) (now (original .entry)) (now (pairs .entry)) (now (tried .entry)) (now (dst .entry)) (now (measured .entry))
+        (now (scratch .entry)) ≡ record {
+          answer = r;
+          tried = now (tried .exit);
+          dst = now (dst .exit);
+          measured = now (measured .exit);
+          scratch
+              = now (scratch .exit);
+        }) × (isAgreed r ≡ true → Agrees (chromaPicture depth width height sx sy (now (skip .entry)) (now (dirs .entry)))
+        (now (pairs .entry)) (now (tried .exit)) (now (measured .exit))) ⌝ }
 {
     agree_chroma_of(
         tried,

@@ -29,7 +29,16 @@ fn agree_luma_of(
     a: [UnitPair; 4096],
     damping: DampingChoice,
 ) -> Agreement
-    ensures { λ r. ⌜ agreeOutcome (lumaPicture depth width height (now (skip .entry)) (now (dirs .entry)) (now (vars .entry))) damping visible (now (snapshot .entry)) (now (original .entry)) (listed n a) (now (tried .entry)) (now (dst .entry)) (now (measured .entry)) (now (scratch .entry)) ≡ record { answer = r; tried = now (tried .exit); dst = now (dst .exit); measured = now (measured .exit); scratch = now (scratch .exit) } ⌝ }
+    ensures { λ r. ⌜ agreeOutcome (lumaPicture depth width height (now (skip .entry)) (now (dirs .entry)) (now (vars .entry))) damping visible
+        (now (snapshot .entry)) (now (original .entry)) (listed n a) (now (tried .entry)) (now (dst .entry)) (now (measured .entry))
+        (now (scratch .entry)) ≡ record {
+          answer = r;
+          tried = now (tried .exit);
+          dst = now (dst .exit);
+          measured = now (measured .exit);
+          scratch
+              = now (scratch .exit);
+        } ⌝ }
 {
     let lists = cdef_pairs::lists_of(a);
     let pris = lists.pris;
@@ -75,7 +84,18 @@ pub fn agree_luma(
     pairs: &[UnitPair],
     damping: DampingChoice,
 ) -> Agreement
-    ensures { λ r. ⌜ (agreeOutcome (lumaPicture depth width height (now (skip .entry)) (now (dirs .entry)) (now (vars .entry))) damping visible (now (snapshot .entry)) (now (original .entry)) (now (pairs .entry)) (now (tried .entry)) (now (dst .entry)) (now (measured .entry)) (now (scratch .entry)) ≡ record { answer = r; tried = now (tried .exit); dst = now (dst .exit); measured = now (measured .exit); scratch = now (scratch .exit) }) × (isAgreed r ≡ true → Agrees (lumaPicture depth width height (now (skip .entry)) (now (dirs .entry)) (now (vars .entry))) (now (pairs .entry)) (now (tried .exit)) (now (measured .exit))) ⌝ }
+    ensures { λ r. ⌜ (agreeOutcome (lumaPicture depth width height (now (skip .entry)) (now (dirs .entry)) (now (vars .entry))) damping visible
+        (now (snapshot .entry)) (now (original .entry)) (now (pairs .entry)) (now (tried .entry)) (now (dst .entry)) (now (measured .entry))
+        (now (scratch .entry)) ≡ record {
+          answer = r;
+          tried = now (tried .exit);
+          dst = now (dst .exit);
+          measured = now (measured .exit);
+          scratch
+              = now (scratch .exit);
+        }) × (isAgreed r ≡ true
+        → Agrees (lumaPicture depth width height (now (skip .entry)) (now (dirs .entry)) (now (vars .entry))) (now (pairs .entry))
+        (now (tried .exit)) (now (measured .exit))) ⌝ }
 {
     agree_luma_of(
         tried,

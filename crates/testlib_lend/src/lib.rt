@@ -30,7 +30,8 @@ pub fn apply_luma(
     damping: DampingChoice,
 ) -> Answer
     requires { ⌜ n ≤ 4100 ⌝ }
-    ensures { λ r. ⌜ applyingOutcome (lumaPicture depth width height (now (skip .entry)) (now (dirs .entry)) (now (vars .entry))) damping (now (snapshot .entry)) (take n a) (now (dst .entry)) ≡ record { answer = readAnswer r; plane = now (dst .exit) } ⌝ }
+    ensures { λ r. ⌜ applyingOutcome (lumaPicture depth width height (now (skip .entry)) (now (dirs .entry)) (now (vars .entry))) damping
+        (now (snapshot .entry)) (take n a) (now (dst .entry)) ≡ record { answer = readAnswer r; plane = now (dst .exit) } ⌝ }
 {
     cdef::applying::apply_luma(
         dst,
@@ -66,7 +67,18 @@ pub fn agree_luma(
     damping: DampingChoice,
 ) -> Agreement
     requires { ⌜ n ≤ 128 ⌝ }
-    ensures { λ r. ⌜ (agreeOutcome (lumaPicture depth width height (now (skip .entry)) (now (dirs .entry)) (now (vars .entry))) damping visible (now (snapshot .entry)) (now (original .entry)) (take n a) (now (tried .entry)) (now (dst .entry)) (now (measured .entry)) (now (scratch .entry)) ≡ record { answer = r; tried = now (tried .exit); dst = now (dst .exit); measured = now (measured .exit); scratch = now (scratch .exit) }) × (isAgreed r ≡ true → Agrees (lumaPicture depth width height (now (skip .entry)) (now (dirs .entry)) (now (vars .entry))) (take n a) (now (tried .exit)) (now (measured .exit))) ⌝ }
+    ensures { λ r. ⌜ (agreeOutcome (lumaPicture depth width height (now (skip .entry)) (now (dirs .entry)) (now (vars .entry))) damping visible
+        (now (snapshot .entry)) (now (original .entry)) (take n a) (now (tried .entry)) (now (dst .entry)) (now (measured .entry))
+        (now (scratch .entry)) ≡ record {
+          answer = r;
+          tried = now (tried .exit);
+          dst = now (dst .exit);
+          measured = now (measured .exit);
+          scratch
+              = now (scratch .exit);
+        }) × (isAgreed r ≡ true
+        → Agrees (lumaPicture depth width height (now (skip .entry)) (now (dirs .entry)) (now (vars .entry))) (take n a) (now (tried .exit))
+        (now (measured .exit))) ⌝ }
 {
     cdef_agree::luma::agree_luma(
         tried,
@@ -107,7 +119,17 @@ pub fn agree_chroma(
     damping: DampingChoice,
 ) -> Agreement
     requires { ⌜ n ≤ 128 ⌝ }
-    ensures { λ r. ⌜ (agreeOutcome (chromaPicture depth width height sx sy (now (skip .entry)) (now (dirs .entry))) damping visible (now (snapshot .entry)) (now (original .entry)) (take n a) (now (tried .entry)) (now (dst .entry)) (now (measured .entry)) (now (scratch .entry)) ≡ record { answer = r; tried = now (tried .exit); dst = now (dst .exit); measured = now (measured .exit); scratch = now (scratch .exit) }) × (isAgreed r ≡ true → Agrees (chromaPicture depth width height sx sy (now (skip .entry)) (now (dirs .entry))) (take n a) (now (tried .exit)) (now (measured .exit))) ⌝ }
+    ensures { λ r. ⌜ (agreeOutcome (chromaPicture depth width height sx sy (now (skip .entry)) (now (dirs .entry))) damping visible
+        (now (snapshot .entry)) (now (original .entry)) (take n a) (now (tried .entry)) (now (dst .entry)) (now (measured .entry))
+        (now (scratch .entry)) ≡ record {
+          answer = r;
+          tried = now (tried .exit);
+          dst = now (dst .exit);
+          measured = now (measured .exit);
+          scratch
+              = now (scratch .exit);
+        }) × (isAgreed r ≡ true → Agrees (chromaPicture depth width height sx sy (now (skip .entry)) (now (dirs .entry)))
+        (take n a) (now (tried .exit)) (now (measured .exit))) ⌝ }
 {
     cdef_agree::chroma::agree_chroma(
         tried,

@@ -59,7 +59,7 @@ class Call:
         names = [f'to{self.number}'] + ([self.loan.names] if self.loan else []) + results
         lfts, shares, terms = (tuple_of(items) for items in ([v.lft for v in self.lent()], [v.share for v in self.lent()], [v.term for v in self.passed]))
         machines = tuple_of([f'{v.machine} ∷ []' for v in self.passed])
-        return (f'  -- the call of `{self.function.name}`\n'
+        return (f'  -- the call of `{self.function.path}`\n'
                 f'  abbrev to{self.number} : {" ".join(binders)}{" → " if binders else ""}{self.contract} 𝓤 H A mem run .Ghost\n'
                 f'  {" ".join(names)} = (({lfts}, {shares}, tt, {terms}, {machines}), tt)\n')
 
@@ -82,7 +82,7 @@ class Call:
         """The definition of that."""
         binders = [bound(v.term, v.kind.plain) for v in [*self.results, self.result]] + [bound(v.last, p.plain) for p, v in self.pairs() if p.way == 'mutable']
         claim = self.function.claim({p.name: v.plain for p, v in self.pairs()}, {p.name: v.last for p, v in self.pairs() if p.way == 'mutable'}, self.result.term)
-        return f'  -- of `{self.function.name}`\n  abbrev Says{self.number} : {" ".join(binders)} → Type 0\n  {self.plain()} = {claim}\n'
+        return f'  -- of `{self.function.path}`\n  abbrev Says{self.number} : {" ".join(binders)} → Type 0\n  {self.plain()} = {claim}\n'
 
     # ---- its steps
 

@@ -43,12 +43,12 @@ class Param:
 
 
 class Function:
-    """The function `name` of a source: params, result, promise (what its one `ensures` states) and asks (what its `requires` states, or None)."""
+    """A function of a source: params, result, promise (what its one `ensures` states) and asks (what its `requires` states, or None)."""
 
-    def __init__(self, text, name, kinds):
+    def __init__(self, text, path, kinds):
+        self.path, name = path, path.split('::')[-1]
         start = re.search(r'\bfn %s\(' % name, text).end()
         end = matching(text, start, '()')
-        self.name = name
         self.params = [Param(p, kinds) for p in re.split(r',\s*(?![^\[]*\])', text[start:end].strip()) if p]
         result = re.compile(r'\)\s*->\s*(\w+|\[[^\]]*\])').match(text, end)
         self.result = kinds.of(result.group(1))

@@ -128,11 +128,11 @@ module _ {M : Type 1} (𝓤 : URA M) (H : Heap 𝓤) (A : Atoms 𝓤) (W : Given
   typeds : (zs : List UnitPair) (vs : List Val) → Is Rs zs vs → T (hasTy arr (machs zs)) × WT (machs zs)
   typeds zs vs is = array-lawful 𝓤 H A W theUnitPair.the-row (StructLaws.lawful theUnitPair.the-type theUnitPair′.the-laws 𝓤 H A W) 4096 .typed zs (machs zs ∷ []) (subst (Is Rs zs) (array-tells theUnitPair.the-row (StructLaws.vals theUnitPair.the-type theUnitPair′.the-laws) (StructLaws.tells theUnitPair.the-type theUnitPair′.the-laws) 4096 zs vs is) is) .0
 
-  -- the call of `no_pairs`
+  -- the call of `cdef_pairs::no_pairs`
   abbrev to₁ : Callee₁ 𝓤 H A mem run .Ghost
   to₁ = ((tt, tt, tt, tt, tt), tt)
 
-  -- the call of `at_most`
+  -- the call of `cdef_pairs::at_most`
   abbrev to₂ : Callee₂ 𝓤 H A mem run .Ghost
   to₂ = ((tt, tt, tt, ((length ys), tt), (vint w64 (length ys) ∷ [], tt)), tt)
 

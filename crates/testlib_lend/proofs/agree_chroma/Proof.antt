@@ -75,7 +75,7 @@ use Rattle.testlib_lend.proofs.agree_chroma.Code as code
 
 -- ---- the promises over plain values: a slice's name is its list at entry, x′ the last list of a mutable slice x
 module _ (tried : List ℤ) (dst : List ℕ) (measured : List ℤ) (scratch : List ℕ) (snapshot : List ℕ) (original : List ℕ) (width : ℕ) (height : ℕ) (sx : ℕ) (sy : ℕ) (visible : Visible) (depth : ℕ) (skip : List ℕ) (dirs : List ℕ) (n : ℕ) (a : List UnitPair) (damping : DampingChoice) where
-  -- of `agree_chroma`
+  -- of `cdef_agree::chroma::agree_chroma`
   abbrev Says₁ : (r₁ : Agreement) (tried′ : List ℤ) (dst′ : List ℕ) (measured′ : List ℤ) (scratch′ : List ℕ) → Type 0
   Says₁ r₁ tried′ dst′ measured′ scratch′ = (agreeOutcome (chromaPicture depth width height sx sy skip dirs) damping visible snapshot original (take n a) tried dst measured scratch ≡ record { answer = r₁; tried = tried′; dst = dst′; measured = measured′; scratch = scratch′ }) × (isAgreed r₁ ≡ true → Agrees (chromaPicture depth width height sx sy skip dirs) (take n a) tried′ measured′)
 
@@ -126,7 +126,7 @@ module _ {M : Type 1} (𝓤 : URA M) (H : Heap 𝓤) (A : Atoms 𝓤) (W : Given
   abbrev Post : Val → SProp 𝓤
   Post = walkOf 𝓤 H A fun.ended stayed (fun.clauses 𝓤 H A mem run) .post bound
 
-  -- the call of `agree_chroma`
+  -- the call of `cdef_agree::chroma::agree_chroma`
   abbrev to₁ : (α : ℕ) (lent : RefT (List UnitPair)) → Callee₁ 𝓤 H A mem run .Ghost
   to₁ α lent = (((κ₀, (κ₁, (κ₂, (κ₃, (κ₄, (κ₅, (κ₆, (κ₇, ((α ∷ []), tt))))))))), (q₀, (q₁, (q₂, (q₃, (q₄, (q₅, (q₆, (q₇, (fullShare, tt))))))))), tt, (tried, (dst, (measured, (scratch, (snapshot, (original, (width, (height, (sx, (sy, (visible, (depth, (skip, (dirs, (lent, (damping, tt)))))))))))))))), (sliceVal (tried .ptr) (length (tried .now)) ∷ [], (sliceVal (dst .ptr) (length (dst .now)) ∷ [], (sliceVal (measured .ptr) (length (measured .now)) ∷ [], (sliceVal (scratch .ptr) (length (scratch .now)) ∷ [], (sliceVal (snapshot .ptr) (length (snapshot .now)) ∷ [], (sliceVal (original .ptr) (length (original .now)) ∷ [], (vint w64 width ∷ [], (vint w64 height ∷ [], (vint w8 sx ∷ [], (vint w8 sy ∷ [], (visible-val ∷ [], (vint w8 depth ∷ [], (sliceVal (skip .ptr) (length (skip .now)) ∷ [], (sliceVal (dirs .ptr) (length (dirs .now)) ∷ [], (sliceVal (lent .ptr) (length (lent .now)) ∷ [], (damping-val ∷ [], tt))))))))))))))))), tt)
 

@@ -70,7 +70,7 @@ use Rattle.testlib_lend.proofs.apply_luma.Code as code
 
 -- ---- the promises over plain values: a slice's name is its list at entry, x′ the last list of a mutable slice x
 module _ (dst : List ℕ) (snapshot : List ℕ) (width : ℕ) (height : ℕ) (depth : ℕ) (skip : List ℕ) (dirs : List ℕ) (vars : List ℕ) (n : ℕ) (a : List UnitPair) (damping : DampingChoice) where
-  -- of `apply_luma`
+  -- of `cdef::applying::apply_luma`
   abbrev Says₁ : (r₁ : Answer) (dst′ : List ℕ) → Type 0
   Says₁ r₁ dst′ = applyingOutcome (lumaPicture depth width height skip dirs vars) damping snapshot (take n a) dst ≡ record { answer = readAnswer r₁; plane = dst′ }
 
@@ -121,7 +121,7 @@ module _ {M : Type 1} (𝓤 : URA M) (H : Heap 𝓤) (A : Atoms 𝓤) (W : Given
   abbrev Post : Val → SProp 𝓤
   Post = walkOf 𝓤 H A fun.ended stayed (fun.clauses 𝓤 H A mem run) .post bound
 
-  -- the call of `apply_luma`
+  -- the call of `cdef::applying::apply_luma`
   abbrev to₁ : (α : ℕ) (lent : RefT (List UnitPair)) → Callee₁ 𝓤 H A mem run .Ghost
   to₁ α lent = (((κ₀, (κ₁, (κ₂, (κ₃, (κ₄, ((α ∷ []), tt)))))), (q₀, (q₁, (q₂, (q₃, (q₄, (fullShare, tt)))))), tt, (dst, (snapshot, (width, (height, (depth, (skip, (dirs, (vars, (lent, (damping, tt)))))))))), (sliceVal (dst .ptr) (length (dst .now)) ∷ [], (sliceVal (snapshot .ptr) (length (snapshot .now)) ∷ [], (vint w64 width ∷ [], (vint w64 height ∷ [], (vint w8 depth ∷ [], (sliceVal (skip .ptr) (length (skip .now)) ∷ [], (sliceVal (dirs .ptr) (length (dirs .now)) ∷ [], (sliceVal (vars .ptr) (length (vars .now)) ∷ [], (sliceVal (lent .ptr) (length (lent .now)) ∷ [], (damping-val ∷ [], tt))))))))))), tt)
 

@@ -70,11 +70,11 @@ use Rattle.cdef.proofs.applying.apply_luma.Code as code
 
 -- ---- the promises over plain values: a slice's name is its list at entry, x′ the last list of a mutable slice x
 module _ (dst : List ℕ) (snapshot : List ℕ) (width : ℕ) (height : ℕ) (depth : ℕ) (skip : List ℕ) (dirs : List ℕ) (vars : List ℕ) (pairs : List UnitPair) (damping : DampingChoice) where
-  -- of `gather`
+  -- of `cdef_pairs::gather`
   abbrev Says₁ : (r₁ : List UnitPair) → Type 0
   Says₁ r₁ = r₁ ≡ gathered pairs
 
-  -- of `apply_luma_of`
+  -- of `cdef::applying::apply_luma_of`
   abbrev Says₂ : (r₁ : List UnitPair) (r₂ : Answer) (dst′ : List ℕ) → Type 0
   Says₂ r₁ r₂ dst′ = applyingOutcome (lumaPicture depth width height skip dirs vars) damping snapshot (listed (length pairs) r₁) dst ≡ record { answer = readAnswer r₂; plane = dst′ }
 
@@ -106,11 +106,11 @@ module _ {M : Type 1} (𝓤 : URA M) (H : Heap 𝓤) (A : Atoms 𝓤) (W : Given
   abbrev Post : Val → SProp 𝓤
   Post = walkOf 𝓤 H A fun.ended stayed (fun.clauses 𝓤 H A mem run) .post bound
 
-  -- the call of `gather`
+  -- the call of `cdef_pairs::gather`
   abbrev to₁ : Callee₁ 𝓤 H A mem run .Ghost
   to₁ = (((κ₅, tt), (q₅, tt), tt, (pairs, tt), (sliceVal (pairs .ptr) (length (pairs .now)) ∷ [], tt)), tt)
 
-  -- the call of `apply_luma_of`
+  -- the call of `cdef::applying::apply_luma_of`
   abbrev to₂ : (r₁ : List UnitPair) (r₁-val : Val) → Callee₂ 𝓤 H A mem run .Ghost
   to₂ r₁ r₁-val = (((κ₀, (κ₁, (κ₂, (κ₃, (κ₄, tt))))), (q₀, (q₁, (q₂, (q₃, (q₄, tt))))), tt, (dst, (snapshot, (width, (height, (depth, (skip, (dirs, (vars, ((length (pairs .now)), (r₁, (damping, tt))))))))))), (sliceVal (dst .ptr) (length (dst .now)) ∷ [], (sliceVal (snapshot .ptr) (length (snapshot .now)) ∷ [], (vint w64 width ∷ [], (vint w64 height ∷ [], (vint w8 depth ∷ [], (sliceVal (skip .ptr) (length (skip .now)) ∷ [], (sliceVal (dirs .ptr) (length (dirs .now)) ∷ [], (sliceVal (vars .ptr) (length (vars .now)) ∷ [], (vint w64 (length (pairs .now)) ∷ [], (r₁-val ∷ [], (damping-val ∷ [], tt)))))))))))), tt)
 

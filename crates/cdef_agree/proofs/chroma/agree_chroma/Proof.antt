@@ -75,11 +75,11 @@ use Rattle.cdef_agree.proofs.chroma.agree_chroma.Code as code
 
 -- ---- the promises over plain values: a slice's name is its list at entry, x′ the last list of a mutable slice x
 module _ (tried : List ℤ) (dst : List ℕ) (measured : List ℤ) (scratch : List ℕ) (snapshot : List ℕ) (original : List ℕ) (width : ℕ) (height : ℕ) (sx : ℕ) (sy : ℕ) (visible : Visible) (depth : ℕ) (skip : List ℕ) (dirs : List ℕ) (pairs : List UnitPair) (damping : DampingChoice) where
-  -- of `gather`
+  -- of `cdef_pairs::gather`
   abbrev Says₁ : (r₁ : List UnitPair) → Type 0
   Says₁ r₁ = r₁ ≡ gathered pairs
 
-  -- of `agree_chroma_of`
+  -- of `cdef_agree::chroma::agree_chroma_of`
   abbrev Says₂ : (r₁ : List UnitPair) (r₂ : Agreement) (tried′ : List ℤ) (dst′ : List ℕ) (measured′ : List ℤ) (scratch′ : List ℕ) → Type 0
   Says₂ r₁ r₂ tried′ dst′ measured′ scratch′ = agreeOutcome (chromaPicture depth width height sx sy skip dirs) damping visible snapshot original (listed (length pairs) r₁) tried dst measured scratch ≡ record { answer = r₂; tried = tried′; dst = dst′; measured = measured′; scratch = scratch′ }
 
@@ -111,11 +111,11 @@ module _ {M : Type 1} (𝓤 : URA M) (H : Heap 𝓤) (A : Atoms 𝓤) (W : Given
   abbrev Post : Val → SProp 𝓤
   Post = walkOf 𝓤 H A fun.ended stayed (fun.clauses 𝓤 H A mem run) .post bound
 
-  -- the call of `gather`
+  -- the call of `cdef_pairs::gather`
   abbrev to₁ : Callee₁ 𝓤 H A mem run .Ghost
   to₁ = (((κ₈, tt), (q₈, tt), tt, (pairs, tt), (sliceVal (pairs .ptr) (length (pairs .now)) ∷ [], tt)), tt)
 
-  -- the call of `agree_chroma_of`
+  -- the call of `cdef_agree::chroma::agree_chroma_of`
   abbrev to₂ : (r₁ : List UnitPair) (r₁-val : Val) → Callee₂ 𝓤 H A mem run .Ghost
   to₂ r₁ r₁-val = (((κ₀, (κ₁, (κ₂, (κ₃, (κ₄, (κ₅, (κ₆, (κ₇, tt)))))))), (q₀, (q₁, (q₂, (q₃, (q₄, (q₅, (q₆, (q₇, tt)))))))), tt, (tried, (dst, (measured, (scratch, (snapshot, (original, (width, (height, (sx, (sy, (visible, (depth, (skip, (dirs, ((length (pairs .now)), (r₁, (damping, tt))))))))))))))))), (sliceVal (tried .ptr) (length (tried .now)) ∷ [], (sliceVal (dst .ptr) (length (dst .now)) ∷ [], (sliceVal (measured .ptr) (length (measured .now)) ∷ [], (sliceVal (scratch .ptr) (length (scratch .now)) ∷ [], (sliceVal (snapshot .ptr) (length (snapshot .now)) ∷ [], (sliceVal (original .ptr) (length (original .now)) ∷ [], (vint w64 width ∷ [], (vint w64 height ∷ [], (vint w8 sx ∷ [], (vint w8 sy ∷ [], (visible-val ∷ [], (vint w8 depth ∷ [], (sliceVal (skip .ptr) (length (skip .now)) ∷ [], (sliceVal (dirs .ptr) (length (dirs .now)) ∷ [], (vint w64 (length (pairs .now)) ∷ [], (r₁-val ∷ [], (damping-val ∷ [], tt)))))))))))))))))), tt)
 

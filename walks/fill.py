@@ -36,7 +36,7 @@ def function_uses(alias, path, crate, *more):
 
 def promises(line, answer):
     """The places that concern what is promised. answer: the proof of the function's promise from those of its callees."""
-    mutable, last = line.function.mutable(), line.results[-1].term
+    mutable, last = line.function.mutable(), line.returned.term
     lasts, last_names = ''.join(f' ({p.name}′ : {p.plain})' for p in mutable), ''.join(f' {p.name}′' for p in mutable)
     results, names = ' '.join(bound(v.term, v.kind.plain) for v in line.results), ' '.join(v.term for v in line.results)
     claims, said = ' → '.join(c.plain() for c in line.calls), ' '.join(f'said{c.number}' for c in line.calls)

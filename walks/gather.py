@@ -18,7 +18,7 @@ from kinds import Number
 from script import Script
 from terms import list_of, low
 
-# ---- the locals: 1 the slice, 2 a, 3 n, 4 i, 5 what BLANK returned, 6 the length, 7 the test, 8 to 13 the places of the two elements
+# ---- the locals: 1 the slice, 2 a, 3 n, 4 i, 5 what BLANK returned, 6 the slice's length, 7 the test, 8 and 9 the place of slice[i], 10 its value, 11 to 13 the place of a[i]
 TYPES = ['arr', 'slice', 'arr', 'word', 'word', 'arr', 'word', 'tyBool', 'word', 'tyPtr', '@MIR@', 'word', 'tyPtr', 'tyPtr']
 LOCALS = [f'_{i}' for i in range(len(TYPES))]
 AT_HEAD = {'_1': 'sliceVal (b, o) (length ys)', '_3': 'vint w64 m', '_4': 'vint w64 i'}  # what the locals hold there
@@ -37,7 +37,7 @@ def holding(local, machine):
 
 
 def head_items():
-    items = ['row R fullShare (gathered (take i ys)) l₂ 0', 'row R share ys b o'] + [holding(name, machine) for name, machine in AT_HEAD.items()]
+    items = [f'row R fullShare {DONE} l₂ 0', 'row R share ys b o'] + [holding(name, machine) for name, machine in AT_HEAD.items()]
     items += [f'froom {TYPES[int(name[1:])]} {block(name)} 0' for name in BARE] + ['fobor κ q (arr-parts (shares R) (length ys) .part share ys b o)']
     items += [f'nest ({list_of([f"fdies {type_} {block(name)}" for type_, name in zip(TYPES, LOCALS)])})']
     return list_of([f'‵ ({item})' for item in items])

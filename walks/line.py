@@ -1,4 +1,4 @@
-"""The walk of a line of calls: a function whose MIR is copies, references, slices passed on, calls, and the return of what the last call returned.
+"""The walk of a line of calls: a function whose MIR is copies, references, slices passed on, calls, and the return of what a call returned.
 
 The context has an entry for each local's cell (_1), one for the rights to free them, one for each lifetime's token (token_0), and one for what each parameter owns (own_x).
 By value there is plain data only: what it owns is made anew where a call asks for it.
@@ -108,10 +108,12 @@ class Line:
             s.turn(1, held.own, f'spare_{p.name}')
 
     def returns(self):
-        s, last, mutable = self.script, self.calls[-1], self.function.mutable()
-        r = last.result
+        s, mutable, r = self.script, self.function.mutable(), self.held.get(0)
+        if r not in self.results or {p.name for p in mutable} - set(self.lasts):
+            raise ValueError('a walk returns what a call returned, and passes each mutable slice to a call')
+        self.returned = r
         s.line(f'returns ! (look ! {s.at("_0")} refl) $')
-        s.keep(*self.locals, 'rights', *self.tokens, *[f'final_{p.name}' for p in mutable], f'own_{last.number}')
+        s.keep(*self.locals, 'rights', *self.tokens, *[f'final_{p.name}' for p in mutable], f'own_{r.term[1:]}')
         s.line(f'frees-all W ({list_of(["set _" if i in self.held else "unset" for i in range(len(self.locals))])}) $')
         plain, lasts = [p.value for p in self.params], [self.lasts[p.name] for p in mutable]
         said = ' '.join(['Said', *plain, r.term, *lasts])

@@ -56,7 +56,7 @@ class Function:
             param.life = life
         clauses = list(read_clauses(text, result.end()))
         self.promise = only(name, 'ensures', clauses, r'λ r\. ⌜ (.*) ⌝')
-        self.asks = only(name, 'requires', clauses, r'⌜ (.*) ⌝') if ('requires' in dict(clauses)) else None
+        self.asks = only(name, 'requires', clauses, r'⌜ (.*) ⌝') if 'requires' in dict(clauses) else None
 
     def lent(self):
         return [p for p in self.params if p.lent]

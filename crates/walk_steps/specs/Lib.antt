@@ -6,3 +6,4 @@ pub mod Calls
 pub mod Loan
 pub mod Exit
 pub mod Walked
+pub mod Counting

@@ -28,7 +28,7 @@ use Rattle.filter_window.specs.WindowLaws.{sample-in}
 use Rattle.filter_kernel.specs.Kernel.{offAt, tapsOf, shiftOf, priOf, secOf, kernelAt}
 use Rattle.filter_kernel.specs.PlaceLaws.{centre-is, on-tap, back-tap}
 use Rattle.filter_kernel.specs.KernelLaws.{kernel-tap}
-use Rattle.plane_taps.specs.Steps.{stepIn, tapsIn, Reach}
+use Rattle.plane_taps.specs.Steps.{stepBy, stepIn, tapsBy, tapsIn, Reach}
 use Rattle.plane_taps.specs.StepLaws.{on-lands, back-lands, taps-reach}
 use Rattle.plane_rows.specs.Rows.{Along, Around, Strong, priIn, secIn, insideTap}
 use Rattle.plane_block.specs.Inside.{Inner}
@@ -64,12 +64,12 @@ module _ (l : List ℕ) (w h : ℕ) (b : Block) (i j : ℕ) (hw : w ≤ 4096) (h
     on-same : (c : ℕ) → tapOn l k (stepIn w dir n) c ≡ tapOn win at (offAt dir n) c
     on-same c =
         let s = steps-low dir n hd hn in
-        unfold tapOn stepIn in ap (λ (v : ℕ). orCentre v c) (ap (λ (m : ℕ). getD l m 0) (on-lands w (b .y + i) (b .x + j) (rowOf dir n) (colOf dir n) hw (omega arith) (omega arith) (omega arith) (omega arith) (s .0) (s .1)) ∙ sym (there (rowOf dir n) (colOf dir n) (s .0) (s .1))) ∙ sym (on-tap (planeOf l w h) b i j bh bw hi hj dir n c hd hn)
+        unfold tapOn stepBy in ap (λ (v : ℕ). orCentre v c) (ap (λ (m : ℕ). getD l m 0) (on-lands w (b .y + i) (b .x + j) (rowOf dir n) (colOf dir n) hw (omega arith) (omega arith) (omega arith) (omega arith) (s .0) (s .1)) ∙ sym (there (rowOf dir n) (colOf dir n) (s .0) (s .1))) ∙ sym (on-tap (planeOf l w h) b i j bh bw hi hj dir n c hd hn)
 
     back-same : (c : ℕ) → tapBack l k (stepIn w dir n) c ≡ tapBack win at (offAt dir n) c
     back-same c =
         let s = steps-low dir n hd hn in
-        unfold tapBack stepIn in ap (λ (v : ℕ). orCentre v c) (ap (λ (m : ℕ). getD l m 0) (back-lands w (b .y + i) (b .x + j) (rowOf dir n) (colOf dir n) hw (omega arith) (omega arith) (omega arith) (omega arith) (s .0) (s .1)) ∙ sym (there (4 - rowOf dir n) (4 - colOf dir n) (omega arith) (omega arith))) ∙ sym (back-tap (planeOf l w h) b i j bh bw hi hj dir n c hd hn)
+        unfold tapBack stepBy in ap (λ (v : ℕ). orCentre v c) (ap (λ (m : ℕ). getD l m 0) (back-lands w (b .y + i) (b .x + j) (rowOf dir n) (colOf dir n) hw (omega arith) (omega arith) (omega arith) (omega arith) (s .0) (s .1)) ∙ sym (there (4 - rowOf dir n) (4 - colOf dir n) (omega arith) (omega arith))) ∙ sym (back-tap (planeOf l w h) b i j bh bw hi hj dir n c hd hn)
 
     pair-same : (c s sh : ℕ) → pairAt l k (stepIn w dir n) c s sh ≡ pairAt win at (offAt dir n) c s sh
     unfolding pairAt
@@ -91,19 +91,19 @@ module _ (l : List ℕ) (w h : ℕ) (b : Block) (i j : ℕ) (hw : w ≤ 4096) (h
     r8 = omega arith
 
     pri-same : (f : Strength) → priAt l k (tapsIn w dir) f ≡ priAt win at (tapsOf dir) f
-    unfolding priAt tapsIn tapsOf
+    unfolding priAt tapsBy tapsOf
     pri-same f = rw (centre-same, pair-same dir 0 hd (omega arith) _ (f .s) (f .sh), pair-same dir 1 hd (omega arith) _ (f .s) (f .sh))
 
     sec-same : (f : Strength) → secAt l k (tapsIn w dir) f ≡ secAt win at (tapsOf dir) f
-    unfolding secAt sideAt tapsIn tapsOf
+    unfolding secAt sideAt tapsBy tapsOf
     sec-same f = rw (centre-same, pair-same ((dir + 2) % 8) 0 q8 (omega arith) _ (f .s) (f .sh), pair-same ((dir + 2) % 8) 1 q8 (omega arith) _ (f .s) (f .sh), pair-same ((dir + 6) % 8) 0 r8 (omega arith) _ (f .s) (f .sh), pair-same ((dir + 6) % 8) 1 r8 (omega arith) _ (f .s) (f .sh))
 
     lowest-same : lowAt l k (tapsIn w dir) ≡ lowAt win at (tapsOf dir)
-    unfolding lowAt tapsIn tapsOf
+    unfolding lowAt tapsBy tapsOf
     lowest-same = rw (centre-same, low-same dir 0 hd (omega arith) _, low-same dir 1 hd (omega arith) _, low-same ((dir + 2) % 8) 0 q8 (omega arith) _, low-same ((dir + 2) % 8) 1 q8 (omega arith) _, low-same ((dir + 6) % 8) 0 r8 (omega arith) _, low-same ((dir + 6) % 8) 1 r8 (omega arith) _)
 
     highest-same : highAt l k (tapsIn w dir) ≡ highAt win at (tapsOf dir)
-    unfolding highAt tapsIn tapsOf
+    unfolding highAt tapsBy tapsOf
     highest-same = rw (centre-same, high-same dir 0 hd (omega arith) _, high-same dir 1 hd (omega arith) _, high-same ((dir + 2) % 8) 0 q8 (omega arith) _, high-same ((dir + 2) % 8) 1 q8 (omega arith) _, high-same ((dir + 6) % 8) 0 r8 (omega arith) _, high-same ((dir + 6) % 8) 1 r8 (omega arith) _)
 
     pub kernel-same : (f g : Strength) → kernelAt l k (tapsIn w dir) f g ≡ kernelAt win at (tapsOf dir) f g

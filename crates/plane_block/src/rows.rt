@@ -56,7 +56,7 @@ pub fn eight_wide(
     ensures { λ _. ⌜ Stored (now (src .entry)) (now (dst .entry)) (now (dst .exit)) w at to (tapsIn w dir) (priIn s sh near) (secIn s2 sh2) 8 n ⌝ }
 {
     if in_bytes(depth, s, sh, s2, sh2) {
-        let t = plane_taps::steps::taps(dir, w);
+        let t = plane_taps::steps::taps(dir, w, 1);
         if n == 8 {
             eights::rows(dst, to, src, w, at, 4, t, s, sh, near, s2, sh2);
             return;

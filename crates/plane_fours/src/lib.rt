@@ -157,7 +157,7 @@ pub fn rows(
     requires { ⌜ Around (length (now src)) at (3 * w + 4) (tapsIn w dir) × (to + (3 * w + 4) ≤ length (now dst)) ⌝ }
     ensures { λ _. ⌜ Stored (now (src .entry)) (now (dst .entry)) (now (dst .exit)) w at to (tapsIn w dir) (priIn s sh near) (secIn s2 sh2) 4 4 ⌝ }
 {
-    let t = plane_taps::steps::taps(dir, w);
+    let t = plane_taps::steps::taps(dir, w, 1);
     let f = Strength {
         s: s,
         sh: sh,

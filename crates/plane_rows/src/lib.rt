@@ -171,7 +171,7 @@ pub fn rows(
     requires { ⌜ ((i : ℕ) → i < n → Around (length (now src)) (at + i * w) 8 (tapsIn w dir) × (to + i * w + 8 ≤ length (now dst))) ⌝ }
     ensures { λ _. ⌜ Stored (now (src .entry)) (now (dst .entry)) (now (dst .exit)) w at to (tapsIn w dir) (priIn s sh near) (secIn s2 sh2) 8 n ⌝ }
 {
-    let t = plane_taps::steps::taps(dir, w);
+    let t = plane_taps::steps::taps(dir, w, 1);
     let f = Strength {
         s: s,
         sh: sh,

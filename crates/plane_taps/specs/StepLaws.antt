@@ -1,4 +1,4 @@
--- A wrapped offset, added to an index of the plane or subtracted from it, gives the index of the intended sample.
+-- A wrapped offset, added to an index or subtracted from it, gives the index of the intended sample.
 use mathlib.Core.Path.{_≡_, refl, sym, ap, _∙_}
 use mathlib.Core.Bool.{cond}
 use mathlib.Core.Logic.{_⊎_, inl, inr, ⊎-elim}
@@ -11,7 +11,7 @@ use lib.ListN.{getD}
 use Rattle.cdef_spec.specs.CodeForm.{rows, cols, rowOf, colOf}
 use Rattle.cdef_spec.specs.PlaceLaws.{steps-low}
 use Rattle.filter_rows.specs.Place.{onFrom, backFrom}
-use Rattle.plane_taps.specs.Steps.{wrappedStep, stepIn, tapsIn, Reach, Reach6}
+use Rattle.plane_taps.specs.Steps.{wrappedStep, stepBy, tapsBy, tapsIn, Reach, Reach6}
 
 -- ---- an offset of at most m
 
@@ -38,100 +38,108 @@ module _ (m k o : ℕ) (lo : m ≤ k) (hi : k + m < 2 ^ 63) (n : Reach m o) wher
   unfolding backFrom
   back-more j h = ⊎-elim (λ w. omega arith) (λ w. omega arith) (n .reach)
 
--- ---- the steps are near: at most two rows and two columns
-
-step-near : (w r2 c2 : ℕ) → w ≤ 4096 → r2 ≤ 4 → c2 ≤ 4 → Reach (2 * w + 2) (wrappedStep w r2 c2)
-unfolding wrappedStep
-step-near w r2 c2 hw hr hc =
-    let b : r2 * w ≤ 4 * w = mul-le-mul-right w hr in
-    record { reach = go (r2 * w) b (decLe (2 * w + 2) (r2 * w + c2)) }
-  where
-    go : (B : ℕ) → B ≤ 4 * w → Dec (2 * w + 2 ≤ B + c2) → ((B + c2 + (2 ^ 64 - (2 * w + 2))) % 2 ^ 64 ≤ 2 * w + 2) ⊎ ((2 ^ 64 - (2 * w + 2) ≤ (B + c2 + (2 ^ 64 - (2 * w + 2))) % 2 ^ 64) × ((B + c2 + (2 ^ 64 - (2 * w + 2))) % 2 ^ 64 < 2 ^ 64))
-    go B b (yes l) = inl (omega arith)
-    go B b (no l) = inr (omega arith, omega arith)
-
-near-in : (w dir k : ℕ) → w ≤ 4096 → dir < 8 → k < 2 → Reach (2 * w + 2) (stepIn w dir k)
-unfolding stepIn
-near-in w dir k hw hd hk = let l = steps-low dir k hd hk in step-near w (rowOf dir k) (colOf dir k) hw (l .0) (l .1)
-
-pub taps-reach : (w dir : ℕ) → w ≤ 4096 → dir < 8 → Reach6 (2 * w + 2) (tapsIn w dir)
-unfolding tapsIn
-taps-reach w dir hw h = record {
-  p0 = near-in w dir 0 hw h (omega arith);
-  p1 = near-in w dir 1 hw h (omega arith);
-  q0 = near-in w ((dir + 2) % 8) 0 hw (omega arith) (omega arith);
-  q1 = near-in w ((dir + 2) % 8) 1 hw (omega arith) (omega arith);
-  r0 = near-in w ((dir + 6) % 8) 0 hw (omega arith) (omega arith);
-  r1 = near-in w ((dir + 6) % 8) 1 hw (omega arith) (omega arith);
-}
-
--- ---- where they lead: A, B and K stand for products with the width
+-- ---- a wrapped difference s - m: it is near, and leads from k to t forward, to u back
 
 past-wrap : (t : ℕ) → t < 2 ^ 64 → (t + 2 ^ 64) % 2 ^ 64 ≡ t
 past-wrap t h = omega arith
 
--- forward by a sum that is at least two rows and two columns, and by one that is less; then back
-module _ (A B K w x c2 : ℕ) (e : A + B ≡ K + 2 * w) (ha : A ≤ 2 ^ 24) (hb : B ≤ 4 * w) (hy : 2 * w ≤ A) (hw : w ≤ 4096) (hx : 2 ≤ x) (hh : x ≤ 4096) (hc : c2 ≤ 4) where
-  step : ℕ
-  step = (B + c2 + (2 ^ 64 - (2 * w + 2))) % 2 ^ 64
+module _ (s m : ℕ) (hs : s ≤ 2 * m) (hm : m ≤ 2 ^ 32) where
+  less-up : m ≤ s → (s + (2 ^ 64 - m)) % 2 ^ 64 ≡ s - m
+  less-up l = let q : s + (2 ^ 64 - m) ≡ s - m + 2 ^ 64 = omega arith in rw q (past-wrap (s - m) (omega arith))
 
-  step-up : 2 * w + 2 ≤ B + c2 → step ≡ B + c2 - (2 * w + 2)
-  unfolding step
-  step-up l = let q : B + c2 + (2 ^ 64 - (2 * w + 2)) ≡ B + c2 - (2 * w + 2) + 2 ^ 64 = omega arith in rw q (past-wrap (B + c2 - (2 * w + 2)) (omega arith))
+  less-down : s < m → (s + (2 ^ 64 - m)) % 2 ^ 64 ≡ 2 ^ 64 - (m - s)
+  less-down l = let q : s + (2 ^ 64 - m) ≡ 2 ^ 64 - (m - s) = omega arith in rw q (mod-eq-of-lt (omega arith))
 
-  step-down : B + c2 < 2 * w + 2 → step ≡ 2 ^ 64 - (2 * w + 2 - (B + c2))
-  unfolding step
-  step-down l = let q : B + c2 + (2 ^ 64 - (2 * w + 2)) ≡ 2 ^ 64 - (2 * w + 2 - (B + c2)) = omega arith in rw q (mod-eq-of-lt (omega arith))
-
-  lands-on : (A + x + step) % 2 ^ 64 ≡ K + (x + c2 - 2)
-  lands-on = go (decLe (2 * w + 2) (B + c2))
+  less-near : Reach m ((s + (2 ^ 64 - m)) % 2 ^ 64)
+  less-near = record { reach = go (decLe m s) }
     where
-      go : Dec (2 * w + 2 ≤ B + c2) → (A + x + step) % 2 ^ 64 ≡ K + (x + c2 - 2)
-      go (yes l) =
-          let q : A + x + (B + c2 - (2 * w + 2)) ≡ K + (x + c2 - 2) = omega arith in
-          rw (step-up l, q) (mod-eq-of-lt (omega arith))
-      go (no l) =
-          let q : A + x + (2 ^ 64 - (2 * w + 2 - (B + c2))) ≡ K + (x + c2 - 2) + 2 ^ 64 = omega arith in
-          rw (step-down (omega arith), q) (past-wrap (K + (x + c2 - 2)) (omega arith))
+      go : Dec (m ≤ s) → ((s + (2 ^ 64 - m)) % 2 ^ 64 ≤ m) ⊎ ((2 ^ 64 - m ≤ (s + (2 ^ 64 - m)) % 2 ^ 64) × ((s + (2 ^ 64 - m)) % 2 ^ 64 < 2 ^ 64))
+      go (yes l) = inl (omega (arith, less-up l))
+      go (no l) = inr (omega (arith, less-down (omega arith)), omega (arith, less-down (omega arith)))
 
-  lands-back : (A + x + (2 ^ 64 - step)) % 2 ^ 64 ≡ A + A - K + (x + (4 - c2) - 2)
-  lands-back = go (decLe (2 * w + 2) (B + c2))
-    where
-      go : Dec (2 * w + 2 ≤ B + c2) → (A + x + (2 ^ 64 - step)) % 2 ^ 64 ≡ A + A - K + (x + (4 - c2) - 2)
-      go (yes l) =
-          let q : A + x + (2 ^ 64 - (B + c2 - (2 * w + 2))) ≡ A + A - K + (x + (4 - c2) - 2) + 2 ^ 64 = omega arith in
-          rw (step-up l, q) (past-wrap (A + A - K + (x + (4 - c2) - 2)) (omega arith))
-      go (no l) =
-          let q : A + x + (2 ^ 64 - (2 ^ 64 - (2 * w + 2 - (B + c2)))) ≡ A + A - K + (x + (4 - c2) - 2) = omega arith in
-          rw (step-down (omega arith), q) (mod-eq-of-lt (omega arith))
+  module _ (k : ℕ) (hk : m ≤ k) (hi : k ≤ 2 ^ 40) where
+    pub leads-on : (t : ℕ) → k + s ≡ t + m → onFrom k ((s + (2 ^ 64 - m)) % 2 ^ 64) ≡ t
+    unfolding onFrom
+    leads-on t e = go (decLe m s)
+      where
+        go : Dec (m ≤ s) → (k + (s + (2 ^ 64 - m)) % 2 ^ 64) % 2 ^ 64 ≡ t
+        go (yes l) = let q : k + (s - m) ≡ t = omega arith in rw (less-up l, q) (mod-eq-of-lt (omega arith))
+        go (no l) = let q : k + (2 ^ 64 - (m - s)) ≡ t + 2 ^ 64 = omega arith in rw (less-down (omega arith), q) (past-wrap t (omega arith))
+
+    pub leads-back : (u : ℕ) → k + m ≡ u + s → backFrom k ((s + (2 ^ 64 - m)) % 2 ^ 64) ≡ u
+    unfolding backFrom
+    leads-back u e = go (decLe m s)
+      where
+        go : Dec (m ≤ s) → (k + (2 ^ 64 - (s + (2 ^ 64 - m)) % 2 ^ 64)) % 2 ^ 64 ≡ u
+        go (yes l) = let q : k + (2 ^ 64 - (s - m)) ≡ u + 2 ^ 64 = omega arith in rw (less-up l, q) (past-wrap u (omega arith))
+        go (no l) = let q : k + (2 ^ 64 - (2 ^ 64 - (m - s))) ≡ u = omega arith in rw (less-down (omega arith), q) (mod-eq-of-lt (omega arith))
+
+-- ---- the steps: at most two rows and two columns
+
+module _ (w p : ℕ) (hw : w ≤ 4096) (hp : p ≤ 4096) where
+  step-low : (r2 c2 : ℕ) → r2 ≤ 4 → c2 ≤ 4 → r2 * w + c2 * p ≤ 2 * (2 * w + 2 * p)
+  step-low r2 c2 hr hc = omega (arith, mul-le-mul-right w hr, mul-le-mul-right p hc)
+
+  near-by : (dir k : ℕ) → dir < 8 → k < 2 → Reach (2 * w + 2 * p) (stepBy w p dir k)
+  unfolding stepBy wrappedStep
+  near-by dir k hd hk = let l = steps-low dir k hd hk in less-near (rowOf dir k * w + colOf dir k * p) (2 * w + 2 * p) (step-low (rowOf dir k) (colOf dir k) (l .0) (l .1)) (omega arith)
+
+  pub taps-near : (dir : ℕ) → dir < 8 → Reach6 (2 * w + 2 * p) (tapsBy w p dir)
+  unfolding tapsBy
+  taps-near dir h = record {
+    p0 = near-by dir 0 h (omega arith);
+    p1 = near-by dir 1 h (omega arith);
+    q0 = near-by ((dir + 2) % 8) 0 (omega arith) (omega arith);
+    q1 = near-by ((dir + 2) % 8) 1 (omega arith) (omega arith);
+    r0 = near-by ((dir + 6) % 8) 0 (omega arith) (omega arith);
+    r1 = near-by ((dir + 6) % 8) 1 (omega arith) (omega arith);
+  }
+
+  module _ (r2 c2 : ℕ) (hr : r2 ≤ 4) (hc : c2 ≤ 4) (k : ℕ) (hk : 2 * w + 2 * p ≤ k) (hi : k ≤ 2 ^ 40) where
+    pub step-on : (t : ℕ) → k + (r2 * w + c2 * p) ≡ t + (2 * w + 2 * p) → onFrom k (wrappedStep w p r2 c2) ≡ t
+    unfolding wrappedStep
+    step-on t e = leads-on (r2 * w + c2 * p) (2 * w + 2 * p) (step-low r2 c2 hr hc) (omega arith) k hk hi t e
+
+    pub step-back : (t : ℕ) → k + (2 * w + 2 * p) ≡ t + (r2 * w + c2 * p) → backFrom k (wrappedStep w p r2 c2) ≡ t
+    unfolding wrappedStep
+    step-back t e = leads-back (r2 * w + c2 * p) (2 * w + 2 * p) (step-low r2 c2 hr hc) (omega arith) k hk hi t e
+
+pub taps-reach : (w dir : ℕ) → w ≤ 4096 → dir < 8 → Reach6 (2 * w + 2) (tapsIn w dir)
+taps-reach w dir hw h = taps-near w 1 hw (omega arith) dir h
+
+-- ---- in a plane: row y and column x
 
 module _ (w y x r2 c2 : ℕ) (hw : w ≤ 4096) (hy : 2 ≤ y) (hh : y ≤ 4096) (hx : 2 ≤ x) (hv : x ≤ 4096) (hr : r2 ≤ 4) (hc : c2 ≤ 4) where
-  led : (onFrom (y * w + x) (wrappedStep w r2 c2) ≡ (y + r2 - 2) * w + (x + c2 - 2)) × (backFrom (y * w + x) (wrappedStep w r2 c2) ≡ y * w + y * w - (y + r2 - 2) * w + (x + (4 - c2) - 2))
-  unfolding onFrom backFrom wrappedStep step
-  led =
-      let a : y * w ≤ 4096 * w = mul-le-mul-right w hh in
-      let b : r2 * w ≤ 4 * w = mul-le-mul-right w hr in
-      let d : 2 * w ≤ y * w = mul-le-mul-right w hy in
-      let e : y + r2 ≡ (y + r2 - 2) + 2 = omega arith in
-      let p : (y + r2) * w ≡ ((y + r2 - 2) + 2) * w = ap (λ (n : ℕ). n * w) e in
-      let i : y * w + r2 * w ≡ (y + r2 - 2) * w + 2 * w = omega arith in
-      let j : y * w ≤ 2 ^ 24 = omega arith in
-      (lands-on (y * w) (r2 * w) ((y + r2 - 2) * w) w x c2 i j b d hw hx hv hc, lands-back (y * w) (r2 * w) ((y + r2 - 2) * w) w x c2 i j b d hw hx hv hc)
+  -- rows y + a - 2 and y + (4 - a) - 2 lie on both sides of y
+  rows-sum : (y + r2 - 2) * w + 2 * w ≡ y * w + r2 * w
+  rows-sum =
+      let e : (y + r2 - 2) + 2 ≡ y + r2 = omega arith in
+      let p : ((y + r2 - 2) + 2) * w ≡ (y + r2) * w = ap (λ (n : ℕ). n * w) e in
+      omega arith
 
-  pub on-lands : onFrom (y * w + x) (wrappedStep w r2 c2) ≡ (y + r2 - 2) * w + (x + c2 - 2)
-  on-lands = led .0
+  rows-both : (y + r2 - 2) * w + (y + (4 - r2) - 2) * w ≡ y * w + y * w
+  rows-both =
+      let e : (y + r2 - 2) + (y + (4 - r2) - 2) ≡ y + y = omega arith in
+      let p : ((y + r2 - 2) + (y + (4 - r2) - 2)) * w ≡ (y + y) * w = ap (λ (n : ℕ). n * w) e in
+      omega arith
 
-  pub back-lands : backFrom (y * w + x) (wrappedStep w r2 c2) ≡ (y + (4 - r2) - 2) * w + (x + (4 - c2) - 2)
-  back-lands =
-      let e : y + y ≡ (y + r2 - 2) + (y + (4 - r2) - 2) = omega arith in
-      let p : (y + y) * w ≡ ((y + r2 - 2) + (y + (4 - r2) - 2)) * w = ap (λ (n : ℕ). n * w) e in
-      led .1 ∙ omega arith
+  far-in : 2 * w + 2 * 1 ≤ y * w + x
+  far-in = omega (arith, mul-le-mul-right w hy)
+
+  low : y * w + x ≤ 2 ^ 40
+  low = omega (arith, mul-le-mul-right w hh)
+
+  pub on-lands : onFrom (y * w + x) (wrappedStep w 1 r2 c2) ≡ (y + r2 - 2) * w + (x + c2 - 2)
+  on-lands = step-on w 1 hw (omega arith) r2 c2 hr hc (y * w + x) far-in low _ (omega (arith, rows-sum))
+
+  pub back-lands : backFrom (y * w + x) (wrappedStep w 1 r2 c2) ≡ (y + (4 - r2) - 2) * w + (x + (4 - c2) - 2)
+  back-lands = step-back w 1 hw (omega arith) r2 c2 hr hc (y * w + x) far-in low _ (omega (arith, rows-sum, rows-both))
 
 -- ---- the steps by comparisons
 
-module _ (w r : ℕ) (hw : w ≤ 4096) (hr : r < 2 ^ 64) where
-  pub near-is : (dir : ℕ) → dir < 8 → (r + w) % 2 ^ 64 ≡ (cond (leb 1 dir) 1 0 + cond (leb 4 dir) 1 0) * w + cond (leb dir 4) 1 0 → r ≡ stepIn w dir 0
-  unfolding stepIn wrappedStep rows cols
+module _ (w p r : ℕ) (hw : w ≤ 4096) (hp : p ≤ 4096) (hr : r < 2 ^ 64) where
+  pub near-is : (dir : ℕ) → dir < 8 → (r + w) % 2 ^ 64 ≡ (cond (leb 1 dir) 1 0 + cond (leb 4 dir) 1 0) * w + cond (leb dir 4) 1 0 * p → r ≡ stepBy w p dir 0
+  unfolding stepBy wrappedStep rows cols
   near-is zero h e = omega arith
   near-is (suc zero) h e = omega arith
   near-is (suc (suc zero)) h e = omega arith
@@ -142,14 +150,14 @@ module _ (w r : ℕ) (hw : w ≤ 4096) (hr : r < 2 ^ 64) where
   near-is (suc (suc (suc (suc (suc (suc (suc zero))))))) h e = omega arith
   near-is (suc (suc (suc (suc (suc (suc (suc (suc d)))))))) h e = absurd (omega arith)
 
-  pub far-is : (dir row : ℕ) → dir < 8 → row ≡ min dir 4 → (r + (2 * w + 2)) % 2 ^ 64 ≡ row * w + (4 + row - dir) → r ≡ stepIn w dir 1
-  unfolding stepIn wrappedStep rows cols
-  far-is zero row h p e = let g = rw p at e in omega arith
-  far-is (suc zero) row h p e = let g = rw p at e in omega arith
-  far-is (suc (suc zero)) row h p e = let g = rw p at e in omega arith
-  far-is (suc (suc (suc zero))) row h p e = let g = rw p at e in omega arith
-  far-is (suc (suc (suc (suc zero)))) row h p e = let g = rw p at e in omega arith
-  far-is (suc (suc (suc (suc (suc zero))))) row h p e = let g = rw p at e in omega arith
-  far-is (suc (suc (suc (suc (suc (suc zero)))))) row h p e = let g = rw p at e in omega arith
-  far-is (suc (suc (suc (suc (suc (suc (suc zero))))))) row h p e = let g = rw p at e in omega arith
-  far-is (suc (suc (suc (suc (suc (suc (suc (suc d)))))))) row h p e = absurd (omega arith)
+  pub far-is : (dir row : ℕ) → dir < 8 → row ≡ min dir 4 → (r + (2 * w + 2 * p)) % 2 ^ 64 ≡ row * w + (4 + row - dir) * p → r ≡ stepBy w p dir 1
+  unfolding stepBy wrappedStep rows cols
+  far-is zero row h q e = let g = rw q at e in omega arith
+  far-is (suc zero) row h q e = let g = rw q at e in omega arith
+  far-is (suc (suc zero)) row h q e = let g = rw q at e in omega arith
+  far-is (suc (suc (suc zero))) row h q e = let g = rw q at e in omega arith
+  far-is (suc (suc (suc (suc zero)))) row h q e = let g = rw q at e in omega arith
+  far-is (suc (suc (suc (suc (suc zero))))) row h q e = let g = rw q at e in omega arith
+  far-is (suc (suc (suc (suc (suc (suc zero)))))) row h q e = let g = rw q at e in omega arith
+  far-is (suc (suc (suc (suc (suc (suc (suc zero))))))) row h q e = let g = rw q at e in omega arith
+  far-is (suc (suc (suc (suc (suc (suc (suc (suc d)))))))) row h q e = absurd (omega arith)

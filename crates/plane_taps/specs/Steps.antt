@@ -1,27 +1,34 @@
--- The taps of a direction as wrapped offsets in a plane. Definitions only.
+-- The taps of a direction as wrapped offsets. Definitions only.
 use mathlib.Core.Logic.{_⊎_}
 use Prim.Native.Nat.{ℕ, _+_, _-_, _*_, _%_, _^_, _≤_, _<_}
 use Rattle.cdef_spec.specs.CodeForm.{rowOf, colOf}
 use Rattle.filter_rows.specs.declared.Taps.{Taps}
 
--- a step of r2 - 2 rows and c2 - 2 columns in a plane w wide, as a wrapped usize
-unfoldable pub wrappedStep : ℕ → ℕ → ℕ → ℕ
-wrappedStep w r2 c2 = (r2 * w + c2 + (2 ^ 64 - (2 * w + 2))) % 2 ^ 64
+-- a step of r2 - 2 rows and c2 - 2 columns, where rows are w entries apart and columns p, as a wrapped usize
+unfoldable pub wrappedStep : ℕ → ℕ → ℕ → ℕ → ℕ
+wrappedStep w p r2 c2 = (r2 * w + c2 * p + (2 ^ 64 - (2 * w + 2 * p))) % 2 ^ 64
 
 -- the near (k = 0) and the far step of a direction
-unfoldable pub stepIn : ℕ → ℕ → ℕ → ℕ
-stepIn w dir k = wrappedStep w (rowOf dir k) (colOf dir k)
+unfoldable pub stepBy : ℕ → ℕ → ℕ → ℕ → ℕ
+stepBy w p dir k = wrappedStep w p (rowOf dir k) (colOf dir k)
 
 -- of the primary direction (p), and of the secondary ones, 2 (q) and 6 (r) further
-unfoldable pub tapsIn : ℕ → ℕ → Taps
-tapsIn w dir = record {
-  p0 = stepIn w dir 0;
-  p1 = stepIn w dir 1;
-  q0 = stepIn w ((dir + 2) % 8) 0;
-  q1 = stepIn w ((dir + 2) % 8) 1;
-  r0 = stepIn w ((dir + 6) % 8) 0;
-  r1 = stepIn w ((dir + 6) % 8) 1;
+unfoldable pub tapsBy : ℕ → ℕ → ℕ → Taps
+tapsBy w p dir = record {
+  p0 = stepBy w p dir 0;
+  p1 = stepBy w p dir 1;
+  q0 = stepBy w p ((dir + 2) % 8) 0;
+  q1 = stepBy w p ((dir + 2) % 8) 1;
+  r0 = stepBy w p ((dir + 6) % 8) 0;
+  r1 = stepBy w p ((dir + 6) % 8) 1;
 }
+
+-- in a plane w wide
+abbrev pub stepIn : ℕ → ℕ → ℕ → ℕ
+stepIn w dir k = stepBy w 1 dir k
+
+abbrev pub tapsIn : ℕ → ℕ → Taps
+tapsIn w dir = tapsBy w 1 dir
 
 -- at most m forward or back, as a wrapped usize
 pub record Reach (m o : ℕ) : Type 0 where

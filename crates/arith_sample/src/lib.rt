@@ -1,10 +1,10 @@
 // One sample of the filter: its taps unsigned, their sums 16-bit signed numbers.
 ghost use mathlib.Core.Path.{_≡_};
 ghost use Prim.Native.Nat.{ℕ, _+_, _-_, _*_, _≤_, _<_, min, max};
-ghost use lib.IntN.{natAbs, pos, _+ℤ_, _*ℤ_};
+ghost use lib.IntN.{natAbs, pos, _+ℤ_, _-ℤ_, _*ℤ_};
 ghost use lib.ListN.{length, getD};
 ghost use lib.Signed.{mag};
-ghost use Rattle.arith_sample.specs.Sample.{orCentre, sizeOf, conOf, movedOf, overOf, underOf, finishOf, freeOf};
+ghost use Rattle.arith_sample.specs.Sample.{orCentre, conOf, heldOf, movedOf, overOf, underOf, finishOf, freeOf};
 
 // The mark, in place of a sample that is not there (RULES, Glossary). It must exceed every sample (they are below 2^12), so that a marked tap is never the least one,
 // and stay so far below 2^15 that a centre plus its rounded sum, at most 1,000 in size, fits an i16.
@@ -25,16 +25,32 @@ pub fn most(a: u16, b: u16) -> u16
     if (a as i16) < (b as i16) { b } else { a }
 }
 
-// The absolute difference of two samples.
-fn apart(p: u16, c: u16) -> u16
+// The difference of two samples, and its magnitude.
+fn apart(p: u16, c: u16) -> i16
     requires { ⌜ (p ≤ 32767) × (c ≤ 32767) ⌝ }
-    ensures { λ r. ⌜ r ≡ (p - c) + (c - p) ⌝ }
+    ensures { λ r. ⌜ r ≡ pos p -ℤ pos c ⌝ }
 {
-    if (p as i16) < (c as i16) {
-        c - p
-    } else {
-        p - c
+    (p as i16) - (c as i16)
+}
+
+fn magnitude(d: i16) -> u16
+    requires { ⌜ natAbs d ≤ 32767 ⌝ }
+    ensures { λ r. ⌜ r ≡ natAbs d ⌝ }
+{
+    if d < 0 {
+        return (0 - d) as u16;
     }
+    d as u16
+}
+
+// A number held to -l..l.
+fn held(d: i16, l: u16) -> i16
+    requires { ⌜ (natAbs d ≤ 32767) × (l ≤ 32767) ⌝ }
+    ensures { λ r. ⌜ r ≡ heldOf d l ⌝ }
+{
+    let v = at_most(d, l);
+    let low = 0 - (l as i16);
+    if v < low { low } else { v }
 }
 
 // s - t, or 0 where t is the greater.
@@ -44,25 +60,13 @@ pub fn less(s: u16, t: u16) -> u16
     if s < t { 0 } else { s - t }
 }
 
-// The magnitude of a constrained difference of magnitude a.
-fn constrain_size(a: u16, s: u16, sh: u32) -> u16
-    requires { ⌜ (a ≤ 32767) × (s ≤ 32767) × (sh ≤ 15) ⌝ }
-    ensures { λ r. ⌜ r ≡ sizeOf a s sh ⌝ }
-{
-    least(a, less(s, a >> sh))
-}
-
-// A tap's constrained difference from the centre.
+// A tap's constrained difference from the centre: the difference held to what its size leaves of the strength.
 pub fn constrain_tap(p: u16, c: u16, s: u16, sh: u32) -> i16
     requires { ⌜ (p ≤ 32767) × (c ≤ 32767) × (s ≤ 32767) × (sh ≤ 15) ⌝ }
     ensures { λ r. ⌜ r ≡ conOf p c s sh ⌝ }
 {
-    let m = constrain_size(apart(p, c), s, sh);
-    if (p as i16) < (c as i16) {
-        0 - (m as i16)
-    } else {
-        m as i16
-    }
+    let d = apart(p, c);
+    held(d, less(s, magnitude(d) >> sh))
 }
 
 // The sum of two 16-bit numbers.

@@ -1,11 +1,11 @@
 -- One tap: the code's constrained difference, with its shift capped at 15 and a marked tap replaced by the centre, is what the standard adds.
 use mathlib.Core.Path.{_≡_, sym, ap, _∙_}
 use mathlib.Core.Bool.{cond}
-use Prim.Native.Nat.{ℕ, zero, suc, _+_, _-_, _/_, _^_, _≤_, _<_, min, max}
+use Prim.Native.Nat.{ℕ, suc, _+_, _-_, _/_, _^_, _≤_, _<_, min, max}
 use native.Mathlib.Decide.{decLe, decLt, ℕ-discrete}
 use native.Mathlib.Nat.{lt-of-lt-of-le, div-eq-of-lt}
 use native.Mathlib.Omega.{arith}
-use borrow.Author.Tests.{lt-ltb, le-ltb, eq-eqb, ne-eqb}
+use borrow.Author.Tests.{eq-eqb, ne-eqb}
 use lib.Dec.{eqb}
 use lib.IntN.{ℤ, pos, negsuc, _-ℤ_, _*ℤ_, *ℤ-zero}
 use lib.Pow.{pow-mono}
@@ -17,6 +17,7 @@ use Rattle.cdef_spec.specs.LeafLaws.{constrainMag-on, constrainMag-off}
 use Rattle.cdef_spec.specs.TrialLaws.{adds, higher, lower}
 use Rattle.arith_sample.specs.Sample.{orCentre, sizeOf, conOf}
 use Rattle.arith_sample.specs.SampleLaws.{con-below, con-above, centre-mark, centre-tap}
+use Rattle.arith_sample.specs.HeldLaws.{diff-below, diff-above}
 use Rattle.filter_kernel.specs.Kernel.{shiftOf}
 
 -- a shift past 15 leaves nothing of a difference below 2 ^ 15
@@ -38,15 +39,6 @@ size-capped a s d h = go (ℕ-discrete s 0)
     go : Dec (s ≡ 0) → min a (s - a / 2 ^ min (d - FloorLog2 s) 15) ≡ constrainMag a s d
     go (yes e) = rw (e, constrainMag-off a d) (omega arith)
     go (no n) = rw (constrainMag-on a s d n, capped a (d - FloorLog2 s) h)
-
--- a difference by its sign
-diff-below : (p c : ℕ) → p < c → pos p -ℤ pos c ≡ negsuc (c - suc p)
-diff-below p zero h = absurd (omega arith)
-diff-below p (suc c) h = rw (lt-ltb p (suc c) h)
-
-diff-above : (p c : ℕ) → c ≤ p → pos p -ℤ pos c ≡ pos (p - c)
-diff-above p zero h = ap pos (omega arith)
-diff-above p (suc c) h = rw (le-ltb p (suc c) h)
 
 con-is : (p c s d : ℕ) → p ≤ 16384 → c ≤ 16384 → conOf p c s (shiftOf s d) ≡ constrain (pos p -ℤ pos c) s d
 unfolding withSign

@@ -30,7 +30,8 @@ use Rattle.filter_kernel.specs.PlaceLaws.{centre-is, on-tap, back-tap}
 use Rattle.filter_kernel.specs.KernelLaws.{kernel-tap}
 use Rattle.plane_taps.specs.Steps.{stepBy, stepIn, tapsBy, tapsIn, Reach}
 use Rattle.plane_taps.specs.StepLaws.{on-lands, back-lands, taps-reach}
-use Rattle.plane_rows.specs.Rows.{Along, Around, Strong, priIn, secIn, insideTap}
+use Rattle.plane_taps.specs.Reach.{Along, Around}
+use Rattle.plane_rows.specs.Rows.{Strong, priIn, secIn, insideTap}
 use Rattle.plane_block.specs.Inside.{Inner}
 use Rattle.plane_inside.specs.Inner.{innerBlock}
 

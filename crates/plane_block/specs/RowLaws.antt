@@ -7,7 +7,8 @@ use native.Mathlib.Omega.{arith}
 use Rattle.filter_rows.specs.declared.Taps.{Taps}
 use Rattle.filter_rows.specs.declared.Strength.{Strength}
 use Rattle.filter_kernel.specs.Kernel.{priOf}
-use Rattle.plane_rows.specs.Rows.{Along, Around, Strong, Stored}
+use Rattle.plane_taps.specs.Reach.{Along, Around}
+use Rattle.plane_rows.specs.Rows.{Strong, Stored}
 use Rattle.plane_bytes.specs.Eights.{Strong8}
 use Rattle.plane_block.specs.Inside.{Bytes}
 

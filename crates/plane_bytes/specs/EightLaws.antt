@@ -17,8 +17,9 @@ use Rattle.filter_rows.specs.declared.Strength.{Strength}
 use Rattle.filter_kernel.specs.Kernel.{kernelAt}
 use Rattle.plane_taps.specs.Plain.{AllLow}
 use Rattle.plane_taps.specs.PlainLaws.{both-plain}
-use Rattle.plane_rows.specs.Rows.{Along, priIn, secIn, placed, KernelRows}
-use Rattle.plane_rows.specs.ReachLaws.{on-along, back-along}
+use Rattle.plane_taps.specs.Reach.{Along}
+use Rattle.plane_rows.specs.Rows.{priIn, secIn, placed, KernelRows}
+use Rattle.plane_taps.specs.ReachLaws.{on-along, back-along}
 use Rattle.plane_rows.specs.LaneLaws.{kernel-both}
 use Rattle.plane_rows.specs.StoreLaws.{kept}
 use Rattle.plane_bytes.specs.Byte.{Mask, bothOf}

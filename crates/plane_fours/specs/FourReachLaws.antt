@@ -4,9 +4,9 @@ use Prim.Native.Nat.{ℕ, _+_, _*_, _/_, _%_, _≤_, _<_}
 use native.Mathlib.Nat.{mul-le-mul-right}
 use native.Mathlib.Omega.{arith}
 use Rattle.filter_rows.specs.Place.{onFrom, backFrom}
-use Rattle.plane_rows.specs.Rows.{Along}
+use Rattle.plane_taps.specs.Reach.{Along}
 use Rattle.plane_fours.specs.Fours.{fourAt}
-use Rattle.plane_rows.specs.ReachLaws.{on-along, back-along}
+use Rattle.plane_taps.specs.ReachLaws.{on-along, back-along}
 
 -- sample j lies before the run's end
 pub four-in : (w j : ℕ) → j < 16 → j / 4 * w + j % 4 < 3 * w + 4

@@ -10,8 +10,10 @@ use Rattle.filter_rows.specs.Place.{onFrom, backFrom}
 use Rattle.filter_rows.specs.Pairs.{pairOf}
 use Rattle.filter_rows.specs.Sums.{InRange}
 use Rattle.filter_limits.specs.declared.Pair.{Pair}
+use Rattle.filter_limits.specs.Limits.{HeldPair}
 use Rattle.filter_rows.specs.declared.Strength.{Strength}
 use Rattle.plane_taps.specs.Plain.{AllLow, Low, Bounded, firstOf}
+use Rattle.plane_taps.specs.PlainLaws.{low-held}
 use Rattle.plane_fours.specs.Fours.{fourAt, centreRun, onRun, backRun, pairIn, partIn, firstLanes, BoundedAll}
 use Rattle.plane_rows.specs.LaneLaws.{below, first-low}
 
@@ -48,6 +50,9 @@ pair-in-low {a} {b} p q n = record { on = below a p n; back = below b q n }
 
 pub low-pair : {p : Pair} (a b : List ℕ) (n : ℕ) → AllLow a → AllLow b → p ≡ pairIn a b n → Low p
 low-pair a b n x y e = rw e (pair-in-low x y n)
+
+pub held-pair : {p : Pair} (a b : List ℕ) (n : ℕ) → AllLow a → AllLow b → p ≡ pairIn a b n → HeldPair p
+held-pair a b n x y e = low-held (low-pair a b n x y e)
 
 -- ---- the first part of each
 

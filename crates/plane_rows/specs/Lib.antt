@@ -1,5 +1,4 @@
 -- Rows of a block straight from the plane, and their laws.
 pub mod Rows
-pub mod ReachLaws
 pub mod LaneLaws
 pub mod StoreLaws

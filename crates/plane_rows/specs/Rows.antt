@@ -15,37 +15,6 @@ use Rattle.plane_taps.specs.Steps.{Reach}
 use Rattle.plane_taps.specs.Plain.{firstOf}
 use Rattle.plane_taps.specs.declared.plain.Part.{Part}
 
--- ---- taps that lie in a list of len samples
-
--- the tap at an offset from k, and the opposite one
-pub record Reached (len k o : ℕ) : Type 0 where
-  pub on : onFrom k o < len
-  pub back : backFrom k o < len
-
-pub record Reached6 (len k : ℕ) (t : Taps) : Type 0 where
-  pub p0 : Reached len k (t .p0)
-  pub p1 : Reached len k (t .p1)
-  pub q0 : Reached len k (t .q0)
-  pub q1 : Reached len k (t .q1)
-  pub r0 : Reached len k (t .r0)
-  pub r1 : Reached len k (t .r1)
-
--- n samples from k on, in a list that has m more on each side, at most 4096 by 4096 in all; o leads at most m away
-pub record Along (len k n o : ℕ) : Type 0 where
-  pub m : ℕ
-  pub low : m ≤ k
-  pub high : k + n + m ≤ len
-  pub small : len ≤ 2 ^ 24
-  pub reach : Reach m o
-
-pub record Around (len k n : ℕ) (t : Taps) : Type 0 where
-  pub p0 : Along len k n (t .p0)
-  pub p1 : Along len k n (t .p1)
-  pub q0 : Along len k n (t .q0)
-  pub q1 : Along len k n (t .q1)
-  pub r0 : Along len k n (t .r0)
-  pub r1 : Along len k n (t .r1)
-
 -- ---- strengths as they are passed
 
 -- strengths of at most 240, shifts of at most 15 (a larger one gives 0 like 15); the primary taps are weighted near and 6 - near

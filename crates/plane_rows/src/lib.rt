@@ -4,29 +4,17 @@ ghost use Prim.Native.Nat.{ℕ, _+_, _*_, _≤_, _<_};
 ghost use lib.ListN.{getD, length};
 ghost use Rattle.arith_sample.specs.Sample.{freeOf};
 ghost use Rattle.arith_sample.specs.Upto.{upto};
-ghost use Rattle.filter_rows.specs.Pairs.{pairOf};
 ghost use Rattle.filter_rows.specs.Sums.{InRange, priAt, secAt, filteredAt};
 ghost use Rattle.filter_kernel.specs.Kernel.{kernelAt};
 ghost use Rattle.plane_taps.specs.Plain.{AllLow};
 ghost use Rattle.plane_taps.specs.Steps.{tapsIn};
-ghost use Rattle.plane_rows.specs.Rows.{Reached, Reached6, Around, Strong, priIn, secIn, placed, placedRows, Stored};
+ghost use Rattle.plane_taps.specs.Reach.{Reached6, Around};
+ghost use Rattle.plane_rows.specs.Rows.{Strong, priIn, secIn, placed, placedRows, Stored};
 use filter_limits::Pair;
 use filter_rows::Strength;
 use filter_rows::Taps;
+use plane_taps::load::load;
 use plane_taps::plain;
-
-// The tap at an offset from k, and the opposite one.
-fn load(src: &[u16], k: usize, o: usize) -> Pair
-    requires { ⌜ Reached (length (now src)) k o ⌝ }
-    ensures { λ r. ⌜ r ≡ pairOf (now (src .entry)) k o ⌝ }
-{
-    let i = std::num::wrapping_add_usize(k, o);
-    let j = std::num::wrapping_sub_usize(k, o);
-    Pair {
-        on: src[i],
-        back: src[j],
-    }
-}
 
 // The sample at k, filtered with both strengths.
 fn both_at(src: &[u16], k: usize, t: Taps, f: Strength, g: Strength) -> u16

@@ -1,19 +1,13 @@
 -- One sample from the values of its taps, none of them marked. Definitions only.
-use mathlib.Core.Bool.{cond}
 use mathlib.Core.List.{List}
 use Prim.Native.Nat.{ℕ, _≤_, _<_, min, max}
 use lib.ListN.{getD}
-use lib.IntN.{ℤ, pos, negℤ, natAbs, _+ℤ_}
-use lib.Signed.{ltZ}
-use Rattle.arith_sample.specs.Sample.{conOf, underOf, finishOf}
+use lib.IntN.{ℤ, natAbs, _+ℤ_}
+use Rattle.arith_sample.specs.Sample.{conOf, finishOf}
 use Rattle.filter_rows.specs.declared.Strength.{Strength}
 use Rattle.filter_limits.specs.declared.Pair.{Pair}
 use Rattle.filter_rows.specs.Pairs.{weighed}
 use Rattle.plane_taps.specs.declared.plain.Part.{Part}
-
--- a number held to -l..l
-unfoldable pub heldOf : ℤ → ℕ → ℤ
-heldOf z l = let v = underOf z l in cond (ltZ v (negℤ (pos l))) (negℤ (pos l)) v
 
 -- both samples below the mark, 16384
 pub record Low (p : Pair) : Type 0 where

@@ -1,10 +1,9 @@
-// One sample from its taps, none of them marked.
+// One sample from the values of its taps. The sums are those of the values, also where one of them is the mark.
 ghost use mathlib.Core.Path.{_≡_};
 ghost use Prim.Native.Nat.{_≤_, _<_};
-ghost use lib.IntN.{natAbs, pos, _-ℤ_};
-ghost use Rattle.arith_sample.specs.Sample.{conOf};
+ghost use Rattle.filter_limits.specs.Limits.{HeldPair};
 ghost use Rattle.filter_rows.specs.Sums.{InRange};
-ghost use Rattle.plane_taps.specs.Plain.{heldOf, Low, Bounded, pairPlain, priPlain, secPlain, lowTwo, highTwo, firstOf, lastOf};
+ghost use Rattle.plane_taps.specs.Plain.{Low, Bounded, pairPlain, priPlain, secPlain, lowTwo, highTwo, firstOf, lastOf};
 use filter_limits::Pair;
 use filter_rows::Strength;
 
@@ -15,53 +14,20 @@ pub struct Part {
     pub hi: u16,
 }
 
-// The difference of two samples.
-fn apart(t: u16, c: u16) -> i16
-    requires { ⌜ (t < 16384) × (c < 16384) ⌝ }
-    ensures { λ r. ⌜ r ≡ pos t -ℤ pos c ⌝ }
-{
-    (t as i16) - (c as i16)
-}
-
-fn magnitude(d: i16) -> u16
-    requires { ⌜ natAbs d ≤ 32767 ⌝ }
-    ensures { λ r. ⌜ r ≡ natAbs d ⌝ }
-{
-    if d < 0 {
-        return (0 - d) as u16;
-    }
-    d as u16
-}
-
-// A number held to -l..l.
-fn held(d: i16, l: u16) -> i16
-    requires { ⌜ (natAbs d ≤ 32767) × (l ≤ 32767) ⌝ }
-    ensures { λ r. ⌜ r ≡ heldOf d l ⌝ }
-{
-    let v = arith_sample::at_most(d, l);
-    let low = 0 - (l as i16);
-    if v < low { low } else { v }
-}
-
-// A tap's constrained difference from the centre.
-fn constrain(t: u16, c: u16, s: u16, sh: u32) -> i16
-    requires { ⌜ (t < 16384) × (c < 16384) × (s ≤ 240) × (sh ≤ 15) ⌝ }
-    ensures { λ r. ⌜ r ≡ conOf t c s sh ⌝ }
-{
-    let d = apart(t, c);
-    held(d, arith_sample::less(s, magnitude(d) >> sh))
-}
-
-fn pair_sum(p: Pair, c: u16, s: u16, sh: u32) -> i16
-    requires { ⌜ Low p × (c < 16384) × (s ≤ 240) × (sh ≤ 15) ⌝ }
+// A tap and its opposite, constrained.
+pub fn pair_sum(p: Pair, c: u16, s: u16, sh: u32) -> i16
+    requires { ⌜ HeldPair p × (c ≤ 16384) × (s ≤ 240) × (sh ≤ 15) ⌝ }
     ensures { λ r. ⌜ r ≡ pairPlain p c s sh ⌝ }
 {
-    arith_sample::add(constrain(p.on, c, s, sh), constrain(p.back, c, s, sh))
+    arith_sample::add(
+        arith_sample::constrain_tap(p.on, c, s, sh),
+        arith_sample::constrain_tap(p.back, c, s, sh),
+    )
 }
 
 // The primary sum.
 pub fn pri_sum(p0: Pair, p1: Pair, c: u16, f: Strength) -> i16
-    requires { ⌜ Low p0 × Low p1 × (c < 16384) × InRange f ⌝ }
+    requires { ⌜ HeldPair p0 × HeldPair p1 × (c ≤ 16384) × InRange f ⌝ }
     ensures { λ r. ⌜ r ≡ priPlain p0 p1 c f ⌝ }
 {
     filter_rows::both::weigh(pair_sum(p0, c, f.s, f.sh), pair_sum(p1, c, f.s, f.sh), f)
@@ -69,7 +35,7 @@ pub fn pri_sum(p0: Pair, p1: Pair, c: u16, f: Strength) -> i16
 
 // The secondary sum.
 pub fn sec_sum(q0: Pair, q1: Pair, r0: Pair, r1: Pair, c: u16, f: Strength) -> i16
-    requires { ⌜ Low q0 × Low q1 × Low r0 × Low r1 × (c < 16384) × InRange f ⌝ }
+    requires { ⌜ HeldPair q0 × HeldPair q1 × HeldPair r0 × HeldPair r1 × (c ≤ 16384) × InRange f ⌝ }
     ensures { λ r. ⌜ r ≡ secPlain q0 q1 r0 r1 c f ⌝ }
 {
     let a = arith_sample::add(pair_sum(q0, c, f.s, f.sh), pair_sum(r0, c, f.s, f.sh));

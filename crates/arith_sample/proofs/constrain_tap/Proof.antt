@@ -1,64 +1,67 @@
 -- `arith_sample::constrain_tap` meets its contract.
-use mathlib.Core.Path.{_≡_, sym, ap, _∙_}
-use Prim.Native.Nat.{_+_, _-_, _≤_}
+use Rattle.arith_sample.specs.Sample.{conOf, heldOf}
+use mathlib.Core.Path.{_≡_, _∙_}
 use native.Mathlib.Omega.{arith}
-use lib.IntN.{pos, negℤ}
-use Rattle.arith_sample.specs.Sample.{sizeOf}
-use Rattle.arith_sample.specs.SampleLaws.{sizeOf-le, con-below, con-above}
-use Rattle.arith_sample.proofs.Sums16.{fits, back-nat, below, above, minus-fits, minus-back}
+use Prim.Native.Nat.{ℕ, _-_, _/_, _^_, _≤_}
+use lib.IntN.{ℤ, pos, natAbs, _-ℤ_}
+use mir.Syntax.{w16}
+use mir.Val.{toZ, ofZ}
+use Rattle.cdef_spec.specs.SignedLaws.{size-diff}
+use Rattle.arith_sample.specs.SampleLaws.{size-con}
+use Rattle.arith_sample.proofs.Sums16.{back}
+use Rattle.arith_sample.specs.HeldLaws.{held-con}
 use borrow.Author.Needs.{needs}
 use Rattle.arith_sample.proofs.constrain_tap.Statement.{statement}
 use Rattle.arith_sample.proofs.constrain_tap.Tie as tie
 use Rattle.arith_sample.proofs.constrain_tap.Reads as reads
 use Rattle.arith_sample.proofs.constrain_tap.Lts as lts
 use Rattle.arith_sample.proofs.apart.Reads as apart-reads
-use Rattle.arith_sample.proofs.constrain_size.Reads as constrain-size-reads
+use Rattle.arith_sample.proofs.held.Reads as held-reads
+use Rattle.arith_sample.proofs.magnitude.Reads as magnitude-reads
+use Rattle.arith_sample.proofs.less.Reads as less-reads
 
-size-is : (c : tie.After-constrain-size) → let a = c .before .before .args in c .constrain-size .result ≡ sizeOf ((a .p - a .c) + (a .c - a .p)) (a .s) (a .sh)
-size-is c = c .constrain-size .ensures ∙ rw (c .before .apart .ensures)
+glue : (t c s sh m l : ℕ) (d h : ℤ) → d ≡ pos t -ℤ pos c → m ≡ natAbs d → l ≡ s - m / 2 ^ sh → h ≡ heldOf d l → h ≡ conOf t c s sh
+glue t c s sh m l d h e1 e2 e3 e4 = e4 ∙ rw (e3, e2, e1) (held-con t c s sh)
 
-small : (c : tie.After-constrain-size) → c .constrain-size .result ≤ 32767
-small c = let a = c .before .before .args in omega (arith, size-is c, sizeOf-le ((a .p - a .c) + (a .c - a .p)) (a .s) (a .sh), c .before .before .pre .2)
+small : (s : tie.Start) → natAbs (pos (s .args .p) -ℤ pos (s .args .c)) ≤ 32767
+small s = omega (arith, size-diff (s .args .p) (s .args .c), s .pre .0, s .pre .1)
+
+apart-back : (c : tie.After-apart) → toZ w16 (ofZ w16 (c .apart .result)) ≡ pos (c .before .args .p) -ℤ pos (c .before .args .c)
+apart-back c = rw (c .apart .ensures) (back _ (small (c .before)))
 
 apart-requires : tie.Need-apart-requires
 apart-requires c κs = search needs
 
-constrain-size-requires : tie.Need-constrain-size-requires
-constrain-size-requires c κs = search needs
+magnitude-requires : tie.Need-magnitude-requires
+magnitude-requires c κs = rw (apart-back c) (small (c .before))
 
-cast-if1 : tie.Need-cast-if1
-cast-if1 c = search needs
+cast-less : tie.Need-cast-less
+cast-less c = search needs
 
-cast-if1-2 : tie.Need-cast-if1-2
-cast-if1-2 c = search needs
+shr-less : tie.Need-shr-less
+shr-less c = search needs
 
-cast-result : tie.Need-cast-result
-cast-result c = fits (pos (c .before .constrain-size .result)) (small (c .before))
+less-requires : tie.Need-less-requires
+less-requires c κs = search needs
 
-sub-result : tie.Need-sub-result
-sub-result c = minus-fits (c .before .constrain-size .result) (small (c .before))
-
-cast-result-2 : tie.Need-cast-result-2
-cast-result-2 c = fits (pos (c .before .constrain-size .result)) (small (c .before))
+held-requires : tie.Need-held-requires
+held-requires c κs = let s = c .before .before .before in
+    (rw (apart-back (c .before .before)) (small s), omega (arith, c .less .ensures, s .pre .2))
 
 returns : tie.Need-returns
-returns c = let s = c .before .before .before in
-    minus-back (c .before .constrain-size .result) (small (c .before)) ∙ rw (size-is (c .before)) (sym (con-below (s .args .p) (s .args .c) (s .args .s) (s .args .sh) (below _ _ (s .pre .0) (s .pre .1) (c .if1 .taken))))
-
-returns-2 : tie.Need-returns-2
-returns-2 c = let s = c .before .before .before in
-    back-nat (c .before .constrain-size .result) (small (c .before)) ∙ rw (size-is (c .before)) (sym (con-above (s .args .p) (s .args .c) (s .args .s) (s .args .sh) (above _ _ (s .pre .0) (s .pre .1) (c .if1 .left))))
+returns c = let s = c .before .before .before .before in
+    let a = s .args in
+    let e = glue (a .p) (a .c) (a .s) (a .sh) _ _ _ _ (apart-back (c .before .before .before)) (c .before .before .magnitude .ensures) (c .before .less .ensures) (c .held .ensures) in
+    rw e (back _ (omega (arith, size-con (a .p) (a .c) (a .s) (a .sh), s .pre .2)))
 
 pub constrain-tap-spec : {M : Type 1} → statement M
 constrain-tap-spec =
     tie.close
     (tie.spec
     apart-requires
-    constrain-size-requires
-    cast-if1
-    cast-if1-2
-    cast-result
-    sub-result
-    cast-result-2
-    returns
-    returns-2)
+    magnitude-requires
+    cast-less
+    shr-less
+    less-requires
+    held-requires
+    returns)

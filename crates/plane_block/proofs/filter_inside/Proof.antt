@@ -14,7 +14,8 @@ use Rattle.filter_window.specs.Window.{planeOf, windowAt}
 use Rattle.filter_window.specs.WindowLaws.{window-held}
 use Rattle.filter_kernel.specs.Kernel.{priOf, secOf}
 use Rattle.plane_taps.specs.Steps.{tapsIn}
-use Rattle.plane_rows.specs.Rows.{Around, Strong, priIn, secIn}
+use Rattle.plane_taps.specs.Reach.{Around}
+use Rattle.plane_rows.specs.Rows.{Strong, priIn, secIn}
 use Rattle.plane_block.specs.Inside.{blockFrom, paramsFrom}
 use Rattle.plane_block.specs.PlaneLaws.{block-two, stored, pri-passed, sec-passed, strong-passed, around-row, around-four, room}
 use borrow.Author.Needs.{needs}

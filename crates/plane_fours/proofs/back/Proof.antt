@@ -6,7 +6,7 @@ use Prim.Native.Nat.{ℕ}
 use Rattle.arith_sample.specs.Upto.{upto-ext}
 use Rattle.filter_rows.specs.Place.{backFrom}
 use Rattle.plane_fours.specs.Fours.{centreRun, backRun}
-use Rattle.plane_rows.specs.ReachLaws.{back-any, back-run}
+use Rattle.plane_taps.specs.ReachLaws.{back-any, back-run}
 use Rattle.plane_fours.specs.FourReachLaws.{back-four}
 use borrow.Author.Needs.{needs}
 use Rattle.plane_fours.proofs.back.Statement.{statement}

@@ -6,7 +6,7 @@ use Prim.Native.Nat.{ℕ}
 use Rattle.arith_sample.specs.Upto.{upto-ext}
 use Rattle.filter_rows.specs.Place.{onFrom}
 use Rattle.plane_fours.specs.Fours.{centreRun, onRun}
-use Rattle.plane_rows.specs.ReachLaws.{on-run}
+use Rattle.plane_taps.specs.ReachLaws.{on-run}
 use Rattle.plane_fours.specs.FourReachLaws.{on-four}
 use borrow.Author.Needs.{needs}
 use Rattle.plane_fours.proofs.on.Statement.{statement}

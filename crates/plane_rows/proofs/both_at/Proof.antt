@@ -13,7 +13,7 @@ use Rattle.plane_rows.proofs.both_at.Statement.{statement}
 use Rattle.plane_rows.proofs.both_at.Tie as tie
 use Rattle.plane_rows.proofs.both_at.Reads as reads
 use Rattle.plane_rows.proofs.both_at.Lts as lts
-use Rattle.plane_rows.proofs.load.Reads as load-reads
+use Rattle.plane_taps.proofs.load.load.Reads as load-reads
 use Rattle.plane_taps.proofs.plain.first.Reads as first-reads
 use Rattle.plane_taps.proofs.plain.last.Reads as last-reads
 

@@ -6,7 +6,7 @@ use native.Mathlib.Omega.{arith}
 use lib.ListN.{length, take, length-set}
 use Rattle.filter_rows.specs.Sums.{filteredAt}
 use Rattle.arith_sample.specs.Upto.{upto, upto-none, upto-more, upto-all}
-use Rattle.plane_rows.specs.ReachLaws.{reached-all}
+use Rattle.plane_taps.specs.ReachLaws.{reached-all}
 use Rattle.plane_rows.proofs.both_row.Statement.{statement}
 use Rattle.plane_rows.proofs.both_row.Tie as tie
 use Rattle.plane_rows.proofs.both_row.Reads as reads

@@ -6,24 +6,22 @@ use Rattle.arith_sample.proofs.Joins.{Is, back-is}
 use Rattle.filter_rows.specs.Pairs.{pairOf}
 use Rattle.filter_rows.specs.Sums.{priAt}
 use Rattle.filter_rows.proofs.Bounds.{size-pri, small-back}
-use Rattle.plane_taps.specs.Plain.{Low}
-use Rattle.plane_taps.specs.PlainLaws.{pri-plain}
+use Rattle.filter_limits.specs.Limits.{HeldPair}
+use Rattle.plane_taps.specs.PlainLaws.{low-held, pri-plain}
 use Rattle.plane_rows.specs.LaneLaws.{below, pair-low, free-is}
-use mathlib.Core.Path.{_≡_, _∙_}
 use mathlib.Core.Path.{_≡_, sym, _∙_}
 use native.Mathlib.Omega.{arith}
-use Rattle.plane_rows.specs.LaneLaws.{below, pair-low}
 use borrow.Author.Needs.{needs}
 use Rattle.plane_rows.proofs.pri_at.Statement.{statement}
 use Rattle.plane_rows.proofs.pri_at.Tie as tie
 use Rattle.plane_rows.proofs.pri_at.Reads as reads
 use Rattle.plane_rows.proofs.pri_at.Lts as lts
-use Rattle.plane_rows.proofs.load.Reads as load-reads
+use Rattle.plane_taps.proofs.load.load.Reads as load-reads
 use Rattle.plane_taps.proofs.plain.pri_sum.Reads as pri-sum-reads
 use Rattle.arith_sample.proofs.raised.Reads as raised-reads
 
-low : (s : tie.Start) (p : Rattle.filter_limits.specs.declared.Pair.Pair) (o : Prim.Native.Nat.ℕ) → p ≡ pairOf (s .args .src .now) (s .args .k) o → Low p
-low s p o e = rw e (pair-low (s .args .src .now) (s .pre .2) (s .args .k) o)
+held : (s : tie.Start) (p : Rattle.filter_limits.specs.declared.Pair.Pair) (o : Prim.Native.Nat.ℕ) → p ≡ pairOf (s .args .src .now) (s .args .k) o → HeldPair p
+held s p o e = rw e (low-held (pair-low (s .args .src .now) (s .pre .2) (s .args .k) o))
 
 sum : (c : tie.After-pri-sum) → let a = c .before .before .before .before .before .args in Is (c .pri-sum .result) (priAt (a .src .now) (a .k) (a .t) (a .f)) 3840
 sum c = let s = c .before .before .before .before .before in
@@ -44,7 +42,7 @@ load-requires-2 c κs = search needs
 
 pri-sum-requires : tie.Need-pri-sum-requires
 pri-sum-requires c κs = let s = c .before .before .before .before in
-    (low s _ _ (c .before .load .ensures), low s _ _ (c .load2 .ensures), below (s .args .src .now) (s .pre .2) (s .args .k), s .pre .3)
+    (held s _ _ (c .before .load .ensures), held s _ _ (c .load2 .ensures), omega (arith, below (s .args .src .now) (s .pre .2) (s .args .k)), s .pre .3)
 
 raised-requires : tie.Need-raised-requires
 raised-requires c κs = let s = c .before .before .before .before .before in

@@ -6,7 +6,7 @@ use lib.ListN.{length, take, getD, length-set}
 use Rattle.arith_sample.specs.Sample.{freeOf}
 use Rattle.filter_rows.specs.Sums.{priAt}
 use Rattle.arith_sample.specs.Upto.{upto, upto-none, upto-more, upto-all}
-use Rattle.plane_rows.specs.ReachLaws.{reached-all}
+use Rattle.plane_taps.specs.ReachLaws.{reached-all}
 use Rattle.plane_rows.proofs.pri_row.Statement.{statement}
 use Rattle.plane_rows.proofs.pri_row.Tie as tie
 use Rattle.plane_rows.proofs.pri_row.Reads as reads

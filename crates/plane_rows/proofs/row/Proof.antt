@@ -1,5 +1,5 @@
 -- `plane_rows::row` meets its contract.
-use Rattle.plane_rows.specs.Rows.{Around}
+use Rattle.plane_taps.specs.Reach.{Around}
 use native.Mathlib.Omega.{arith}
 use mathlib.Core.Path.{_≡_, _∙_}
 use Rattle.arith_sample.specs.Upto.{upto-ext}

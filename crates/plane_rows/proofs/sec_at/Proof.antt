@@ -6,8 +6,8 @@ use Rattle.arith_sample.proofs.Joins.{Is, back-is}
 use Rattle.filter_rows.specs.Pairs.{pairOf}
 use Rattle.filter_rows.specs.Sums.{secAt}
 use Rattle.filter_rows.proofs.Bounds.{size-sec, small-back}
-use Rattle.plane_taps.specs.Plain.{Low}
-use Rattle.plane_taps.specs.PlainLaws.{sec-plain}
+use Rattle.filter_limits.specs.Limits.{HeldPair}
+use Rattle.plane_taps.specs.PlainLaws.{low-held, sec-plain}
 use Rattle.plane_rows.specs.LaneLaws.{below, pair-low, free-is}
 use mathlib.Core.Path.{_≡_, _∙_}
 use native.Mathlib.Omega.{arith}
@@ -16,12 +16,12 @@ use Rattle.plane_rows.proofs.sec_at.Statement.{statement}
 use Rattle.plane_rows.proofs.sec_at.Tie as tie
 use Rattle.plane_rows.proofs.sec_at.Reads as reads
 use Rattle.plane_rows.proofs.sec_at.Lts as lts
-use Rattle.plane_rows.proofs.load.Reads as load-reads
+use Rattle.plane_taps.proofs.load.load.Reads as load-reads
 use Rattle.plane_taps.proofs.plain.sec_sum.Reads as sec-sum-reads
 use Rattle.arith_sample.proofs.raised.Reads as raised-reads
 
-low : (s : tie.Start) (p : Rattle.filter_limits.specs.declared.Pair.Pair) (o : Prim.Native.Nat.ℕ) → p ≡ pairOf (s .args .src .now) (s .args .k) o → Low p
-low s p o e = rw e (pair-low (s .args .src .now) (s .pre .2) (s .args .k) o)
+held : (s : tie.Start) (p : Rattle.filter_limits.specs.declared.Pair.Pair) (o : Prim.Native.Nat.ℕ) → p ≡ pairOf (s .args .src .now) (s .args .k) o → HeldPair p
+held s p o e = rw e (low-held (pair-low (s .args .src .now) (s .pre .2) (s .args .k) o))
 
 sum : (c : tie.After-sec-sum) → let a = c .before .before .before .before .before .before .before .args in Is (c .sec-sum .result) (secAt (a .src .now) (a .k) (a .t) (a .f)) 7680
 sum c = let s = c .before .before .before .before .before .before .before in
@@ -48,7 +48,7 @@ load-requires-4 c κs = search needs
 
 sec-sum-requires : tie.Need-sec-sum-requires
 sec-sum-requires c κs = let s = c .before .before .before .before .before .before in
-    (low s _ _ (c .before .before .before .load .ensures), low s _ _ (c .before .before .load2 .ensures), low s _ _ (c .before .load3 .ensures), low s _ _ (c .load4 .ensures), below (s .args .src .now) (s .pre .2) (s .args .k), s .pre .3)
+    (held s _ _ (c .before .before .before .load .ensures), held s _ _ (c .before .before .load2 .ensures), held s _ _ (c .before .load3 .ensures), held s _ _ (c .load4 .ensures), omega (arith, below (s .args .src .now) (s .pre .2) (s .args .k)), s .pre .3)
 
 raised-requires : tie.Need-raised-requires
 raised-requires c κs = let s = c .before .before .before .before .before .before .before in

@@ -6,7 +6,7 @@ use Prim.Native.Nat.{ℕ}
 use Rattle.arith_sample.specs.Upto.{upto-ext}
 use Rattle.filter_rows.specs.Place.{backFrom}
 use Rattle.plane_bytes.specs.Eights.{centreRun8, backRun8}
-use Rattle.plane_rows.specs.ReachLaws.{back-any, back-run}
+use Rattle.plane_taps.specs.ReachLaws.{back-any, back-run}
 use Rattle.plane_bytes.specs.EightLaws.{back-eight}
 use borrow.Author.Needs.{needs}
 use Rattle.plane_bytes.proofs.eights.back.Statement.{statement}

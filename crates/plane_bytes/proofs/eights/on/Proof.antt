@@ -6,7 +6,7 @@ use Prim.Native.Nat.{ℕ}
 use Rattle.arith_sample.specs.Upto.{upto-ext}
 use Rattle.filter_rows.specs.Place.{onFrom}
 use Rattle.plane_bytes.specs.Eights.{centreRun8, onRun8}
-use Rattle.plane_rows.specs.ReachLaws.{on-run}
+use Rattle.plane_taps.specs.ReachLaws.{on-run}
 use Rattle.plane_bytes.specs.EightLaws.{on-eight}
 use borrow.Author.Needs.{needs}
 use Rattle.plane_bytes.proofs.eights.on.Statement.{statement}

@@ -15,7 +15,7 @@ use lib.ListN.{length, take, getD, length-set}
 use Rattle.arith_sample.specs.Upto.{upto, upto-none, upto-more, upto-all}
 use Rattle.plane_fours.specs.Fours.{pairIn, priLanes}
 use Rattle.plane_rows.specs.LaneLaws.{below}
-use Rattle.plane_fours.specs.RunLaws.{low-pair}
+use Rattle.plane_fours.specs.RunLaws.{held-pair}
 use Rattle.arith_sample.specs.Sample.{freeOf}
 use Rattle.plane_taps.specs.Plain.{priPlain}
 use Rattle.plane_fours.proofs.lanes.pri.Statement.{statement}
@@ -53,7 +53,7 @@ element-copy-out-pri-sum c = omega arith
 
 pri-sum-requires : tie.Need-pri-sum-requires Inv-loop μ-loop
 pri-sum-requires c κs = let s = c .before .before .before .before .before in
-    (low-pair _ _ _ (s .pre .1 .on0) (s .pre .1 .back0) (c .before .before .pair .ensures), low-pair _ _ _ (s .pre .1 .on1) (s .pre .1 .back1) (c .before .pair2 .ensures), below (s .args .c .now) (s .pre .0) _, s .pre .2)
+    (held-pair _ _ _ (s .pre .1 .on0) (s .pre .1 .back0) (c .before .before .pair .ensures), held-pair _ _ _ (s .pre .1 .on1) (s .pre .1 .back1) (c .before .pair2 .ensures), omega (arith, below (s .args .c .now) (s .pre .0) (c .before .before .before .before .loop .j)), s .pre .2)
 
 mul-raised : tie.Need-mul-raised Inv-loop μ-loop
 mul-raised c = omega arith

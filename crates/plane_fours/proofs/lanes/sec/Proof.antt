@@ -15,7 +15,7 @@ use lib.ListN.{length, take, getD, length-set}
 use Rattle.arith_sample.specs.Upto.{upto, upto-none, upto-more, upto-all}
 use Rattle.plane_fours.specs.Fours.{pairIn, secLanes}
 use Rattle.plane_rows.specs.LaneLaws.{below}
-use Rattle.plane_fours.specs.RunLaws.{low-pair}
+use Rattle.plane_fours.specs.RunLaws.{held-pair}
 use Rattle.arith_sample.specs.Sample.{freeOf}
 use Rattle.plane_taps.specs.Plain.{secPlain}
 use Rattle.plane_fours.proofs.lanes.sec.Statement.{statement}
@@ -59,7 +59,7 @@ element-copy-out-sec-sum c = omega arith
 
 sec-sum-requires : tie.Need-sec-sum-requires Inv-loop μ-loop
 sec-sum-requires c κs = let s = c .before .before .before .before .before .before .before in
-    (low-pair _ _ _ (s .pre .1 .on0) (s .pre .1 .back0) (c .before .before .before .before .pair .ensures), low-pair _ _ _ (s .pre .1 .on1) (s .pre .1 .back1) (c .before .before .before .pair2 .ensures), low-pair _ _ _ (s .pre .2 .on0) (s .pre .2 .back0) (c .before .before .pair3 .ensures), low-pair _ _ _ (s .pre .2 .on1) (s .pre .2 .back1) (c .before .pair4 .ensures), below (s .args .c .now) (s .pre .0) _, s .pre .3)
+    (held-pair _ _ _ (s .pre .1 .on0) (s .pre .1 .back0) (c .before .before .before .before .pair .ensures), held-pair _ _ _ (s .pre .1 .on1) (s .pre .1 .back1) (c .before .before .before .pair2 .ensures), held-pair _ _ _ (s .pre .2 .on0) (s .pre .2 .back0) (c .before .before .pair3 .ensures), held-pair _ _ _ (s .pre .2 .on1) (s .pre .2 .back1) (c .before .pair4 .ensures), omega (arith, below (s .args .c .now) (s .pre .0) (c .before .before .before .before .before .before .loop .j)), s .pre .3)
 
 mul-raised : tie.Need-mul-raised Inv-loop μ-loop
 mul-raised c = omega arith

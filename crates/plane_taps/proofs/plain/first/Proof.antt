@@ -1,6 +1,6 @@
 -- `plane_taps::plain::first` meets its contract.
 use Rattle.arith_sample.proofs.Joins.{Is, back-is}
-use Rattle.plane_taps.specs.PlainLaws.{size-pri}
+use Rattle.plane_taps.specs.PlainLaws.{low-held, size-pri}
 use mathlib.Core.Path.{_∙_}
 use native.Mathlib.Omega.{arith}
 use Rattle.plane_taps.specs.Plain.{firstOf}
@@ -16,7 +16,7 @@ use Rattle.arith_sample.proofs.least.Reads as least-reads
 use Rattle.arith_sample.proofs.most.Reads as most-reads
 
 pri-sum-requires : tie.Need-pri-sum-requires
-pri-sum-requires c κs = search needs
+pri-sum-requires c κs = (low-held (c .pre .0), low-held (c .pre .1), omega (arith, c .pre .2), c .pre .3)
 
 low-two-requires : tie.Need-low-two-requires
 low-two-requires c κs = search needs

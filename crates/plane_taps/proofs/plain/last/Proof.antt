@@ -1,13 +1,12 @@
 -- `plane_taps::plain::last` meets its contract.
-use mathlib.Core.Path.{refl}
-use mathlib.Core.Path.{_≡_, sym, _∙_}
+use mathlib.Core.Path.{_≡_, refl, sym, _∙_}
 use native.Mathlib.Omega.{arith}
 use lib.IntN.{_+ℤ_}
 use Rattle.arith_sample.specs.SampleLaws.{finish-on}
 use Rattle.arith_sample.proofs.Joins.{Is, add-ok, add-is, back-is}
 use Rattle.filter_rows.proofs.Bounds.{small-back}
 use Rattle.plane_taps.specs.Plain.{secPlain, lastOf}
-use Rattle.plane_taps.specs.PlainLaws.{size-sec}
+use Rattle.plane_taps.specs.PlainLaws.{low-held, size-sec}
 use borrow.Author.Needs.{needs}
 use Rattle.plane_taps.proofs.plain.last.Statement.{statement}
 use Rattle.plane_taps.proofs.plain.last.Tie as tie
@@ -33,7 +32,7 @@ sum : (c : tie.After-add) → let a = c .before .before .before .args in Is (c .
 sum c = add-is (one (c .before .before .before)) (other (c .before .before)) (omega arith) (c .add .ensures)
 
 sec-sum-requires : tie.Need-sec-sum-requires
-sec-sum-requires c κs = search needs
+sec-sum-requires c κs = (low-held (c .pre .1), low-held (c .pre .2), low-held (c .pre .3), low-held (c .pre .4), omega (arith, c .pre .5), c .pre .6)
 
 add-requires : tie.Need-add-requires
 add-requires c κs = add-ok (one (c .before .before)) (other (c .before)) (omega arith)

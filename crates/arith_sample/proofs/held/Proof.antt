@@ -1,23 +1,23 @@
--- `plane_taps::plain::held` meets its contract.
+-- `arith_sample::held` meets its contract.
 use mathlib.Core.Bool.{Bool, true, false, cond}
 use Prim.Native.Nat.{ℕ, _≤_}
 use lib.IntN.{negℤ}
 use lib.Signed.{ltZ}
-use Rattle.plane_taps.specs.PlainLaws.{size-under}
+use Rattle.arith_sample.specs.HeldLaws.{size-under}
 use mathlib.Core.Path.{_≡_, sym, ap, _∙_}
 use native.Mathlib.Omega.{arith}
 use lib.IntN.{ℤ, pos, natAbs}
 use mir.Syntax.{w16}
 use mir.Val.{toZ, ofZ}
 use Rattle.arith_sample.specs.Sample.{underOf}
-use Rattle.plane_taps.specs.Plain.{heldOf}
+use Rattle.arith_sample.specs.Sample.{heldOf}
 use Rattle.arith_sample.proofs.Sums16.{back, minus-fits, minus-back}
 use borrow.Author.Needs.{needs}
-use Rattle.plane_taps.proofs.plain.held.Statement.{statement}
-use Rattle.plane_taps.proofs.plain.held.Tie as tie
-use Rattle.plane_taps.proofs.plain.held.Reads as reads
-use Rattle.plane_taps.proofs.plain.held.Lts as lts
+use Rattle.arith_sample.proofs.held.Statement.{statement}
+use Rattle.arith_sample.proofs.held.Tie as tie
+use Rattle.arith_sample.proofs.held.Reads as reads
+use Rattle.arith_sample.proofs.held.Lts as lts
 use Rattle.arith_sample.proofs.at_most.Reads as at-most-reads
 
 under-back : (c : tie.After-at-most) → toZ w16 (ofZ w16 (c .at-most .result)) ≡ underOf (c .before .args .d) (c .before .args .l)
 under-back c =

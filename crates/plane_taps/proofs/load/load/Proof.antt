@@ -1,14 +1,14 @@
--- `plane_rows::load` meets its contract.
+-- `plane_taps::load::load` meets its contract.
 use mathlib.Core.Path.{_≡_}
 use native.Mathlib.Omega.{arith}
 use Rattle.filter_rows.specs.Place.{onFrom, backFrom}
 use Rattle.filter_rows.specs.Pairs.{pairOf}
-use Rattle.plane_rows.specs.ReachLaws.{back-any}
+use Rattle.plane_taps.specs.ReachLaws.{back-any}
 use borrow.Author.Needs.{needs}
-use Rattle.plane_rows.proofs.load.Statement.{statement}
-use Rattle.plane_rows.proofs.load.Tie as tie
-use Rattle.plane_rows.proofs.load.Reads as reads
-use Rattle.plane_rows.proofs.load.Lts as lts
+use Rattle.plane_taps.proofs.load.load.Statement.{statement}
+use Rattle.plane_taps.proofs.load.load.Tie as tie
+use Rattle.plane_taps.proofs.load.load.Reads as reads
+use Rattle.plane_taps.proofs.load.load.Lts as lts
 use Rattle.std.proofs.num.wrapping_add_usize.Reads as wrapping-add-usize-reads
 use Rattle.std.proofs.num.wrapping_sub_usize.Reads as wrapping-sub-usize-reads
 

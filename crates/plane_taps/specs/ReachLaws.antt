@@ -4,8 +4,8 @@ use Prim.Native.Nat.{ℕ, _+_, _%_, _^_, _≤_, _<_}
 use native.Mathlib.Omega.{arith}
 use Rattle.filter_rows.specs.Place.{onFrom, backFrom}
 use Rattle.filter_rows.specs.declared.Taps.{Taps}
 use Rattle.plane_taps.specs.StepLaws.{on-near, back-near, on-more, back-more}
-use Rattle.plane_rows.specs.Rows.{Reached, Reached6, Along, Around}
+use Rattle.plane_taps.specs.Reach.{Reached, Reached6, Along, Around}
 
 -- the index from which an offset leads to k
 pub back-any : (k o r : ℕ) → o < 2 ^ 64 → r < 2 ^ 64 → (r + o) % 2 ^ 64 ≡ k → r ≡ backFrom k o

@@ -1,4 +1,4 @@
--- `plane_taps::plain::magnitude` meets its contract.
+-- `arith_sample::magnitude` meets its contract.
 use Rattle.cdef_spec.specs.SignedLaws.{size-neg}
 use mathlib.Core.Bool.{true, false}
 use lib.Signed.{nonNeg, ltZ}
@@ -12,12 +12,12 @@ use lib.Signed.{mag}
 use mir.Syntax.{w16}
 use mir.Val.{Fits}
 use Rattle.cdef_spec.specs.SignedLaws.{minus-fits, minus-back, is-neg, is-pos}
 use Rattle.arith_sample.proofs.Sums16.{fits, back}
 use borrow.Author.Needs.{needs}
-use Rattle.plane_taps.proofs.plain.magnitude.Statement.{statement}
-use Rattle.plane_taps.proofs.plain.magnitude.Tie as tie
-use Rattle.plane_taps.proofs.plain.magnitude.Reads as reads
-use Rattle.plane_taps.proofs.plain.magnitude.Lts as lts
+use Rattle.arith_sample.proofs.magnitude.Statement.{statement}
+use Rattle.arith_sample.proofs.magnitude.Tie as tie
+use Rattle.arith_sample.proofs.magnitude.Reads as reads
+use Rattle.arith_sample.proofs.magnitude.Lts as lts
 
 neg-fits : (z : ℤ) → natAbs z ≤ 32767 → z ≡ negsuc (mag z) → T (nonNeg (negℤ z)) × Fits w16 (natAbs (negℤ z))
 neg-fits (pos n) h e = absurd (let z : _≡_ {A = ℕ} 0 1 = cc in omega arith)

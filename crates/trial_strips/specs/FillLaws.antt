@@ -30,10 +30,21 @@ row-in x n i hx hi hn =
     let a : x ≤ 4 = omega arith in
     omega (arith, mul-le-mul-right n a)
 
-pub no-entry : (m k : ℕ) → getD (replicate m 0) k 0 ≡ 0
+pub no-entry : (m k : ℕ) → getD {A = ℕ} (replicate m 0) k 0 ≡ 0
 no-entry zero k = refl
 no-entry (suc m) zero = refl
 no-entry (suc m) (suc k) = no-entry m k
+
+-- an index, its sum in another order
+pub at-same : (win : List ℕ) (i x j : ℕ) → getD win (i * 12 + x + j) 0 ≡ getD win (i * 12 + (x + j)) 0
+at-same win i x j = let e : i * 12 + x + j ≡ i * 12 + (x + j) = omega arith in rw e
+
+-- strips counted in rows
+pub stripped : (x n i : ℕ) → i ≡ n → x * n + i ≡ (x + 1) * n
+stripped x n i e = omega arith
+
+pub stripped-all : (x n : ℕ) → x ≡ 5 → x * n ≡ 5 * n
+stripped-all x n e = rw e
 
 module _ (win : List ℕ) (w n : ℕ) where
   pub fill-none : (s : List ℕ) → ((k : ℕ) → getD s k 0 ≡ 0) → Filled win w n 0 0 s

@@ -40,7 +40,7 @@ around : (s : tie.Start Inv-loop μ-loop) (i : ℕ) → i < s .args .n → (s .a
 around s i h = let a = s .pre .1 i h in (omega (arith, a .0 .p0 .high, a .0 .p0 .small), a .1)
 
 taps-requires : tie.Need-taps-requires Inv-loop μ-loop
-taps-requires c κs = (c .before .before .pre .0 .3, c .before .before .pre .0 .1)
+taps-requires c κs = (c .before .before .pre .0 .3, c .before .before .pre .0 .1, omega arith)
 
 sub-t19 : tie.Need-sub-t19 Inv-loop μ-loop
 sub-t19 c = omega (arith, c .before .before .before .pre .0 .4 .most)

@@ -4,7 +4,7 @@ use Prim.Native.Nat.{ℕ, _+_, _-_, _*_, _≤_}
 use native.Mathlib.Omega.{arith}
 use lib.ListN.{length, length-set}
 use Rattle.trial_strips.specs.Strips.{Filled}
-use Rattle.trial_strips.specs.FillLaws.{row-in, no-entry, fill-none, fill-more, fill-row, fill-same, fill-all}
+use Rattle.trial_strips.specs.FillLaws.{row-in, no-entry, fill-none, fill-more, fill-row, fill-same, fill-all, stripped, stripped-all, at-same}
 use Rattle.trial_strips.proofs.strips_four.Statement.{statement}
 use Rattle.trial_strips.proofs.strips_four.Tie as tie
 use Rattle.trial_strips.proofs.strips_four.Reads as reads
@@ -29,11 +29,11 @@ abbrev μ-loop : tie.MeasureT-loop
 μ-loop win n out₀ x₀ out x = 5 - x
 
 -- the row that is filled
-low : (c : tie.In-loop2 Inv-loop3 μ-loop3 Inv-loop2 μ-loop2 Inv-loop μ-loop) → c .before .before .loop .x * c .before .before .before .before .args .n + c .loop2 .i ≤ 59
+low : (c : tie.In-loop2 Inv-loop3 μ-loop3 Inv-loop2 μ-loop2 Inv-loop μ-loop) → c .before .before .before .loop .x * c .before .before .before .before .args .n + c .before .loop2 .i ≤ 59
 low c = row-in _ _ _ (omega arith) (omega arith) (c .before .before .before .before .pre)
 
 loop-holds : tie.Need-loop-holds Inv-loop3 μ-loop3 Inv-loop2 μ-loop2 Inv-loop μ-loop
-loop-holds c = (fill-none _ 4 _ _ (no-entry 480), refl, omega arith)
+loop-holds c = (fill-same _ 4 _ _ 0 _ (omega arith) (fill-none _ 4 _ _ (no-entry 480)), refl, omega arith)
 
 loop2-holds : tie.Need-loop2-holds Inv-loop3 μ-loop3 Inv-loop2 μ-loop2 Inv-loop μ-loop
 loop2-holds c = let p = c .before in (fill-same _ 4 _ _ _ _ (omega arith) (p .loop .inv .0), p .loop .inv .1, omega arith)
@@ -66,13 +66,13 @@ element-copy-out-out : tie.Need-element-copy-out-out Inv-loop3 μ-loop3 Inv-loop
 element-copy-out-out c = omega arith
 
 add-out-2 : tie.Need-add-out-2 Inv-loop3 μ-loop3 Inv-loop2 μ-loop2 Inv-loop μ-loop
-add-out-2 c = omega (arith, low (c .before .before))
+add-out-2 c = omega (arith, low (c .before .before .before))
 
 mul-out-2 : tie.Need-mul-out-2 Inv-loop3 μ-loop3 Inv-loop2 μ-loop2 Inv-loop μ-loop
-mul-out-2 c = omega (arith, low (c .before .before))
+mul-out-2 c = omega (arith, low (c .before .before .before))
 
 array-write-out : tie.Need-array-write-out Inv-loop3 μ-loop3 Inv-loop2 μ-loop2 Inv-loop μ-loop
-array-write-out c = omega (arith, low (c .before .before))
+array-write-out c = omega (arith, low (c .before .before .before))
 
 add-j : tie.Need-add-j Inv-loop3 μ-loop3 Inv-loop2 μ-loop2 Inv-loop μ-loop
 add-j c = omega arith
@@ -81,7 +81,7 @@ loop3-less : tie.Need-loop3-less Inv-loop3 μ-loop3 Inv-loop2 μ-loop2 Inv-loop 
 loop3-less c = omega arith
 
 loop3-again : tie.Need-loop3-again Inv-loop3 μ-loop3 Inv-loop2 μ-loop2 Inv-loop μ-loop
-loop3-again c = ?
+loop3-again c = let q = c .before .before in let a = q .before .before .before .before .before .args in (fill-more (a .win .now) 4 (a .n) (q .loop3 .out) (q .before .before .before .before .loop .x) (q .before .before .loop2 .i) (q .loop3 .j) _ (q .loop3 .inv .0) (omega arith) (omega arith) (omega (arith, low (q .before), q .loop3 .inv .1)) (at-same (a .win .now) (q .before .before .loop2 .i) (q .before .before .before .before .loop .x) (q .loop3 .j)), simp length-set (q .loop3 .inv .1), omega arith)
 
 add-i : tie.Need-add-i Inv-loop3 μ-loop3 Inv-loop2 μ-loop2 Inv-loop μ-loop
 add-i c = omega arith

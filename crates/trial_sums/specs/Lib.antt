@@ -1,3 +1,3 @@
--- Sums of the first rows of a block, and their laws.
-pub mod Known
-pub mod KnownLaws
+-- Sums of sixteen samples, and their laws.
+pub mod Raw
+pub mod RawLaws

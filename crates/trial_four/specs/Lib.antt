@@ -1,2 +1,0 @@
--- The four trials of a secondary strength, as they are stored.
-pub mod Four

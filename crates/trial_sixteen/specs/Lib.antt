@@ -1,0 +1,3 @@
+-- Sixteen samples of the twelve trial blocks.
+pub mod Sixteen
+pub mod SixteenLaws

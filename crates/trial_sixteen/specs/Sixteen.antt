@@ -8,6 +8,8 @@ use lib.IntN.{ℤ, _+ℤ_}
 use lib.ListN.{getD}
 use lib.Signed.{mag}
 use Rattle.cdef_spec.specs.Standard.{Tap, sample}
+use Rattle.cdef_spec.specs.LoopForm.{putRow}
+use Rattle.arith_sample.specs.Bounds.{Within}
 use Rattle.arith_sample.specs.Sample.{movedOf, overOf, underOf}
 use Rattle.filter_limits.specs.Limits.{lowestOf, highestOf}
 use Rattle.filter_rows.specs.declared.Taps.{Taps}
@@ -15,6 +17,8 @@ use Rattle.filter_rows.specs.declared.Strength.{Strength}
 use Rattle.filter_rows.specs.Pairs.{pairsOf}
 use Rattle.filter_rows.specs.Sums.{InRange}
 use Rattle.trial_strengths.specs.declared.Twelve.{Twelve}
+use Rattle.trial_runs.specs.Runs.{runTap, raisedTap, clippedTap}
+use Rattle.trial_sums.specs.declared.PriSums.{PriSums}
 use Rattle.trial_sums.specs.Raw.{priRaw, secRaw}
 
 -- the sample at index k of the list l: by one sum, and by both
@@ -50,3 +54,21 @@ pub record Strong (u : Twelve) : Type 0 where
   pub s1 : InRange (u .s1)
   pub s2 : InRange (u .s2)
   pub same : (u .p2) .s ≡ (u .p3) .s → u .p2 ≡ u .p3
+
+-- ---- what is stored of sixteen entries, from entry k on
+
+pub record PriWithin (p : PriSums) : Type 0 where
+  pub p1 : Within (p .p1) 3840
+  pub p2 : Within (p .p2) 3840
+  pub p3 : Within (p .p3) 3840
+
+-- the trials 0 to 3: unfiltered, then by each of the three sums alone
+abbrev pub firstRuns : List ℕ → List ℕ → PriSums → ℕ → List ℕ
+firstRuns d c p k = putRow (putRow (putRow (putRow d 64 (runTap c k) 0 k 16) 64 (raisedTap c (p .p1) k) 1 k 16) 64 (raisedTap c (p .p2) k) 2 k 16) 64 (raisedTap c (p .p3) k) 3 k 16
+
+-- four trials, from trial t on: by a sum z alone, then by s with each of the three
+abbrev pub fourRuns : List ℕ → List ℕ → List ℤ → List ℤ → PriSums → List ℕ → List ℕ → ℕ → ℕ → List ℕ
+fourRuns d c z s p lo hi t k =
+    putRow (putRow (putRow (putRow d 64 (raisedTap c z k) t k 16) 64 (clippedTap c (p .p1) s lo hi k) (t + 1) k 16)
+    64 (clippedTap c (p .p2) s lo hi k) (t + 2) k 16)
+    64 (clippedTap c (p .p3) s lo hi k) (t + 3) k 16

@@ -1,7 +1,7 @@
--- Two blocks side by side are one.
+-- Two rows or two blocks side by side are one.
 use mathlib.Core.Path.{_≡_, sym, ap, _∙_}
 use mathlib.Core.List.{List}
-use Prim.Native.Nat.{ℕ, _+_, _*_, _/_, _%_, _≤_, _<_}
+use Prim.Native.Nat.{ℕ, zero, suc, _+_, _*_, _/_, _%_, _≤_, _<_}
 use native.Mathlib.Decide.{decLe, decLt}
 use native.Mathlib.Nat.{mod-lt, div-add-mod'}
 use native.Mathlib.Omega.{arith}
@@ -9,8 +9,17 @@ use lib.ListN.{getD, length}
 use lib.Seq.{ext-getD}
 use Rattle.cdef_spec.specs.Standard.{Tap}
 use Rattle.cdef_spec.specs.Document01.{orElse}
-use Rattle.cdef_spec.specs.LoopForm.{putBlock}
+use Rattle.cdef_spec.specs.LoopForm.{putRow, putBlock}
 use Rattle.cdef_spec.specs.PlaneLaws.{length-put-block, block-in, block-out}
+
+-- entries of a row from the first on, then those after them
+pub row-join : (d : List ℕ) (w : ℕ) (f : ℕ → ℕ → Tap) (r a n : ℕ) → putRow (putRow d w f r 0 a) w f r a n ≡ putRow d w f r 0 (a + n)
+unfolding putRow
+row-join d w f r a zero = let z : a + 0 ≡ a = omega arith in rw z
+row-join d w f r a (suc n) =
+    let z : a + suc n ≡ suc (a + n) = omega arith in
+    let y : 0 + (a + n) ≡ a + n = omega arith in
+    rw (z, row-join d w f r a n, y)
 
 module _ (d : List ℕ) (w : ℕ) (f : ℕ → ℕ → Tap) (y x m m2 n : ℕ) (hx : x + m + m2 ≤ w) where
   -- the first block, then the second

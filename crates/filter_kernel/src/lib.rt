@@ -96,12 +96,10 @@ pub fn kernel_row(w: &[u16; 144], row: usize, t: Taps, f: Strength, g: Strength)
         if g.s == 0 {
             return filter_rows::centre_row(w, row);
         }
-        let s = filter_rows::sec_row(w, row, t, g);
-        return filter_rows::free_row(w, row, s);
+        return filter_rows::alone::sec_row(w, row, t, g);
     }
     if g.s == 0 {
-        let p = filter_rows::pri_row(w, row, t, f);
-        return filter_rows::free_row(w, row, p);
+        return filter_rows::alone::pri_row(w, row, t, f);
     }
     filter_rows::filtered_row(w, row, t, f, g)
 }

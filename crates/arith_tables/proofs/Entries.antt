@@ -1,12 +1,11 @@
 -- The tables' entries in the code's form, each by one computed test of the whole table.
 use mathlib.Core.Path.{_≡_, refl}
 use mathlib.Core.Bool.{cond}
-use Prim.Native.Nat.{ℕ, _+_, _-_, _<_}
+use Prim.Native.Nat.{ℕ, _<_}
 use lib.Dec.{eqb}
 use Rattle.cdef_spec.specs.Words.{every}
-use Rattle.cdef_spec.specs.WordsLaws.{agree, agree2}
+use Rattle.cdef_spec.specs.WordsLaws.{agree}
 use Rattle.cdef_spec.specs.Standard.{Cdef-Uv-Dir, chromaDirection}
-use Rattle.cdef_spec.specs.CodeForm.{rows, cols, rowOf, colOf}
 
 -- the rows of Cdef_Uv_Dir for 4:2:2 and for 4:4:0
 abbrev pub uv-422 : ℕ → ℕ
@@ -22,18 +21,3 @@ uv-422-is = agree 8 (chromaDirection 1 0) uv-422 refl
 pub uv-440-is : (d : ℕ) → d < 8 → chromaDirection 0 1 d ≡ uv-440 d
 unfolding every chromaDirection Cdef-Uv-Dir
 uv-440-is = agree 8 (chromaDirection 0 1) uv-440 refl
-
--- the steps, with 2 added
-abbrev pub rowBy : ℕ → ℕ → ℕ
-rowBy d k = cond (eqb d 0) (1 - k) (cond (eqb d 1) (2 - k) (cond (eqb d 2) 2 (cond (eqb d 3) (2 + k) (3 + k))))
-
-pub row-is : (d k : ℕ) → d < 8 → k < 2 → rowOf d k ≡ rowBy d k
-unfolding every rows
-row-is = agree2 8 2 rowOf rowBy refl
-
-abbrev pub colBy : ℕ → ℕ → ℕ
-colBy d k = cond (eqb d 5) (2 + k) (cond (eqb d 6) 2 (cond (eqb d 7) (2 - k) (3 + k)))
-
-pub col-is : (d k : ℕ) → d < 8 → k < 2 → colOf d k ≡ colBy d k
-unfolding every cols
-col-is = agree2 8 2 colOf colBy refl

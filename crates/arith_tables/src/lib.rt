@@ -2,7 +2,6 @@
 ghost use mathlib.Core.Path.{_≡_};
 ghost use Prim.Native.Nat.{_/_, _≤_, _<_};
 ghost use Rattle.cdef_spec.specs.Standard.{chromaDirection};
-ghost use Rattle.cdef_spec.specs.CodeForm.{rowOf, colOf};
 
 // What the direction cost multiplies the squared sum of a line of n samples by. That it is the standard's Div_Table[n] is `DivisorIsStandard` (specs/Divisor.antt).
 pub fn divisor(n: u32) -> u32
@@ -37,32 +36,5 @@ pub fn chroma_direction(sub_x: u8, sub_y: u8, dir: u8) -> u8
         6 => 6,
         7 => 0,
         _ => 2,
-    }
-}
-
-// The row of step k of a direction, with 2 added.
-pub fn direction_row(dir: usize, k: usize) -> usize
-    requires { ⌜ (dir < 8) × (k < 2) ⌝ }
-    ensures { λ r. ⌜ r ≡ rowOf dir k ⌝ }
-{
-    match dir {
-        0 => 1 - k,
-        1 => 2 - k,
-        2 => 2,
-        3 => 2 + k,
-        _ => 3 + k,
-    }
-}
-
-// The column of step k of a direction, with 2 added.
-pub fn direction_col(dir: usize, k: usize) -> usize
-    requires { ⌜ (dir < 8) × (k < 2) ⌝ }
-    ensures { λ r. ⌜ r ≡ colOf dir k ⌝ }
-{
-    match dir {
-        5 => 2 + k,
-        6 => 2,
-        7 => 2 - k,
-        _ => 3 + k,
     }
 }

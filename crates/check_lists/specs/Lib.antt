@@ -1,2 +1,3 @@
 -- Laws of whole lists.
+pub mod Quarters
 pub mod ListLaws

@@ -26,13 +26,18 @@ pub fn all_below_u32(list: &[u32], m: u32) -> bool
     true
 }
 
-// 9: every sample is below 2^depth. The bits of all samples are combined and tested once.
+// 9: every sample is below 2^depth. The bits of all samples are combined and tested once. The four quarters of the list are read side by side: four
+// streams pass through the memory faster than one.
 pub fn samples_below(list: &[u16], depth: u8) -> bool
     requires { ⌜ depth ≤ 12 ⌝ }
     ensures { λ r. ⌜ r ≡ allBelow (2 ^ depth) (now (list .entry)) ⌝ }
 {
+    let n = list.len() / 4;
     let mut bits = 0u16;
-    for k in 0..list.len() {
+    for k in 0..n {
+        bits = bits | (list[k] | list[n + k] | list[2 * n + k] | list[3 * n + k]);
+    }
+    for k in 4 * n..list.len() {
         bits = bits | list[k];
     }
     bits >> (depth as u32) == 0

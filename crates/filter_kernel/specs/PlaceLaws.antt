@@ -1,5 +1,5 @@
 -- A wrapped offset, added to an index of the window or subtracted from it, gives the entry with the plane's sample at the intended row and column, or the mark where that is off the plane.
-use mathlib.Core.Path.{_≡_, _∙_}
+use mathlib.Core.Path.{_≡_, refl, _∙_}
 use mathlib.Core.Logic.{_⊎_, inl, inr}
 use Prim.Native.Nat.{ℕ, _+_, _-_, _*_, _%_, _^_, _≤_, _<_}
 use native.Mathlib.Decide.{decLe}
@@ -15,9 +15,14 @@ use Rattle.filter_rows.specs.Place.{Near, onFrom, backFrom, tapOn, tapBack}
 use Rattle.filter_rows.specs.Sums.{Near6}
 use Rattle.filter_window.specs.Window.{windowAt}
 use Rattle.filter_window.specs.WindowLaws.{window-in}
+use Rattle.plane_taps.specs.Steps.{wrappedStep, stepIn, tapsIn}
 use Rattle.filter_kernel.specs.Kernel.{wrapped, offAt, tapsOf}
 
--- ---- offsets are near
+-- ---- offsets are those in a plane 12 wide, and near
+
+pub taps-window : (dir : ℕ) → tapsIn 12 dir ≡ tapsOf dir
+unfolding tapsIn stepIn wrappedStep tapsOf offAt wrapped
+taps-window dir = refl
 
 wrapped-near : (r2 c2 : ℕ) → r2 ≤ 4 → c2 ≤ 4 → Near (wrapped r2 c2)
 unfolding wrapped

@@ -1,40 +1,21 @@
 // The parameters of a filtered row of the window, and the filtered row.
 ghost use mathlib.Core.Path.{_≡_};
-ghost use Prim.Native.Nat.{ℕ, _+_, _≤_, _<_, max};
+ghost use Prim.Native.Nat.{_+_, _≤_, _<_, max};
 ghost use lib.ListN.{getD};
 ghost use Rattle.arith_sample.specs.Bounds.{Held};
 ghost use Rattle.arith_sample.specs.Upto.{upto};
 ghost use Rattle.filter_rows.specs.Sums.{Near6, InRange};
-ghost use Rattle.filter_kernel.specs.Kernel.{offAt, tapsOf, shiftOf, priOf, secOf, kernelAt};
+ghost use Rattle.filter_kernel.specs.Kernel.{tapsOf, shiftOf, priOf, secOf, kernelAt};
 use cdef_spec::WorkingDamping;
 use filter_rows::Strength;
 use filter_rows::Taps;
 
-// A step of a direction as an offset in the window, negative ones wrapped.
-fn offset(dir: usize, k: usize) -> usize
-    requires { ⌜ (dir < 8) × (k < 2) ⌝ }
-    ensures { λ r. ⌜ r ≡ offAt dir k ⌝ }
-{
-    let row = arith_tables::direction_row(dir, k);
-    let col = arith_tables::direction_col(dir, k);
-    std::num::wrapping_add_usize(row * 12 + col, usize::MAX - 25)
-}
-
-// The offsets of a direction, of the one 2 further and of the one 6 further.
+// The offsets of a direction, of the one 2 further and of the one 6 further: the window is 12 samples wide.
 pub fn taps(dir: usize) -> Taps
     requires { ⌜ dir < 8 ⌝ }
     ensures { λ r. ⌜ r ≡ tapsOf dir ⌝ }
 {
-    let q = (dir + 2) % 8;
-    let r = (dir + 6) % 8;
-    Taps {
-        p0: offset(dir, 0),
-        p1: offset(dir, 1),
-        q0: offset(q, 0),
-        q1: offset(q, 1),
-        r0: offset(r, 0),
-        r1: offset(r, 1),
-    }
+    plane_taps::steps::taps(dir, 12)
 }
 
 // A working damping, where 0 counts as 1.
@@ -96,12 +77,10 @@ pub fn kernel_row(w: &[u16; 144], row: usize, t: Taps, f: Strength, g: Strength)
         if g.s == 0 {
             return filter_rows::centre_row(w, row);
         }
-        let s = filter_rows::sec_row(w, row, t, g);
-        return filter_rows::free_row(w, row, s);
+        return filter_rows::alone::sec_row(w, row, t, g);
     }
     if g.s == 0 {
-        let p = filter_rows::pri_row(w, row, t, f);
-        return filter_rows::free_row(w, row, p);
+        return filter_rows::alone::pri_row(w, row, t, f);
     }
     filter_rows::filtered_row(w, row, t, f, g)
 }

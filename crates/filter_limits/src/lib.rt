@@ -29,9 +29,10 @@ fn least_of(p: Pair) -> u16
 
 // A tap; 0 where it is marked.
 fn unmarked(t: u16) -> u16
+    requires { ⌜ t ≤ 16384 ⌝ }
     ensures { λ r. ⌜ r ≡ unmarkedOf t ⌝ }
 {
-    if t == arith_sample::MARK { 0 } else { t }
+    t % arith_sample::MARK
 }
 
 // The greater of two taps that are not marked.

@@ -14,9 +14,8 @@ use Rattle.cdef_spec.specs.SignedLaws.{size-add, size-scale}
 use Rattle.arith_sample.specs.Sample.{conOf}
 use Rattle.arith_sample.specs.SampleLaws.{size-con}
 use Rattle.filter_rows.specs.Place.{tapOn, tapBack}
-use Rattle.arith_sample.specs.Bounds.{Held, Within}
+use Rattle.arith_sample.specs.Bounds.{Held}
 use Rattle.arith_sample.proofs.Joins.{Is, add-ok, add-is, back-is}
-use Rattle.arith_sample.specs.Upto.{upto, upto-all-of}
 use Rattle.filter_rows.specs.Sums.{InRange, pairAt, highPair, priAt, sideAt, secAt, lowAt, highAt}
 use Rattle.filter_rows.specs.SumsLaws.{high-pair-le}
 use Rattle.filter_rows.specs.Pairs.{conTap, pairSum, weighed, priSum, secSum}
@@ -110,11 +109,3 @@ module _ (e : Pairs) (c : ℕ) (f : Strength) (m : InRange f) where
 -- a number that is passed to a call
 pub small-back : {x a : ℤ} {m n : ℕ} → Is x a m → m ≤ n → n ≤ 32767 → natAbs (toZ w16 (ofZ w16 x)) ≤ n
 small-back p h k = rw (back-is p (omega arith)) (omega (arith, p .small))
-
--- the rows' entries
-module _ (w : List ℕ) (row : ℕ) (t : Taps) (f : Strength) (m : InRange f) where
-  pub pri-within : Within (upto (λ (j : ℕ). priAt w (row + j) t f) 8) 3840
-  pri-within = record { all = upto-all-of (λ (z : ℤ). natAbs z ≤ 3840) (λ (j : ℕ). priAt w (row + j) t f) 8 (pos 0) (λ j. size-pri w (row + j) t f m) (omega arith) }
-
-  pub sec-within : Within (upto (λ (j : ℕ). secAt w (row + j) t f) 8) 7680
-  sec-within = record { all = upto-all-of (λ (z : ℤ). natAbs z ≤ 7680) (λ (j : ℕ). secAt w (row + j) t f) 8 (pos 0) (λ j. size-sec w (row + j) t f m) (omega arith) }

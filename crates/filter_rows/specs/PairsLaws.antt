@@ -7,8 +7,9 @@ use native.Mathlib.Omega.{arith}
 use borrow.Author.Tests.{eqb-true, eqb-false, eq-eqb, ne-eqb}
 use lib.Dec.{eqb}
 use lib.ListN.{getD}
-use lib.IntN.{pos, _+ℤ_}
-use Rattle.arith_sample.specs.Sample.{orCentre, sizeOf, conOf, finishOf}
+use lib.IntN.{ℤ, pos, _+ℤ_}
+use lib.Signed.{mag}
+use Rattle.arith_sample.specs.Sample.{orCentre, sizeOf, conOf, movedOf, overOf, finishOf, freeOf}
 use Rattle.arith_sample.specs.SampleLaws.{con-above, finish-mark}
 use Rattle.arith_sample.specs.Bounds.{Held}
 use Rattle.filter_rows.specs.Place.{onFrom, backFrom, tapOn, tapBack}
@@ -81,6 +82,15 @@ module _ (t c : ℕ) (hc : c ≤ 16384) (n : c ≡ 16384 → ⊥) where
       go true = omega arith
       go false = refl
 
+-- a marked centre is kept, whatever its sum is
+kept : (c : ℕ) (y z : ℤ) → ((c ≡ 16384 → ⊥) → y ≡ z) → freeOf c y ≡ freeOf c z
+unfolding freeOf
+kept c y z h = go (eqb c 16384) refl
+  where
+    go : (b : Bool) → eqb c 16384 ≡ b → cond b c (mag (overOf (movedOf c y) 0)) ≡ cond b c (mag (overOf (movedOf c z) 0))
+    go true m = refl
+    go false m = rw (h (eqb-false c 16384 m))
+
 -- a pair
 module _ (w : List ℕ) (k c : ℕ) (hc : c ≤ 16384) (n : c ≡ 16384 → ⊥) (o : ℕ) where
   sum-is : (s sh : ℕ) → pairSum (pairOf w k o) c s sh ≡ pairAt w k o c s sh
@@ -144,3 +154,11 @@ module _ (w : List ℕ) (k : ℕ) (t : Taps) (h : Held w) where
           finish-mark _ _ _ _ e ∙ sym (finish-mark _ _ _ _ e)
       go false m = let n : getD w k 0 ≡ 16384 → ⊥ = eqb-false (getD w k 0) 16384 m in
           rw (pri-is n f, sec-is n g, lowest-is n, highest-is n)
+
+  -- the sample filtered with one strength alone, likewise
+  module _ (f : Strength) where
+    pub pri-free : freeOf (getD w k 0) (priSum (pairsOf w k t) (getD w k 0) f) ≡ freeOf (getD w k 0) (priAt w k t f)
+    pri-free = kept (getD w k 0) _ _ (λ n. pri-is n f)
+
+    pub sec-free : freeOf (getD w k 0) (secSum (pairsOf w k t) (getD w k 0) f) ≡ freeOf (getD w k 0) (secAt w k t f)
+    sec-free = kept (getD w k 0) _ _ (λ n. sec-is n f)

@@ -1,4 +1,4 @@
-// One sample filtered with both strengths. Each of its taps is loaded once.
+// The taps of a sample as the window holds them, their sums, and the sample filtered with both strengths. Each of its taps is loaded once.
 ghost use mathlib.Core.Path.{_≡_};
 ghost use Prim.Native.Nat.{_≤_};
 ghost use lib.IntN.{natAbs};
@@ -24,7 +24,7 @@ fn load_pair(w: &[u16; 144], k: usize, o: usize) -> Pair
     }
 }
 
-fn load_pairs(w: &[u16; 144], k: usize, t: Taps) -> Pairs
+pub fn load_pairs(w: &[u16; 144], k: usize, t: Taps) -> Pairs
     requires { ⌜ (26 ≤ k) × (k ≤ 117) × Near6 t ⌝ }
     ensures { λ r. ⌜ r ≡ pairsOf (now (w .entry)) k t ⌝ }
 {
@@ -62,7 +62,7 @@ pub fn weigh(a: i16, b: i16, f: Strength) -> i16
     arith_sample::add(arith_sample::scale(f.w0, a), arith_sample::scale(f.w1, b))
 }
 
-fn pri_sum(e: Pairs, c: u16, f: Strength) -> i16
+pub fn pri_sum(e: Pairs, c: u16, f: Strength) -> i16
     requires { ⌜ HeldPairs e × (c ≤ 16384) × InRange f ⌝ }
     ensures { λ r. ⌜ r ≡ priSum e c f ⌝ }
 {
@@ -73,7 +73,7 @@ fn pri_sum(e: Pairs, c: u16, f: Strength) -> i16
     )
 }
 
-fn sec_sum(e: Pairs, c: u16, f: Strength) -> i16
+pub fn sec_sum(e: Pairs, c: u16, f: Strength) -> i16
     requires { ⌜ HeldPairs e × (c ≤ 16384) × InRange f ⌝ }
     ensures { λ r. ⌜ r ≡ secSum e c f ⌝ }
 {

@@ -1,15 +1,14 @@
 // Rows of eight samples of the window: sums and filtered rows, returned by value.
+pub mod alone; // alone.rt: rows filtered with one strength
 pub mod both; // both.rt: one sample, filtered with both strengths
 
 ghost use mathlib.Core.Path.{_≡_};
 ghost use Prim.Native.Nat.{_+_, _≤_};
-ghost use lib.IntN.{pos};
 ghost use lib.ListN.{getD};
-ghost use Rattle.arith_sample.specs.Sample.{freeOf};
 ghost use Rattle.arith_sample.specs.Upto.{upto};
 ghost use Rattle.filter_rows.specs.Place.{Near, tapOn, tapBack};
-ghost use Rattle.arith_sample.specs.Bounds.{Held, Within};
-ghost use Rattle.filter_rows.specs.Sums.{Near6, InRange, pairAt, lowPair, highPair, priAt, sideAt, secAt, lowAt, highAt, filteredAt};
+ghost use Rattle.arith_sample.specs.Bounds.{Held};
+ghost use Rattle.filter_rows.specs.Sums.{Near6, InRange, pairAt, lowPair, highPair, priAt, sideAt, lowAt, highAt, filteredAt};
 
 // offsets of the taps in a window of pitch 12, wrapped; the opposite tap lies as far the other way
 pub struct Taps {
@@ -121,32 +120,6 @@ fn high_at(w: &[u16; 144], k: usize, t: Taps) -> u16
     arith_sample::most(arith_sample::most(p, q), arith_sample::most(r, c))
 }
 
-pub fn pri_row(w: &[u16; 144], row: usize, t: Taps, f: Strength) -> [i16; 8]
-    requires { ⌜ (26 ≤ row) × (row ≤ 110) × Held (now w) × Near6 t × InRange f ⌝ }
-    ensures { λ r. ⌜ r ≡ upto (λ j. priAt (now (w .entry)) (row + j) t f) 8 ⌝ }
-{
-    let mut out = [0i16; 8];
-    for j in 0..8usize {
-        out[j] = pri_at(w, row + j, t, f);
-    }
-    out
-}
-
-pub fn sec_row(w: &[u16; 144], row: usize, t: Taps, f: Strength) -> [i16; 8]
-    requires { ⌜ (26 ≤ row) × (row ≤ 110) × Held (now w) × Near6 t × InRange f ⌝ }
-    ensures { λ r. ⌜ r ≡ upto (λ j. secAt (now (w .entry)) (row + j) t f) 8 ⌝ }
-{
-    let mut out = [0i16; 8];
-    for j in 0..8usize {
-        let k = row + j;
-        out[j] = arith_sample::add(
-            side_at(w, k, t.q0, t.r0, f.w0, f.s, f.sh),
-            side_at(w, k, t.q1, t.r1, f.w1, f.s, f.sh),
-        );
-    }
-    out
-}
-
 pub fn limit_row(w: &[u16; 144], row: usize, t: Taps) -> LimitRow
     requires { ⌜ (26 ≤ row) × (row ≤ 110) × Held (now w) × Near6 t ⌝ }
     ensures { λ r. ⌜ (r .lo ≡ upto (λ j. lowAt (now (w .entry)) (row + j) t) 8) × (r .hi ≡ upto (λ j. highAt (now (w .entry)) (row + j) t) 8) ⌝ }
@@ -168,19 +141,6 @@ pub fn filtered_row(w: &[u16; 144], row: usize, t: Taps, f: Strength, g: Strengt
     let mut out = [0u16; 8];
     for j in 0..8usize {
         out[j] = both::both_at(w, row + j, t, f, g);
-    }
-    out
-}
-
-// A row plus its rounded sums, not clipped.
-pub fn free_row(w: &[u16; 144], row: usize, s: [i16; 8]) -> [u16; 8]
-    requires { ⌜ (26 ≤ row) × (row ≤ 110) × Held (now w) × Within s 7680 ⌝ }
-    ensures { λ r. ⌜ r ≡ upto (λ j. freeOf (getD (now (w .entry)) (row + j) 0) (getD s j (pos 0))) 8 ⌝ }
-{
-    let mut out = [0u16; 8];
-    for j in 0..8usize {
-        let at = row + j;
-        out[j] = arith_sample::free(w[at], s[j]);
     }
     out
 }

@@ -4,3 +4,4 @@ pub mod SampleLaws
 pub mod HeldLaws
 pub mod Upto
 pub mod Bounds
+pub mod BoundLaws

@@ -2,9 +2,8 @@
 ghost use mathlib.Core.Path.{_≡_};
 ghost use Prim.Native.Nat.{ℕ, _+_, _-_, _*_, _≤_, _<_, min, max};
 ghost use lib.IntN.{natAbs, pos, _+ℤ_, _-ℤ_, _*ℤ_};
-ghost use lib.ListN.{length, getD};
 ghost use lib.Signed.{mag};
-ghost use Rattle.arith_sample.specs.Sample.{orCentre, conOf, heldOf, movedOf, overOf, underOf, finishOf, freeOf};
+ghost use Rattle.arith_sample.specs.Sample.{conOf, heldOf, movedOf, overOf, underOf, finishOf, freeOf};
 
 // The mark, in place of a sample that is not there (RULES, Glossary). It must exceed every sample (they are below 2^12), so that a marked tap is never the least one,
 // and stay so far below 2^15 that a centre plus its rounded sum, at most 1,000 in size, fits an i16.
@@ -83,19 +82,6 @@ pub fn scale(k: u16, a: i16) -> i16
     ensures { λ r. ⌜ r ≡ pos k *ℤ a ⌝ }
 {
     (k as i16) * a
-}
-
-// The tap at an index of the window; the centre where the tap or the centre is marked.
-pub fn tap(w: &[u16; 144], at: usize, c: u16) -> u16
-    requires { ⌜ at < 144 ⌝ }
-    ensures { λ r. ⌜ r ≡ orCentre (getD (now (w .entry)) at 0) c ⌝ }
-{
-    let t = w[at];
-    if t == MARK {
-        c
-    } else {
-        if c == MARK { c } else { t }
-    }
 }
 
 // The centre plus the rounded sum: the sum divided by 16 and rounded to the nearest, halves away from 0.

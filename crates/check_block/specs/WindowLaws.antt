@@ -10,11 +10,12 @@ use Rattle.cdef_spec.specs.Words.{every}
 use Rattle.cdef_spec.specs.Document01.{Plane}
 use Rattle.cdef_spec.specs.Questions.{ask, firstNo, sampleOrMark, widenedTaken}
 use Rattle.cdef_spec.specs.QuestionLaws.{first-yes}
-use Rattle.arith_sample.specs.Bounds.{Held}
+use Rattle.arith_sample.specs.Bounds.{Held, Marked}
+use Rattle.arith_sample.specs.BoundLaws.{marked-held}
 use Rattle.arith_sample.specs.Upto.{upto}
 use Rattle.filter_window.specs.Window.{windowAt}
 use Rattle.filter_window.specs.Spans.{InPlane}
-use Rattle.filter_block.specs.TakenLaws.{window-taken-is, window-held}
+use Rattle.filter_block.specs.TakenLaws.{window-taken-is, window-marked}
 use Rattle.check_block.specs.PartLaws.{PlaneFacts, BlockFacts}
 
 module _ (p : Plane) (b : Block) (depth : ℕ) (f : PlaneFacts p depth) (g : BlockFacts p b) where
@@ -29,5 +30,8 @@ module _ (p : Plane) (b : Block) (depth : ℕ) (f : PlaneFacts p depth) (g : Blo
   pub widened-so : (n : ℕ) → n ≡ firstNo (ask 9 (widenedTaken p depth b) ∷ []) → n ≡ 0 → widenedTaken p depth b ≡ true
   widened-so n e z = first-yes _ _ (λ e. omega arith) (sym e ∙ z) .0
 
+  pub marked-so : widenedTaken p depth b ≡ true → Marked (upto (windowAt p b) 144)
+  marked-so t = window-marked p b depth (g .x-in) (g .y-in) (g .bw) (g .bh) (f .flat) (window-taken-is p b depth (g .x-in) (g .y-in) (g .bw) (g .bh) ∙ t)
+
   pub held-so : widenedTaken p depth b ≡ true → Held (upto (windowAt p b) 144)
-  held-so t = window-held p b depth (g .x-in) (g .y-in) (g .bw) (g .bh) (f .flat) (window-taken-is p b depth (g .x-in) (g .y-in) (g .bw) (g .bh) ∙ t)
+  held-so t = marked-held (marked-so t)

@@ -16,7 +16,7 @@ use Rattle.cdef_spec.specs.WordsLaws.{every-at, every-make}
 use Rattle.cdef_spec.specs.Document01.{Plane, mark}
 use Rattle.cdef_spec.specs.Questions.{sampleOrMark, lookedAt, widenedTaken}
 use Rattle.cdef_spec.specs.CodeForm.{sampleAt}
-use Rattle.arith_sample.specs.Bounds.{Held}
+use Rattle.arith_sample.specs.Bounds.{Marked}
 use Rattle.arith_sample.specs.Upto.{upto, length-upto, getD-upto}
 use Rattle.filter_window.specs.Window.{windowAt}
 use Rattle.filter_window.specs.WindowLaws.{window-in, window-below, window-right, sample-above, sample-below, sample-left, sample-right, sample-in}
@@ -51,13 +51,13 @@ le-add b i = omega arith
 window-place : (a b : ℕ) → a < 12 → b < 12 → a * 12 + b < 144
 window-place a b h k = omega arith
 
-taken-low : (depth : ℕ) → depth ≤ 12 → (v : ℕ) → sampleOrMark depth v ≡ true → v ≤ 16384
+taken-low : (depth : ℕ) → depth ≤ 12 → (v : ℕ) → sampleOrMark depth v ≡ true → (v < 4096) ⊎ (v ≡ 16384)
 unfolding sampleOrMark
 taken-low depth hd v t = by (ltb v (2 ^ depth)) refl t
   where
-    by : (s : Bool) → ltb v (2 ^ depth) ≡ s → s || eqb v mark ≡ true → v ≤ 16384
-    by true f t = let l : 2 ^ depth ≤ 2 ^ 12 = pow-mono {i = depth} {j = 12} hd in omega (arith, ltb-true v (2 ^ depth) f)
-    by false f t = omega (arith, eqb-true v mark t)
+    by : (s : Bool) → ltb v (2 ^ depth) ≡ s → s || eqb v mark ≡ true → (v < 4096) ⊎ (v ≡ 16384)
+    by true f t = let l : 2 ^ depth ≤ 2 ^ 12 = pow-mono {i = depth} {j = 12} hd in inl (omega (arith, ltb-true v (2 ^ depth) f))
+    by false f t = inr (eqb-true v mark t)
 
 module _ (p : Plane) (b : Block) (depth : ℕ) (hx : b .x < p .width) (hy : b .y < p .height) (hw : b .width ≤ 8) (hh : b .height ≤ 8) where
   -- the examined rows and columns
@@ -123,10 +123,10 @@ module _ (p : Plane) (b : Block) (depth : ℕ) (hx : b .x < p .width) (hy : b .y
   pub window-taken-is : every 144 (λ k. sampleOrMark depth (getD (upto (windowAt p b) 144) k 0)) ≡ widenedTaken p depth b
   window-taken-is = test-same _ _ to-looked from-looked
 
-  -- so that no entry is above the mark
-  pub window-held : depth ≤ 12 → every 144 (λ k. sampleOrMark depth (getD (upto (windowAt p b) 144) k 0)) ≡ true → Held (upto (windowAt p b) 144)
-  window-held hd e = record { all = λ k. go k (decLt k 144) }
+  -- so that each entry is a sample or the mark
+  pub window-marked : depth ≤ 12 → every 144 (λ k. sampleOrMark depth (getD (upto (windowAt p b) 144) k 0)) ≡ true → Marked (upto (windowAt p b) 144)
+  window-marked hd e = record { all = λ k. go k (decLt k 144) }
     where
-      go : (k : ℕ) → Dec (k < 144) → getD (upto (windowAt p b) 144) k 0 ≤ 16384
+      go : (k : ℕ) → Dec (k < 144) → (getD (upto (windowAt p b) 144) k 0 < 4096) ⊎ (getD (upto (windowAt p b) 144) k 0 ≡ 16384)
       go k (yes h) = taken-low depth hd _ (every-at 144 (λ k. sampleOrMark depth (getD (upto (windowAt p b) 144) k 0)) e k h)
-      go k (no g) = rw (List·getD-eq-default (upto (windowAt p b) 144) 0 {n = k} (omega (arith, length-upto (windowAt p b) 144))) (omega arith)
+      go k (no g) = inl (rw (List·getD-eq-default (upto (windowAt p b) 144) 0 {n = k} (omega (arith, length-upto (windowAt p b) 144))) (omega arith))

@@ -15,14 +15,18 @@ use Rattle.filter_rows.specs.Place.{Near, onFrom, backFrom, tapOn, tapBack}
 use Rattle.filter_rows.specs.Sums.{Near6}
 use Rattle.filter_window.specs.Window.{windowAt}
 use Rattle.filter_window.specs.WindowLaws.{window-in}
-use Rattle.plane_taps.specs.Steps.{wrappedStep, stepIn, tapsIn}
+use Rattle.plane_taps.specs.Steps.{wrappedStep, stepBy, stepIn, tapsBy, tapsIn}
 use Rattle.filter_kernel.specs.Kernel.{wrapped, offAt, tapsOf}
 
 -- ---- offsets are those in a plane 12 wide, and near
 
+step-window : (dir k : ℕ) → stepIn 12 dir k ≡ offAt dir k
+unfolding stepBy wrappedStep offAt wrapped
+step-window dir k = let e : rowOf dir k * 12 + colOf dir k * 1 ≡ rowOf dir k * 12 + colOf dir k = omega arith in rw e
+
 pub taps-window : (dir : ℕ) → tapsIn 12 dir ≡ tapsOf dir
-unfolding tapsIn stepIn wrappedStep tapsOf offAt wrapped
-taps-window dir = refl
+unfolding tapsBy tapsOf
+taps-window dir = rw (step-window dir 0, step-window dir 1, step-window ((dir + 2) % 8) 0, step-window ((dir + 2) % 8) 1, step-window ((dir + 6) % 8) 0, step-window ((dir + 6) % 8) 1)
 
 wrapped-near : (r2 c2 : ℕ) → r2 ≤ 4 → c2 ≤ 4 → Near (wrapped r2 c2)
 unfolding wrapped
@@ -53,7 +57,7 @@ past-wrap : (t : ℕ) → t < 2 ^ 64 → (t + 2 ^ 64) % 2 ^ 64 ≡ t
 past-wrap t h = omega arith
 
 module _ (i j r2 c2 : ℕ) (hi : i < 8) (hj : j < 8) (hr : r2 ≤ 4) (hc : c2 ≤ 4) where
-  on-is : onFrom ((i + 2) * 12 + 2 + j) (wrapped r2 c2) ≡ (i + r2) * 12 + (j + c2)
+  pub on-is : onFrom ((i + 2) * 12 + 2 + j) (wrapped r2 c2) ≡ (i + r2) * 12 + (j + c2)
   unfolding onFrom wrapped
   on-is = go (decLe 26 (r2 * 12 + c2))
     where
@@ -65,7 +69,7 @@ module _ (i j r2 c2 : ℕ) (hi : i < 8) (hj : j < 8) (hr : r2 ≤ 4) (hc : c2 �
           let e : (r2 * 12 + c2 + (2 ^ 64 - 26)) % 2 ^ 64 ≡ r2 * 12 + c2 + (2 ^ 64 - 26) = omega arith in
           rw e (omega arith)
 
-  back-at : backFrom ((i + 2) * 12 + 2 + j) (wrapped r2 c2) ≡ (i + (4 - r2)) * 12 + (j + (4 - c2))
+  pub back-at : backFrom ((i + 2) * 12 + 2 + j) (wrapped r2 c2) ≡ (i + (4 - r2)) * 12 + (j + (4 - c2))
   unfolding backFrom wrapped
   back-at = go (decLe 26 (r2 * 12 + c2))
     where

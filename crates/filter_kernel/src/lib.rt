@@ -15,7 +15,7 @@ pub fn taps(dir: usize) -> Taps
     requires { ⌜ dir < 8 ⌝ }
     ensures { λ r. ⌜ r ≡ tapsOf dir ⌝ }
 {
-    plane_taps::steps::taps(dir, 12)
+    plane_taps::steps::taps(dir, 12, 1)
 }
 
 // A working damping, where 0 counts as 1.

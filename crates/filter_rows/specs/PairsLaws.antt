@@ -19,7 +19,7 @@ use Rattle.filter_limits.specs.Limits.{HeldPair, HeldPairs, leastOf, unmarkedOf
 use Rattle.filter_rows.specs.declared.Taps.{Taps}
 use Rattle.filter_rows.specs.declared.Strength.{Strength}
 
-con-self : (c s sh : ℕ) → conOf c c s sh ≡ pos 0
+pub con-self : (c s sh : ℕ) → conOf c c s sh ≡ pos 0
 unfolding sizeOf
 con-self c s sh = con-above c c s sh (omega arith) ∙ ap pos (omega arith)
 
@@ -132,11 +132,11 @@ module _ (w : List ℕ) (k : ℕ) (t : Taps) (h : Held w) where
     unfolding secSum pairsOf weighed secAt sideAt
     sec-is f = rw (sum (t .q0) (f .s) (f .sh), sum (t .q1) (f .s) (f .sh), sum (t .r0) (f .s) (f .sh), sum (t .r1) (f .s) (f .sh))
 
-    lowest-is : lowestOf (pairsOf w k t) (getD w k 0) ≡ lowAt w k t
+    pub lowest-is : lowestOf (pairsOf w k t) (getD w k 0) ≡ lowAt w k t
     unfolding lowestOf pairsOf lowAt
     lowest-is = low-last (low-two (low-two (least (t .p0)) (least (t .p1))) (low-two (least (t .q0)) (least (t .q1)))) (low-two (least (t .r0)) (least (t .r1)))
 
-    highest-is : highestOf (pairsOf w k t) (getD w k 0) ≡ highAt w k t
+    pub highest-is : highestOf (pairsOf w k t) (getD w k 0) ≡ highAt w k t
     unfolding highestOf pairsOf highAt
     highest-is = high-last (high-two (high-two (most (t .p0)) (most (t .p1))) (high-two (most (t .q0)) (most (t .q1)))) (high-two (most (t .r0)) (most (t .r1)))
 

@@ -2,6 +2,7 @@
 use mathlib.Core.Path.{_≡_, refl, sym, ap, _∙_}
 use mathlib.Core.Bool.{Bool, true, false, cond, _&&_}
 use mathlib.Core.List.{List}
+use mathlib.Core.Logic.{_⊎_, inl, inr}
 use Prim.Native.Nat.{ℕ, zero, suc, _+_, _-_, _*_, _/_, _%_, _≤_, _<_, min}
 use native.Mathlib.Decide.{decLe}
 use native.Mathlib.Nat.{mul-comm}
@@ -13,7 +14,7 @@ use lib.ListN.{getD, length}
 use Rattle.cdef_spec.specs.declared.Block.{Block}
 use Rattle.cdef_spec.specs.Document01.{Plane}
 use Rattle.cdef_spec.specs.CodeForm.{sampleAt}
-use Rattle.arith_sample.specs.Bounds.{Held}
+use Rattle.arith_sample.specs.Bounds.{Held, Marked}
 use Rattle.arith_sample.specs.Upto.{upto, upto-all-of}
 use Rattle.filter_window.specs.declared.Span.{Span}
 use Rattle.filter_window.specs.Window.{planeOf, windowAt}
@@ -109,23 +110,29 @@ module _ (s : List ℕ) (w h : ℕ) (b : Block) (i j : ℕ) (hj : j < 12) where
 
 -- ---- a plane whose samples are at most the mark
 
-module _ (p : Plane) (low : (k : ℕ) → getD (p .samples) k 0 ≤ 16384) where
-  sample-low : (r c : ℕ) → sampleAt p r c ≤ 16384
+-- what holds of the samples and of the mark holds of a window's entries
+module _ (P : ℕ → Type 0) (mark : P 16384) (p : Plane) (each : (k : ℕ) → P (getD (p .samples) k 0)) where
+  sample-all : (r c : ℕ) → P (sampleAt p r c)
   unfolding sampleAt
-  sample-low r c = go (leb 2 r && (ltb r (p .height + 2) && (leb 2 c && ltb c (p .width + 2)))) ((r - 2) * p .width + (c - 2))
+  sample-all r c = go (leb 2 r && (ltb r (p .height + 2) && (leb 2 c && ltb c (p .width + 2)))) ((r - 2) * p .width + (c - 2))
     where
-      go : (b : Bool) (k : ℕ) → cond b (getD (p .samples) k 0) 16384 ≤ 16384
-      go true k = low k
-      go false k = omega arith
+      go : (b : Bool) (k : ℕ) → P (cond b (getD (p .samples) k 0) 16384)
+      go true k = each k
+      go false k = mark
 
-  entry-low : (b : Block) (k : ℕ) → windowAt p b k ≤ 16384
+  entry-all : (b : Block) (k : ℕ) → P (windowAt p b k)
   unfolding windowAt
-  entry-low b k = go (ltb (k / 12) (b .height + 4) && ltb (k % 12) (b .width + 4)) (sampleAt p (b .y + k / 12) (b .x + k % 12)) (sample-low (b .y + k / 12) (b .x + k % 12))
+  entry-all b k = go (ltb (k / 12) (b .height + 4) && ltb (k % 12) (b .width + 4)) (sampleAt p (b .y + k / 12) (b .x + k % 12)) (sample-all (b .y + k / 12) (b .x + k % 12))
     where
-      go : (t : Bool) (n : ℕ) → n ≤ 16384 → cond t n 16384 ≤ 16384
+      go : (t : Bool) (n : ℕ) → P n → P (cond t n 16384)
       go true n h = h
-      go false n h = omega arith
+      go false n h = mark
 
-  -- so are its windows' entries
-  pub window-held : (b : Block) → Held (upto (windowAt p b) 144)
-  window-held b = record { all = upto-all-of (λ (v : ℕ). v ≤ 16384) (windowAt p b) 144 0 (entry-low b) (omega arith) }
+  pub window-all : (b : Block) → P 0 → (k : ℕ) → P (getD (upto (windowAt p b) 144) k 0)
+  window-all b z = upto-all-of P (windowAt p b) 144 0 (entry-all b) z
+
+pub window-held : (p : Plane) → ((k : ℕ) → getD (p .samples) k 0 ≤ 16384) → (b : Block) → Held (upto (windowAt p b) 144)
+window-held p low b = record { all = window-all (λ (v : ℕ). v ≤ 16384) (omega arith) p low b (omega arith) }
+
+pub window-marked : (p : Plane) → ((k : ℕ) → getD (p .samples) k 0 < 4096) → (b : Block) → Marked (upto (windowAt p b) 144)
+window-marked p low b = record { all = window-all (λ (v : ℕ). (v < 4096) ⊎ (v ≡ 16384)) (inr refl) p (λ k. inl (low k)) b (inl (omega arith)) }

@@ -11,11 +11,11 @@ use lib.Pow.{pow-mono}
 use Rattle.cdef_spec.specs.declared.Block.{Block}
 use Rattle.cdef_spec.specs.Picture.{planeWidth, planeHeight, blockWidth, blockHeight}
 use Rattle.cdef_spec.specs.GeometryLaws.{sides-on}
-use Rattle.arith_sample.specs.Bounds.{Held}
+use Rattle.arith_sample.specs.Bounds.{Marked}
 use Rattle.arith_sample.specs.Upto.{upto}
 use Rattle.filter_window.specs.Window.{planeOf, windowAt}
 use Rattle.filter_window.specs.Spans.{InPlane}
-use Rattle.filter_window.specs.WindowLaws.{window-held}
+use Rattle.filter_window.specs.WindowLaws.{window-marked}
 use Rattle.frame_shape.specs.declared.Frame.{Frame}
 use Rattle.frame_shape.specs.Frame.{Shaped, pictureOf, blockOf}
 use Rattle.frame_shape.specs.FrameLaws.{side-facts, width-is, height-is, block-width-is, block-height-is, flags-taken, tiles}
@@ -86,5 +86,5 @@ module _ (f : Frame) (h : Shaped f) (l : List ℕ) (g : Sampled f l) where
   pub sample-byte : f .depth ≡ 8 → (k : ℕ) → getD l k 0 < 256
   sample-byte e k = rw e at (g .low k)
 
-  pub window-low : (w m : ℕ) (b : Block) → Held (upto (windowAt (planeOf l w m) b) 144)
-  window-low w m b = window-held (planeOf l w m) (λ k. omega (arith, sample-low k)) b
+  pub window-low : (w m : ℕ) (b : Block) → Marked (upto (windowAt (planeOf l w m) b) 144)
+  window-low w m b = window-marked (planeOf l w m) sample-low b

@@ -28,9 +28,10 @@ use Rattle.filter_window.specs.WindowLaws.{sample-in}
 use Rattle.filter_kernel.specs.Kernel.{offAt, tapsOf, shiftOf, priOf, secOf, kernelAt}
 use Rattle.filter_kernel.specs.PlaceLaws.{centre-is, on-tap, back-tap}
 use Rattle.filter_kernel.specs.KernelLaws.{kernel-tap}
-use Rattle.plane_taps.specs.Steps.{stepBy, stepIn, tapsBy, tapsIn, Reach}
+use Rattle.plane_taps.specs.Steps.{stepBy, stepIn, tapsBy, tapsIn}
 use Rattle.plane_taps.specs.StepLaws.{on-lands, back-lands, taps-reach}
-use Rattle.plane_taps.specs.Reach.{Along, Around}
+use Rattle.plane_taps.specs.Reach.{Around}
+use Rattle.plane_taps.specs.ReachLaws.{around-of}
 use Rattle.plane_rows.specs.Rows.{Strong, priIn, secIn, insideTap}
 use Rattle.plane_block.specs.Inside.{Inner}
 use Rattle.plane_inside.specs.Inner.{innerBlock}
@@ -171,10 +172,7 @@ module _ (s s2 d depth : ℕ) where
 
 -- n samples, and two rows and two columns more on each side
 pub around : (len w at n dir : ℕ) → w ≤ 4096 → dir < 8 → 2 * w + 2 ≤ at → at + n + (2 * w + 2) ≤ len → len ≤ 2 ^ 24 → Around len at n (tapsIn w dir)
-around len w at n dir hw hd lo hi sm =
-    let t = taps-reach w dir hw hd in
-    let a : (o : ℕ) → Reach (2 * w + 2) o → Along len at n o = λ o r. record { m = 2 * w + 2; low = lo; high = hi; small = sm; reach = r } in
-    record { p0 = a _ (t .p0); p1 = a _ (t .p1); q0 = a _ (t .q0); q1 = a _ (t .q1); r0 = a _ (t .r0); r1 = a _ (t .r1) }
+around len w at n dir hw hd lo hi sm = around-of (taps-reach w dir hw hd) len at n lo hi sm
 
 -- where a block inside the plane lies
 module _ (w h x y bw bh len : ℕ) (e : len ≡ w * h) (hw : w ≤ 4096) (hh : h ≤ 4096) (a : Inner w h x y bw bh) where

@@ -5,6 +5,7 @@ use native.Mathlib.Omega.{arith}
 use Rattle.filter_rows.specs.Place.{onFrom, backFrom}
 use Rattle.filter_rows.specs.declared.Taps.{Taps}
 use Rattle.plane_taps.specs.StepLaws.{on-near, back-near, on-more, back-more}
+use Rattle.plane_taps.specs.Steps.{Reach, Reach6}
 use Rattle.plane_taps.specs.Reach.{Reached, Reached6, Along, Around}
 
 -- the index from which an offset leads to k
@@ -53,3 +54,9 @@ reached-all a j h = record {
   r0 = reached (a .r0) j h;
   r1 = reached (a .r1) j h;
 }
+
+-- n samples from k on, and m more on each side
+pub around-of : {m : ℕ} {t : Taps} → Reach6 m t → (len k n : ℕ) → m ≤ k → k + n + m ≤ len → len ≤ 2 ^ 24 → Around len k n t
+around-of {m} r len k n lo hi sm =
+    let a : (o : ℕ) → Reach m o → Along len k n o = λ o h. record { m = m; low = lo; high = hi; small = sm; reach = h } in
+    record { p0 = a _ (r .p0); p1 = a _ (r .p1); q0 = a _ (r .q0); q1 = a _ (r .q1); r0 = a _ (r .r0); r1 = a _ (r .r1) }

@@ -22,27 +22,10 @@ use Rattle.arith_sample.specs.Upto.{upto}
 use Rattle.filter_window.specs.Window.{windowAt}
 use Rattle.filter_kernel.specs.Kernel.{tapsOf, priOf, secOf}
 use Rattle.filter_kernel.specs.KernelLaws.{centre-sample, pri-sample, sec-sample, both-sample}
-use Rattle.trial_block.specs.Trial.{centreTap, priTap, secTap, fullTap, priBy, secBy, trialTap}
+use Rattle.trial_sixteen.specs.Sixteen.{priBy, secBy}
+use Rattle.trial_marks.specs.Trial.{centreTap, priTap, secTap, fullTap, trialTap}
+use Rattle.trial_any.specs.AnyLaws.{tried, params-is, none-adjusted}
 use Rattle.trial_strengths.specs.Strengths.{adjustedBy, twelveOf}
-
--- the filter parameters of a trial of the pair a, b
-abbrev tried : TrialWay → ℕ → ℕ → WorkingDamping → ℕ → ℕ → FilterParams
-tried way depth dir damping a b = record { pri = adjustedBy way (a << (depth - 8)); sec = b << (depth - 8); dir = cond (eqb a 0) 0 dir; damping = damping; depth = depth }
-
-params-is : (way : TrialWay) (depth dir : ℕ) (damping : WorkingDamping) (t : ℕ) → trialParams way depth dir damping t ≡ tried way depth dir damping (getD primaries (t % 4) 0) (getD secondaries (t / 4) 0)
-unfolding trialParams lumaParams chromaParams trialPair adjustedBy
-params-is (Luma var) depth dir damping t = refl
-params-is Chroma depth dir damping t = refl
-
--- a primary 0 stays 0
-none-adjusted : (way : TrialWay) (s : ℕ) → adjustedBy way (0 << s) ≡ 0
-unfolding adjustedBy adjustPri
-none-adjusted (Luma var) s = rw (zero-mul (2 ^ s)) (go (eqb var 0) _)
-  where
-    go : (b : Bool) (l : ℕ) → cond b 0 ((0 * (4 + l) + 8) >> 4) ≡ 0
-    go true l = refl
-    go false l = rw (zero-mul (4 + l))
-none-adjusted Chroma s = zero-mul (2 ^ s)
 
 module _ (p : Plane) (b : Block) (way : TrialWay) (dir : ℕ) (damping : WorkingDamping) (depth : ℕ) (hw : b .width ≤ 8) (hh : b .height ≤ 8) (hd : dir < 8) (held : Held (upto (windowAt p b) 144)) (c : ℕ) (hc : c < b .height * b .width) where
   win : List ℕ

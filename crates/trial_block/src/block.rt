@@ -1,21 +1,19 @@
 // The trial of a block of a plane.
 ghost use mathlib.Core.Path.{_≡_};
-ghost use Prim.Native.Nat.{_*_, _≤_, _<_};
+ghost use Prim.Native.Nat.{_≤_, _<_};
 ghost use lib.ListN.{length};
 ghost use Rattle.cdef_spec.specs.Words.{table};
+ghost use Rattle.cdef_spec.specs.Document01.{Plane};
 ghost use Rattle.cdef_spec.specs.BlockCalls.{trialPlace};
-ghost use Rattle.cdef_spec.specs.LoopForm.{putBlock};
-ghost use Rattle.arith_sample.specs.Bounds.{Held};
+ghost use Rattle.arith_sample.specs.Bounds.{Marked};
 ghost use Rattle.arith_sample.specs.Upto.{upto};
 ghost use Rattle.filter_window.specs.Window.{planeOf, windowAt};
 ghost use Rattle.filter_window.specs.Spans.{InPlane};
-ghost use Rattle.trial_block.specs.Trial.{trialTap};
-ghost use Rattle.trial_strengths.specs.Strengths.{twelveOf};
 use cdef_spec::Block;
 use cdef_spec::TrialWay;
 use cdef_spec::WorkingDamping;
 
-// Twelve trial blocks from a block's window.
+// Twelve trial blocks from a block's window. A block of other sides, or with a damping at which a mark's difference may count, is filtered trial by trial.
 pub fn trial_window(
     out: &mut [u16],
     win: &[u16; 144],
@@ -25,13 +23,19 @@ pub fn trial_window(
     damping: WorkingDamping,
     depth: u8,
 )
-    requires { ⌜ (length (now out) ≡ 768) × (b .width ≤ 8) × (b .height ≤ 8) × Held (now win) ⌝ }
+    requires { ⌜ (length (now out) ≡ 768) × (b .width ≤ 8) × (b .height ≤ 8) × Marked (now win) ⌝ }
     requires { ⌜ (dir < 8) × (damping .0 ≤ 31) × (8 ≤ depth) × (depth ≤ 12) ⌝ }
-    ensures { λ _. ⌜ now (out .exit) ≡ putBlock (now (out .entry)) 64 (trialTap (now (win .entry)) (twelveOf way dir damping depth) (b .width)) 0 0
-        (b .height * b .width) 12 ⌝ }
+    ensures { λ _. ⌜ ((p : Plane) → now (win .entry) ≡ upto (windowAt p b) 144
+        → now (out .exit) ≡ table 768 (trialPlace p b way dir damping depth (now (out .entry)))) ⌝ }
 {
     let u = trial_strengths::strengths(way, dir, damping, depth);
-    crate::candidates(out, b.width, b.height, win, u);
+    if damping.0 <= 12 {
+        if crate::packs(b.width, b.height) {
+            crate::by_strips(out, b.width, b.height, win, dir as usize, u);
+            return;
+        }
+    }
+    trial_any::trials(out, b.width, b.height, win, u);
 }
 
 // Twelve trial blocks of 64 entries of a block of the plane src, w by h.
@@ -46,7 +50,7 @@ pub fn cdef_block_candidates(
     damping: WorkingDamping,
     depth: u8,
 )
-    requires { ⌜ InPlane (now src) w h b × Held (upto (windowAt (planeOf (now src) w h) b) 144) × (length (now out) ≡ 768) ⌝ }
+    requires { ⌜ InPlane (now src) w h b × Marked (upto (windowAt (planeOf (now src) w h) b) 144) × (length (now out) ≡ 768) ⌝ }
     requires { ⌜ (dir < 8) × (damping .0 ≤ 31) × (8 ≤ depth) × (depth ≤ 12) ⌝ }
     ensures { λ _. ⌜ now (out .exit) ≡ table 768 (trialPlace (planeOf (now (src .entry)) w h) b way dir damping depth (now (out .entry))) ⌝ }
 {

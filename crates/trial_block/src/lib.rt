@@ -1,42 +1,73 @@
-// The trial of a block: twelve pairs of strengths, from shared sums.
+// The trial of a block: twelve trial blocks from its window, in strips where its samples fill runs of sixteen.
 pub mod block; // block.rt: the trial of a block of a plane
 
 ghost use mathlib.Core.Path.{_≡_};
-ghost use Prim.Native.Nat.{_*_, _≤_};
+ghost use mathlib.Core.Bool.{true};
+ghost use Prim.Native.Nat.{ℕ, _+_, _*_, _≤_, _<_};
 ghost use lib.ListN.{length};
 ghost use Rattle.cdef_spec.specs.LoopForm.{putBlock};
-ghost use Rattle.arith_sample.specs.Bounds.{Held};
-ghost use Rattle.trial_block.specs.Trial.{trialTap, firstLaid};
-ghost use Rattle.trial_strengths.specs.Strengths.{Ready};
-ghost use Rattle.trial_four.specs.Four.{PriWithin};
-ghost use Rattle.trial_put.specs.Put.{HeldTo};
+ghost use Rattle.arith_sample.specs.Bounds.{Held, Marked};
+ghost use Rattle.plane_taps.specs.Reach.{Around};
+ghost use Rattle.trial_sums.specs.Raw.{secRaw};
+ghost use Rattle.trial_sixteen.specs.Sixteen.{rawTap, Strong};
+ghost use Rattle.trial_marks.specs.Trial.{trialTap, Tame};
+ghost use Rattle.trial_block.specs.Packed.{Packed};
+use filter_rows::Taps;
 use trial_strengths::Twelve;
-use trial_sums::PriSums;
 
-// The four trials without a secondary strength: the samples unfiltered, then by each of the three primary sums.
-fn first_four(out: &mut [u16], w: usize, h: usize, c: &[u16; 64], p: PriSums)
-    requires { ⌜ (length (now out) ≡ 768) × (w ≤ 8) × (h ≤ 8) × HeldTo (now c) (h * 8) × PriWithin p (h * 8) ⌝ }
-    ensures { λ _. ⌜ now (out .exit) ≡ firstLaid (now (out .entry)) (now (c .entry)) p w (h * w) ⌝ }
+// Whether a block's samples fill runs of sixteen, in rows of four or of eight.
+fn packs(w: usize, h: usize) -> bool
+    requires { ⌜ (w ≤ 8) × (h ≤ 8) ⌝ }
+    ensures { λ r. ⌜ (r ≡ true → Packed w h) ⌝ }
 {
-    trial_put::put_trial(out, 0, w, h, c);
-    trial_put::put_free(out, 1, w, h, c, &p.p1);
-    trial_put::put_free(out, 2, w, h, c, &p.p2);
-    trial_put::put_free(out, 3, w, h, c, &p.p3);
+    if w % 4 != 0 {
+        return false;
+    }
+    if w == 0 {
+        return false;
+    }
+    w * h % 16 == 0
 }
 
-// All twelve trial blocks of a block w by h, from its window.
-pub fn candidates(out: &mut [u16], w: usize, h: usize, win: &[u16; 144], u: Twelve)
-    requires { ⌜ (length (now out) ≡ 768) × (w ≤ 8) × (h ≤ 8) × Held (now win) × Ready u ⌝ }
+// The first n runs of sixteen entries of the twelve trial blocks.
+fn runs(
+    out: &mut [u16],
+    l: &[u16],
+    from: usize,
+    n: usize,
+    own: Taps,
+    zero: Taps,
+    same: bool,
+    u: Twelve,
+)
+    requires { ⌜ (length (now out) ≡ 768) × (n ≤ 4) × Held (now l) × Strong u ⌝ }
+    requires { ⌜ ((i : ℕ) → i < n → Around (length (now l)) (from + i * 16) 16 own × Around (length (now l)) (from + i * 16) 16 zero) ⌝ }
+    requires { ⌜ (same ≡ true → (i s sh : ℕ) → secRaw (now l) i own s sh ≡ secRaw (now l) i zero s sh) ⌝ }
+    ensures { λ _. ⌜ now (out .exit) ≡ putBlock (now (out .entry)) 64 (rawTap (now (l .entry)) from own zero u) 0 0 (n * 16) 12 ⌝ }
+{
+    for i in 0..n {
+        trial_sixteen::sixteen(out, l, from, i * 16, own, zero, same, u);
+    }
+}
+
+// All twelve trial blocks of a block w by h, from its window. Marks count as the values that they are, which changes nothing with these strengths.
+fn by_strips(out: &mut [u16], w: usize, h: usize, win: &[u16; 144], dir: usize, u: Twelve)
+    requires { ⌜ (length (now out) ≡ 768) × Packed w h × Marked (now win) × (dir < 8) × Strong u × Tame u dir ⌝ }
     ensures { λ _. ⌜ now (out .exit) ≡ putBlock (now (out .entry)) 64 (trialTap (now (win .entry)) u w) 0 0 (h * w) 12 ⌝ }
 {
-    let c = trial_sums::centre_block(win, h);
-    let p = trial_sums::pri_blocks(win, h, u.own, u.p1, u.p2, u.p3);
-    first_four(out, w, h, &c, p);
-    let e = trial_sums::limit_blocks(win, h, u.own);
-    let lo = e.lo;
-    let hi = e.hi;
-    let z = trial_sums::sec_blocks(win, h, u.zero, u.s1, u.s2);
-    let s = trial_sums::sec_blocks(win, h, u.own, u.s1, u.s2);
-    trial_four::four(out, 4, w, h, &c, &z.s1, &s.s1, p, &lo, &hi);
-    trial_four::four(out, 8, w, h, &c, &z.s2, &s.s2, p, &lo, &hi);
+    let n = h + 4;
+    let l = trial_strips::strips(win, w, n);
+    let p = n * w;
+    let own = plane_taps::steps::taps(dir, w, p);
+    let zero = plane_taps::steps::taps(0, w, p);
+    runs(
+        out,
+        &l,
+        2 * p + 2 * w,
+        w * h / 16,
+        own,
+        zero,
+        dir % 4 == 0,
+        u,
+    );
 }

@@ -71,11 +71,12 @@ module _ (win : List ℕ) (w n : ℕ) where
   pub fill-same : (s : List ℕ) (r q : ℕ) → r ≡ q → Filled win w n r 0 s → Filled win w n q 0 s
   fill-same s r q e f = rw e at f
 
-  pub fill-all : (s : List ℕ) (r : ℕ) → r ≡ 5 * n → Filled win w n r 0 s → Strips win w n s
-  fill-all s r e f =
+  pub fill-all : (s : List ℕ) (r : ℕ) → r ≡ 5 * n → length s ≡ 480 → Filled win w n r 0 s → Strips win w n s
+  fill-all s r e l f =
       record {
         at = λ x i j hx hi hj. f .at x i j hi hj (rw e (inside x i j hx hi hj));
         rest = λ k h. f .rest k (rw e (omega arith));
+        long = l;
       }
     where
       inside : (x i j : ℕ) → x < 5 → i < n → j < w → (x * n + i) * w + j < 5 * n * w + 0
@@ -83,3 +84,7 @@ module _ (win : List ℕ) (w n : ℕ) where
           let a : x ≤ 4 = omega arith in
           let b : x * n + i + 1 ≤ 5 * n = omega (arith, mul-le-mul-right n a) in
           omega (arith, mul-le-mul-right w b)
+
+-- the same width, written otherwise
+pub width-is : (win : List ℕ) (w v n : ℕ) (s : List ℕ) → w ≡ v → Strips win w n s → Strips win v n s
+width-is win w v n s e f = rw e at f

@@ -1,4 +1,3 @@
 -- The window of a block as strips, and their laws.
 pub mod Strips
 pub mod FillLaws
-pub mod StripLaws

@@ -1,9 +1,11 @@
 // The window of a block as five strips: each tap of the block's samples, in order, is one run of entries.
+ghost use mathlib.Core.Logic.{_⊎_};
+ghost use mathlib.Core.Path.{_≡_};
 ghost use Prim.Native.Nat.{_≤_};
 ghost use Rattle.trial_strips.specs.Strips.{Strips};
 
 // Strip x has the window's columns from x on, n rows of eight entries one after the other; then strip x + 1.
-pub fn strips_eight(win: &[u16; 144], n: usize) -> [u16; 480]
+fn strips_eight(win: &[u16; 144], n: usize) -> [u16; 480]
     requires { ⌜ n ≤ 12 ⌝ }
     ensures { λ r. ⌜ Strips (now (win .entry)) 8 n r ⌝ }
 {
@@ -21,7 +23,7 @@ pub fn strips_eight(win: &[u16; 144], n: usize) -> [u16; 480]
 }
 
 // The same with rows of four.
-pub fn strips_four(win: &[u16; 144], n: usize) -> [u16; 480]
+fn strips_four(win: &[u16; 144], n: usize) -> [u16; 480]
     requires { ⌜ n ≤ 12 ⌝ }
     ensures { λ r. ⌜ Strips (now (win .entry)) 4 n r ⌝ }
 {
@@ -36,4 +38,15 @@ pub fn strips_four(win: &[u16; 144], n: usize) -> [u16; 480]
         }
     }
     out
+}
+
+// The strips of a block that is four or eight wide: n rows of w entries each.
+pub fn strips(win: &[u16; 144], w: usize, n: usize) -> [u16; 480]
+    requires { ⌜ ((w ≡ 4) ⊎ (w ≡ 8)) × (n ≤ 12) ⌝ }
+    ensures { λ r. ⌜ Strips (now (win .entry)) w n r ⌝ }
+{
+    if w == 8 {
+        return strips_eight(win, n);
+    }
+    strips_four(win, n)
 }

@@ -10,7 +10,7 @@ use Rattle.filter_kernel.proofs.taps.Lts as lts
 use Rattle.plane_taps.proofs.steps.taps.Reads as taps-reads
 
 taps-requires : tie.Need-taps-requires
-taps-requires c κs = (c .pre, omega arith)
+taps-requires c κs = (c .pre, omega arith, omega arith)
 
 returns : tie.Need-returns
 returns c = c .taps .ensures ∙ taps-window (c .before .args .dir)

@@ -102,7 +102,7 @@ loop-again : tie.Need-loop-again Inv-loop3 μ-loop3 Inv-loop2 μ-loop2 Inv-loop 
 loop-again c = let p = c .before in (fill-same _ 8 _ _ _ _ (stripped _ _ _ (omega arith)) (p .loop2 .inv .0), p .loop2 .inv .1, omega arith)
 
 returns : tie.Need-returns Inv-loop3 μ-loop3 Inv-loop2 μ-loop2 Inv-loop μ-loop
-returns c = let p = c .before in fill-all _ 8 _ _ _ (stripped-all _ _ (omega arith)) (p .loop .inv .0)
+returns c = let p = c .before in fill-all _ 8 _ _ _ (stripped-all _ _ (omega arith)) (p .loop .inv .1) (p .loop .inv .0)
 
 pub strips-eight-spec : {M : Type 1} → statement M
 strips-eight-spec =

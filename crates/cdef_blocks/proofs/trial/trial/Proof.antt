@@ -5,10 +5,9 @@ use mathlib.Core.List.{[], _∷_}
 use Rattle.cdef_spec.specs.Answers.{readAnswer}
 use Rattle.cdef_spec.specs.Document01.{Plane}
 use Rattle.cdef_spec.specs.Questions.{ask, firstNo, widenedTaken}
-use Rattle.trial_block.specs.TableLaws.{trial-table}
 use Rattle.check_block.specs.TrialParts.{trialFirst}
 use Rattle.check_block.specs.TrialPartLaws.{TrialFacts, trial-facts, trial-refused, trial-samples, trial-done}
-use Rattle.check_block.specs.WindowLaws.{in-plane, window-asked, widened-so, held-so}
+use Rattle.check_block.specs.WindowLaws.{in-plane, window-asked, widened-so, marked-so}
 use Rattle.cdef_answer.specs.JoinLaws.{trial-joined}
 use borrow.Author.Needs.{needs}
 use Rattle.cdef_blocks.proofs.trial.trial.Statement.{statement}
@@ -58,15 +57,15 @@ unfolding readAnswer
 returns-2 c = let s = c .before .before .before .before .before .before .before .before .before in trial-joined _ _ _ (trial-samples (planeOf s) (s .args .block) (s .args .way) (s .args .dir) (s .args .damping) (s .args .depth) (s .args .out .now) (zero-so (c .before .before .before .before)) _ (nine-is (c .before)) (c .if2 .taken))
 
 trial-window-requires : tie.Need-trial-window-requires
-trial-window-requires c κs = let s = c .before .before .before .before .before .before .before .before .before .before .before in let f = facts (c .before .before .before .before .before .before) in ((f .long, f .block .bw, f .block .bh, rw (c .before .before .before .before .before .window .ensures) (held-so (planeOf s) (s .args .block) (s .args .depth) (f .plane) (f .block) (taken-so (c .before .before)))), (f .dir-low, f .damping-low, f .plane .deep, f .plane .flat))
+trial-window-requires c κs = let s = c .before .before .before .before .before .before .before .before .before .before .before in let f = facts (c .before .before .before .before .before .before) in ((f .long, f .block .bw, f .block .bh, rw (c .before .before .before .before .before .window .ensures) (marked-so (planeOf s) (s .args .block) (s .args .depth) (f .plane) (f .block) (taken-so (c .before .before)))), (f .dir-low, f .damping-low, f .plane .deep, f .plane .flat))
 
 same-length-3 : tie.Need-same-length-3
 same-length-3 c = search needs
 
 returns-3 : tie.Need-returns-3
 unfolding readAnswer
-returns-3 c = let s = c .before .before .before .before .before .before .before .before .before .before .before .before .before .before in let f = facts (c .before .before .before .before .before .before .before .before .before) in let t = taken-so (c .before .before .before .before .before) in
-    trial-joined _ _ _ (trial-done (planeOf s) (s .args .block) (s .args .way) (s .args .dir) (s .args .damping) (s .args .depth) (s .args .out .now) (zero-so (c .before .before .before .before .before .before .before .before .before)) t _ (c .before .before .trial-window .ensures ∙ rw (c .before .before .before .before .before .before .before .before .window .ensures) (trial-table (planeOf s) (s .args .block) (s .args .way) (s .args .dir) (s .args .damping) (s .args .depth) (s .args .out .now) (f .block .bw) (f .block .bh) (f .dir-low) (held-so (planeOf s) (s .args .block) (s .args .depth) (f .plane) (f .block) t) (f .long))))
+returns-3 c = let s = c .before .before .before .before .before .before .before .before .before .before .before .before .before .before in let t = taken-so (c .before .before .before .before .before) in
+    trial-joined _ _ _ (trial-done (planeOf s) (s .args .block) (s .args .way) (s .args .dir) (s .args .damping) (s .args .depth) (s .args .out .now) (zero-so (c .before .before .before .before .before .before .before .before .before)) t _ (c .before .before .trial-window .ensures (planeOf s) (c .before .before .before .before .before .before .before .before .window .ensures)))
 
 pub trial-spec : {M : Type 1} → statement M
 trial-spec =

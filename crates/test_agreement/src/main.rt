@@ -66,8 +66,7 @@ fn outcome(a: Agreement) {
 
 // call: 0 where a pair is none of the twelve, 1 trying, 2 applying, 3 measuring.
 fn refusal(call: u64, n: u8) {
-    print::text(b"different: call ");
-    print::number(call);
+    print::labelled(b"different: call ", call);
     print::text(b", ");
     print::refused(n);
 }

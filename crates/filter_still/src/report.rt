@@ -12,31 +12,14 @@ use still_steps::totals;
 
 fn heading(h: Header, n: Counts, pair: UnitPair) {
     print::number(h.width as u64);
-    print::text(b" by ");
-    print::number(h.height as u64);
-    print::text(b", padded to ");
-    print::number(n.width as u64);
-    print::text(b" by ");
-    print::number(n.height as u64);
-    print::text(b", depth ");
-    print::number(sizes::depth_of(h.maximum) as u64);
-    print::text(b", units ");
-    print::number(n.units as u64);
-    print::text(b", pair ");
-    print::number(pair.primary as u64);
+    print::labelled(b" by ", h.height as u64);
+    print::labelled(b", padded to ", n.width as u64);
+    print::labelled(b" by ", n.height as u64);
+    print::labelled(b", depth ", sizes::depth_of(h.maximum) as u64);
+    print::labelled(b", units ", n.units as u64);
     print::text(b", ");
-    print::number(pair.secondary as u64);
+    print::pair(pair.primary, pair.secondary);
     print::text(b"\n");
-}
-
-// A unit's twelve tried totals.
-fn totals(u: usize, tried: &[i64])
-    requires { ⌜ (u < 4096) × (12 * u + 12 ≤ length (now tried)) ⌝ }
-{
-    for t in 0..12 {
-        print::text(b" ");
-        print::whole(tried[12 * u + t]);
-    }
 }
 
 // Ends a unit's line; trial 12: the pair is none of the twelve.
@@ -47,20 +30,14 @@ fn compared(u: usize, trial: usize, tried: &[i64], measured: i64)
         print::text(b", the pair is none of the twelve\n");
         return;
     }
-    if tried[12 * u + trial] == measured {
-        print::text(b", the same as tried\n");
-        return;
-    }
-    print::text(b", different\n");
+    print::same(tried[12 * u + trial], measured);
 }
 
 fn unit(u: usize, trial: usize, tried: &[i64], measured: i64)
     requires { ⌜ (u < 4096) × (12 * u + 12 ≤ length (now tried)) ⌝ }
 {
-    print::text(b"unit ");
-    print::number(u as u64);
-    print::text(b": tried");
-    totals(u, tried);
+    print::labelled(b"unit ", u as u64);
+    print::totals(u, tried);
     print::text(b"; measured ");
     print::whole(measured);
     compared(u, trial, tried, measured);
@@ -81,12 +58,16 @@ fn outcome(trial: usize, tried: &[i64], measured: &[i64])
         print::text(b"nothing compared\n");
         return;
     }
-    let count = totals::differing(tried, measured, trial);
-    if count == 0 {
+    agreed(totals::differing(tried, measured, trial));
+}
+
+// Whether all agree, or how many units do not.
+fn agreed(differing: usize) {
+    if differing == 0 {
         print::text(b"all agree\n");
         return;
     }
-    print::number(count as u64);
+    print::number(differing as u64);
     print::text(b" differ\n");
 }
 

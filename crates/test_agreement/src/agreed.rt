@@ -11,6 +11,19 @@ use cdef_spec::Visible;
 use testlib_pictures::lists;
 use testlib_pictures::picture;
 
+// What the three calls return, and the totals that they leave.
+pub struct Outcome {
+    pub answer: Agreement,
+    pub tried: [i64; 72],
+    pub measured: [i64; 6],
+}
+
+// The directions and variances of the blocks of luma.
+pub struct Found {
+    pub dirs: [u8; 153],
+    pub vars: [u32; 153],
+}
+
 pub fn visible() -> Visible {
     Visible {
         width: 70,
@@ -31,58 +44,17 @@ pub fn stated(number: u32) -> DampingChoice {
 }
 
 // as_pairs: the pairs are passed as one slice of structs, and not as two lists.
-pub fn picture(
-    as_pairs: bool,
-    number: u32,
-    damping: DampingChoice,
-    tried: &mut [i64],
-    measured: &mut [i64],
-) -> Agreement {
-    let mut snapshot = [0u16; 9792];
-    let mut original = [0u16; 9792];
-    let n = testlib_pictures::part(number, &snapshot);
-    let m = testlib_pictures::part(number, &original);
-    made(
-        as_pairs,
-        number,
-        damping,
-        tried,
-        measured,
-        &mut snapshot[..n],
-        &mut original[..m],
-    )
-}
-
-fn made(
-    as_pairs: bool,
-    number: u32,
-    damping: DampingChoice,
-    tried: &mut [i64],
-    measured: &mut [i64],
-    snapshot: &mut [u16],
-    original: &mut [u16],
-) -> Agreement {
-    planes(number, snapshot, original);
+pub fn picture(as_pairs: bool, number: u32, damping: DampingChoice) -> Outcome {
     if testlib_pictures::is_luma(number) {
-        return luma::luma(
-            as_pairs,
-            number,
-            damping,
-            tried,
-            measured,
-            snapshot,
-            original,
-        );
+        if as_pairs {
+            return luma::by_slice(number, damping);
+        }
+        return luma::by_lists(number, damping);
     }
-    chroma::chroma(
-        as_pairs,
-        number,
-        damping,
-        tried,
-        measured,
-        snapshot,
-        original,
-    )
+    if as_pairs {
+        return chroma::by_slice(number, damping);
+    }
+    chroma::by_lists(number, damping)
 }
 
 // The seed of a picture's grain, which is not that of luma in chroma.
@@ -95,21 +67,36 @@ fn seed(number: u32) -> u32
     testlib_pictures::grain(number) + 200
 }
 
-// The samples of a picture and of its original.
-fn planes(number: u32, snapshot: &mut [u16], original: &mut [u16]) {
-    let width = testlib_pictures::width(number);
-    let depth = testlib_pictures::depth(number);
-    picture::fill(snapshot, width, depth, seed(number));
-    picture::fill(original, width, depth, seed(number) + 100);
+// The samples of a picture, and behind them more of the same rows.
+pub fn snapshot(number: u32) -> [u16; 9792] {
+    plane(number, testlib_pictures::width(number), seed(number))
 }
 
-// The directions and variances of luma, or each of the eight directions in turn.
-pub fn directions(number: u32, luma: &[u16], dirs: &mut [u8], vars: &mut [u32]) {
+// The samples of its original.
+pub fn original(number: u32) -> [u16; 9792] {
+    plane(number, testlib_pictures::width(number), seed(number) + 100)
+}
+
+fn plane(number: u32, width: usize, seed: u32) -> [u16; 9792]
+    requires { ⌜ (0 < width) × (seed ≤ 306) ⌝ }
+{
+    let mut samples = [0u16; 9792];
+    picture::fill(&mut samples, width, testlib_pictures::depth(number), seed);
+    samples
+}
+
+// The directions and variances of the luma picture with the same grain, or each of the eight directions in turn.
+pub fn blocks(number: u32) -> Found {
+    let mut dirs = [0u8; 153];
+    let mut vars = [400000u32; 153];
     if 5 < number {
-        lists::fill(dirs, lists::DIRECTIONS, number);
-        return;
+        lists::fill(&mut dirs, lists::DIRECTIONS, number);
+    } else {
+        let luma = plane(number, 72, testlib_pictures::grain(number));
+        let depth = testlib_pictures::depth(number);
+        cdef::pass::direction_pass(&mut dirs, &mut vars, &luma, 72, 136, depth);
     }
-    cdef::pass::direction_pass(dirs, vars, luma, 72, 136, testlib_pictures::depth(number));
+    Found { dirs, vars }
 }
 
 pub fn skips() -> [u8; 153] {

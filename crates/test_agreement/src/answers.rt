@@ -41,12 +41,8 @@ fn applied(n: usize, primary: u8, secondary: u8)
 }
 
 fn line(n: usize, pair: UnitPair, answer: Answer) {
-    print::text(b"pair ");
-    print::number(pair.primary as u64);
-    print::text(b", ");
-    print::number(pair.secondary as u64);
-    print::text(b", times ");
-    print::number(n as u64);
+    print::pair(pair.primary, pair.secondary);
+    print::labelled(b", times ", n as u64);
     print::text(b": ");
     match answer {
         Answer::Done => print::text(b"done\n"),

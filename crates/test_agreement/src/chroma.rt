@@ -1,132 +1,91 @@
 // A chroma picture, with the pairs as one slice of structs or as two lists.
+ghost use Rattle.io.specs.Counts.{Counts};
 use crate::agreed;
-use agree_lists::Agreement;
+use agreed::Outcome;
 use cdef_spec::DampingChoice;
 use testlib_pictures::lists;
-use testlib_pictures::picture;
 
-// The directions of the luma picture with the same grain, or each of the eight in turn.
-fn luma_directions(number: u32) -> [u8; 153] {
-    let mut luma = [0u16; 9792];
-    let mut dirs = [0u8; 153];
-    picture::fill(
-        &mut luma,
-        72,
-        testlib_pictures::depth(number),
-        testlib_pictures::grain(number),
-    );
-    agreed::directions(number, &luma, &mut dirs, &mut [0u32; 153]);
-    dirs
+// How many samples of a plane, and of the scratch, a picture has: what borrowing these needs.
+fn samples(number: u32, dst: [u16; 9792], snapshot: [u16; 9792], original: [u16; 9792]) -> usize
+    ensures { λ r. ⌜ Counts r dst × Counts r snapshot × Counts r original ⌝ }
+{
+    testlib_pictures::part(number, 9792)
 }
 
-pub fn chroma(
-    as_pairs: bool,
-    number: u32,
-    damping: DampingChoice,
-    tried: &mut [i64],
-    measured: &mut [i64],
-    snapshot: &[u16],
-    original: &[u16],
-) -> Agreement {
-    let dirs = luma_directions(number);
+fn rows(number: u32, scratch: [u16; 576]) -> usize
+    ensures { λ r. ⌜ Counts r scratch ⌝ }
+{
+    testlib_pictures::part(number, 576)
+}
+
+pub fn by_slice(number: u32, damping: DampingChoice) -> Outcome {
+    let mut tried = [0i64; 72];
     let mut dst = [0u16; 9792];
-    let n = testlib_pictures::part(number, &dst);
+    let mut measured = [0i64; 6];
     let mut scratch = [0u16; 576];
-    let m = testlib_pictures::part(number, &scratch);
-    if as_pairs {
-        return chroma_slice(
-            number,
-            damping,
-            tried,
-            &mut dst[..n],
-            measured,
-            &mut scratch[..m],
-            snapshot,
-            original,
-            &dirs,
-        );
-    }
-    chroma_lists(
-        number,
-        damping,
-        tried,
+    let snapshot = agreed::snapshot(number);
+    let original = agreed::original(number);
+    let blocks = agreed::blocks(number);
+    let n = samples(number, dst, snapshot, original);
+    let m = rows(number, scratch);
+    let answer = testlib_lend::agree_chroma(
+        &mut tried,
         &mut dst[..n],
-        measured,
+        &mut measured,
         &mut scratch[..m],
-        snapshot,
-        original,
-        &dirs,
-    )
-}
-
-fn chroma_slice(
-    number: u32,
-    damping: DampingChoice,
-    tried: &mut [i64],
-    dst: &mut [u16],
-    measured: &mut [i64],
-    scratch: &mut [u16],
-    snapshot: &[u16],
-    original: &[u16],
-    dirs: &[u8],
-) -> Agreement {
-    let depth = testlib_pictures::depth(number);
-    let sx = testlib_pictures::sx(number);
-    let sy = testlib_pictures::sy(number);
-    testlib_lend::agree_chroma(
-        tried,
-        dst,
-        measured,
-        scratch,
-        snapshot,
-        original,
+        &snapshot[..n],
+        &original[..n],
         72,
         136,
-        sx,
-        sy,
+        testlib_pictures::sx(number),
+        testlib_pictures::sy(number),
         agreed::visible(),
-        depth,
+        testlib_pictures::depth(number),
         &agreed::skips(),
-        dirs,
+        &blocks.dirs,
         6,
         agreed::pairs(number),
         damping,
-    )
+    );
+    Outcome {
+        answer,
+        tried,
+        measured,
+    }
 }
 
-fn chroma_lists(
-    number: u32,
-    damping: DampingChoice,
-    tried: &mut [i64],
-    dst: &mut [u16],
-    measured: &mut [i64],
-    scratch: &mut [u16],
-    snapshot: &[u16],
-    original: &[u16],
-    dirs: &[u8],
-) -> Agreement {
-    let depth = testlib_pictures::depth(number);
-    let sx = testlib_pictures::sx(number);
-    let sy = testlib_pictures::sy(number);
-    let pris = agreed::strengths(lists::PRIMARIES, number);
-    let secs = agreed::strengths(lists::SECONDARIES, number);
-    agree_lists::chroma::agree_chroma(
-        tried,
-        dst,
-        measured,
-        scratch,
-        snapshot,
-        original,
+pub fn by_lists(number: u32, damping: DampingChoice) -> Outcome {
+    let mut tried = [0i64; 72];
+    let mut dst = [0u16; 9792];
+    let mut measured = [0i64; 6];
+    let mut scratch = [0u16; 576];
+    let snapshot = agreed::snapshot(number);
+    let original = agreed::original(number);
+    let blocks = agreed::blocks(number);
+    let n = samples(number, dst, snapshot, original);
+    let m = rows(number, scratch);
+    let answer = agree_lists::chroma::agree_chroma(
+        &mut tried,
+        &mut dst[..n],
+        &mut measured,
+        &mut scratch[..m],
+        &snapshot[..n],
+        &original[..n],
         72,
         136,
-        sx,
-        sy,
+        testlib_pictures::sx(number),
+        testlib_pictures::sy(number),
         agreed::visible(),
-        depth,
+        testlib_pictures::depth(number),
         &agreed::skips(),
-        dirs,
-        &pris,
-        &secs,
+        &blocks.dirs,
+        &agreed::strengths(lists::PRIMARIES, number),
+        &agreed::strengths(lists::SECONDARIES, number),
         damping,
-    )
+    );
+    Outcome {
+        answer,
+        tried,
+        measured,
+    }
 }

@@ -1,105 +1,67 @@
 // A luma picture, with the pairs as one slice of structs or as two lists.
 use crate::agreed;
-use agree_lists::Agreement;
+use agreed::Outcome;
 use cdef_spec::DampingChoice;
 use testlib_pictures::lists;
 
-pub fn luma(
-    as_pairs: bool,
-    number: u32,
-    damping: DampingChoice,
-    tried: &mut [i64],
-    measured: &mut [i64],
-    snapshot: &[u16],
-    original: &[u16],
-) -> Agreement {
-    let mut dirs = [0u8; 153];
-    let mut vars = [400000u32; 153];
-    agreed::directions(number, snapshot, &mut dirs, &mut vars);
-    if as_pairs {
-        return luma_slice(
-            number,
-            damping,
-            tried,
-            measured,
-            snapshot,
-            original,
-            &dirs,
-            &vars,
-        );
-    }
-    luma_lists(
-        number,
-        damping,
-        tried,
-        measured,
-        snapshot,
-        original,
-        &dirs,
-        &vars,
-    )
-}
-
-fn luma_slice(
-    number: u32,
-    damping: DampingChoice,
-    tried: &mut [i64],
-    measured: &mut [i64],
-    snapshot: &[u16],
-    original: &[u16],
-    dirs: &[u8],
-    vars: &[u32],
-) -> Agreement {
-    let depth = testlib_pictures::depth(number);
-    testlib_lend::agree_luma(
-        tried,
+pub fn by_slice(number: u32, damping: DampingChoice) -> Outcome {
+    let mut tried = [0i64; 72];
+    let mut measured = [0i64; 6];
+    let found = agreed::blocks(number);
+    let dirs = found.dirs;
+    let vars = found.vars;
+    let answer = testlib_lend::agree_luma(
+        &mut tried,
         &mut [0u16; 9792],
-        measured,
+        &mut measured,
         &mut [0u16; 576],
-        snapshot,
-        original,
+        &agreed::snapshot(number),
+        &agreed::original(number),
         72,
         136,
         agreed::visible(),
-        depth,
+        testlib_pictures::depth(number),
         &agreed::skips(),
-        dirs,
-        vars,
+        &dirs,
+        &vars,
         6,
         agreed::pairs(number),
         damping,
-    )
+    );
+    Outcome {
+        answer,
+        tried,
+        measured,
+    }
 }
 
-fn luma_lists(
-    number: u32,
-    damping: DampingChoice,
-    tried: &mut [i64],
-    measured: &mut [i64],
-    snapshot: &[u16],
-    original: &[u16],
-    dirs: &[u8],
-    vars: &[u32],
-) -> Agreement {
-    let depth = testlib_pictures::depth(number);
-    let pris = agreed::strengths(lists::PRIMARIES, number);
-    let secs = agreed::strengths(lists::SECONDARIES, number);
-    agree_lists::luma::agree_luma(
-        tried,
+pub fn by_lists(number: u32, damping: DampingChoice) -> Outcome {
+    let mut tried = [0i64; 72];
+    let mut measured = [0i64; 6];
+    let found = agreed::blocks(number);
+    let dirs = found.dirs;
+    let vars = found.vars;
+    let answer = agree_lists::luma::agree_luma(
+        &mut tried,
         &mut [0u16; 9792],
-        measured,
+        &mut measured,
         &mut [0u16; 576],
-        snapshot,
-        original,
+        &agreed::snapshot(number),
+        &agreed::original(number),
         72,
         136,
         agreed::visible(),
-        depth,
+        testlib_pictures::depth(number),
         &agreed::skips(),
-        dirs,
-        vars,
-        &pris,
-        &secs,
+        &dirs,
+        &vars,
+        &agreed::strengths(lists::PRIMARIES, number),
+        &agreed::strengths(lists::SECONDARIES, number),
         damping,
-    )
+    );
+    Outcome {
+        answer,
+        tried,
+        measured,
+    }
 }

@@ -27,38 +27,31 @@ fn main() {
 // Pictures 0 to 6.
 fn pictures(as_pairs: bool) {
     for picture in 0..7u32 {
-        let mut tried = [0i64; 72];
-        let mut measured = [0i64; 6];
-        let a = agreed::picture(
-            as_pairs,
-            picture,
-            agreed::stated(picture),
-            &mut tried,
-            &mut measured,
-        );
-        report::heading(picture);
-        report::units(picture, &tried, &measured);
-        outcome(a);
+        let found = agreed::picture(as_pairs, picture, agreed::stated(picture));
+        let tried = found.tried;
+        let measured = found.measured;
+        let answer = found.answer;
+        totals(picture, tried, measured);
+        outcome(answer);
     }
 }
 
 // The totals tried with no damping stated, and those measured after applying with damping 3.
 fn unstated(picture: u32) {
-    let mut tried = [0i64; 72];
-    let mut measured = [0i64; 6];
-    let three = DampingChoice::Given(SignalledDamping(3));
-    let applied = agreed::picture(false, picture, three, &mut [0i64; 72], &mut measured);
-    let found = agreed::picture(
-        false,
-        picture,
-        DampingChoice::Unstated,
-        &mut tried,
-        &mut [0i64; 6],
-    );
+    let applied = agreed::picture(false, picture, DampingChoice::Given(SignalledDamping(3)));
+    let found = agreed::picture(false, picture, DampingChoice::Unstated);
+    let tried = found.tried;
+    let measured = applied.measured;
+    totals(picture, tried, measured);
+    let first = applied.answer;
+    let second = found.answer;
+    outcome(first);
+    outcome(second);
+}
+
+fn totals(picture: u32, tried: [i64; 72], measured: [i64; 6]) {
     report::heading(picture);
     report::units(picture, &tried, &measured);
-    outcome(applied);
-    outcome(found);
 }
 
 fn outcome(a: Agreement) {
@@ -73,8 +66,7 @@ fn outcome(a: Agreement) {
 
 // call: 0 where a pair is none of the twelve, 1 trying, 2 applying, 3 measuring.
 fn refusal(call: u64, n: u8) {
-    print::text(b"different: call ");
-    print::number(call);
+    print::labelled(b"different: call ", call);
     print::text(b", ");
     print::refused(n);
 }

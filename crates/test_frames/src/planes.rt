@@ -28,8 +28,7 @@ fn number(file: &[u8], k: usize)
 }
 
 fn said(n: usize) {
-    print::text(b" ");
-    print::number(n as u64);
+    print::labelled(b" ", n as u64);
 }
 
 fn all_planes(file: &[u8]) {

@@ -5,9 +5,6 @@ pub mod picture; // picture.rt: samples
 pub mod report; // report.rt: what is printed
 
 ghost use Prim.Native.Nat.{_≤_, _<_};
-ghost use mathlib.Core.Path.{_≡_};
-ghost use lib.ListN.{length};
-ghost use Rattle.io.specs.Counts.{Counts};
 
 pub fn is_luma(picture: u32) -> bool {
     picture < 2 || picture == 7
@@ -38,17 +35,17 @@ pub fn width(picture: u32) -> usize
     36
 }
 
-// How much of a list of luma's length a picture has.
-pub fn part(picture: u32, list: &[u16]) -> usize
-    ensures { λ r. ⌜ Counts r (now (list .entry)) ⌝ }
+// How many entries a picture has where a luma picture has them all.
+pub fn part(picture: u32, all: usize) -> usize
+    ensures { λ r. ⌜ r ≤ all ⌝ }
 {
     if sx(picture) == 0 && sy(picture) == 0 {
-        return list.len();
+        return all;
     }
     if picture == 2 {
-        return list.len() / 4;
+        return all / 4;
     }
-    list.len() / 2
+    all / 2
 }
 
 pub fn depth(picture: u32) -> u8 {

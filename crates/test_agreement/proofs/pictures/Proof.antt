@@ -9,8 +9,7 @@ use Rattle.test_agreement.proofs.pictures.Lts as lts
 use Rattle.test_agreement.proofs.agreed.picture.Reads as picture-reads
 use Rattle.test_agreement.proofs.agreed.stated.Reads as stated-reads
 use Rattle.test_agreement.proofs.outcome.Reads as outcome-reads
-use Rattle.testlib_pictures.proofs.report.heading.Reads as heading-reads
-use Rattle.testlib_pictures.proofs.report.units.Reads as units-reads
+use Rattle.test_agreement.proofs.totals.Reads as totals-reads
 
 abbrev Inv-loop : tie.InvT-loop
 Inv-loop as-pairs picture₀ picture = picture ≤ 7
@@ -24,20 +23,11 @@ loop-holds c = omega arith
 stated-requires : tie.Need-stated-requires Inv-loop μ-loop
 stated-requires c κs = search needs
 
-slice-aggregate-picture : tie.Need-slice-aggregate-picture Inv-loop μ-loop
-slice-aggregate-picture c = omega arith
-
-slice-aggregate-picture-2 : tie.Need-slice-aggregate-picture-2 Inv-loop μ-loop
-slice-aggregate-picture-2 c = omega arith
-
 picture-requires : tie.Need-picture-requires Inv-loop μ-loop
 picture-requires c κs = search needs
 
-heading-requires : tie.Need-heading-requires Inv-loop μ-loop
-heading-requires c κs = search needs
-
-units-requires : tie.Need-units-requires Inv-loop μ-loop
-units-requires c κs = search needs
+totals-requires : tie.Need-totals-requires Inv-loop μ-loop
+totals-requires c κs = search needs
 
 outcome-requires : tie.Need-outcome-requires Inv-loop μ-loop
 outcome-requires c κs = search needs
@@ -62,11 +52,8 @@ pictures-spec =
     μ-loop
     loop-holds
     stated-requires
-    slice-aggregate-picture
-    slice-aggregate-picture-2
     picture-requires
-    heading-requires
-    units-requires
+    totals-requires
     outcome-requires
     add-picture
     loop-less

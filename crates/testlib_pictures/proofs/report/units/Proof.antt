@@ -6,43 +6,33 @@ use Rattle.testlib_pictures.proofs.report.units.Statement.{statement}
 use Rattle.testlib_pictures.proofs.report.units.Tie as tie
 use Rattle.testlib_pictures.proofs.report.units.Reads as reads
 use Rattle.testlib_pictures.proofs.report.units.Lts as lts
-use Rattle.print.proofs.number.Reads as number-reads
+use Rattle.print.proofs.same.Reads as same-reads
 use Rattle.print.proofs.text.Reads as text-reads
+use Rattle.print.proofs.totals.Reads as totals-reads
 use Rattle.print.proofs.whole.Reads as whole-reads
 use Rattle.testlib_pictures.proofs.lists.trial_of.Reads as trial-of-reads
-use Rattle.testlib_pictures.proofs.report.pair.Reads as pair-reads
-use Rattle.testlib_pictures.proofs.report.same.Reads as same-reads
-use Rattle.testlib_pictures.proofs.report.totals.Reads as totals-reads
+use Rattle.testlib_pictures.proofs.report.heading_of.Reads as heading-of-reads
 
 abbrev Inv-loop : tie.InvT-loop
-Inv-loop picture tried measured u₀ t6 t7 u = u ≤ 6
+Inv-loop picture tried measured u₀ t6 u = u ≤ 6
 
 abbrev μ-loop : tie.MeasureT-loop
-μ-loop picture tried measured u₀ t6 t7 u = 6 - u
+μ-loop picture tried measured u₀ t6 u = 6 - u
 
 loop-holds : tie.Need-loop-holds Inv-loop μ-loop
 loop-holds c = omega arith
+
+heading-of-requires : tie.Need-heading-of-requires Inv-loop μ-loop
+heading-of-requires c κs = search needs
+
+totals-requires : tie.Need-totals-requires Inv-loop μ-loop
+totals-requires c κs = (omega arith, omega arith)
 
 slice-aggregate-text : tie.Need-slice-aggregate-text Inv-loop μ-loop
 slice-aggregate-text c = omega arith
 
 text-requires : tie.Need-text-requires Inv-loop μ-loop
 text-requires c κs = search needs
-
-number-requires : tie.Need-number-requires Inv-loop μ-loop
-number-requires c κs = search needs
-
-pair-requires : tie.Need-pair-requires Inv-loop μ-loop
-pair-requires c κs = search needs
-
-totals-requires : tie.Need-totals-requires Inv-loop μ-loop
-totals-requires c κs = search needs
-
-slice-aggregate-text-2 : tie.Need-slice-aggregate-text-2 Inv-loop μ-loop
-slice-aggregate-text-2 c = omega arith
-
-text-requires-2 : tie.Need-text-requires-2 Inv-loop μ-loop
-text-requires-2 c κs = search needs
 
 mul-whole : tie.Need-mul-whole Inv-loop μ-loop
 mul-whole c = omega arith
@@ -96,13 +86,10 @@ units-spec =
     Inv-loop
     μ-loop
     loop-holds
+    heading-of-requires
+    totals-requires
     slice-aggregate-text
     text-requires
-    number-requires
-    pair-requires
-    totals-requires
-    slice-aggregate-text-2
-    text-requires-2
     mul-whole
     element-copy-out-whole
     whole-requires

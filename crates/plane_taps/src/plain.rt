@@ -1,7 +1,7 @@
 // One sample from its taps, none of them marked.
 ghost use mathlib.Core.Path.{_≡_};
 ghost use Prim.Native.Nat.{_≤_, _<_};
-ghost use lib.IntN.{natAbs, pos, _-ℤ_};
+ghost use lib.IntN.{natAbs};
 ghost use Rattle.arith_sample.specs.Sample.{conOf};
 ghost use Rattle.filter_rows.specs.Sums.{InRange};
 ghost use Rattle.plane_taps.specs.Plain.{heldOf, Low, Bounded, pairPlain, priPlain, secPlain, lowTwo, highTwo, firstOf, lastOf};
@@ -13,14 +13,6 @@ pub struct Part {
     pub sum: i16,
     pub lo: u16,
     pub hi: u16,
-}
-
-// The difference of two samples.
-fn apart(t: u16, c: u16) -> i16
-    requires { ⌜ (t < 16384) × (c < 16384) ⌝ }
-    ensures { λ r. ⌜ r ≡ pos t -ℤ pos c ⌝ }
-{
-    (t as i16) - (c as i16)
 }
 
 fn magnitude(d: i16) -> u16
@@ -48,7 +40,7 @@ fn constrain(t: u16, c: u16, s: u16, sh: u32) -> i16
     requires { ⌜ (t < 16384) × (c < 16384) × (s ≤ 240) × (sh ≤ 15) ⌝ }
     ensures { λ r. ⌜ r ≡ conOf t c s sh ⌝ }
 {
-    let d = apart(t, c);
+    let d = arith_numbers::difference(t, c);
     held(d, arith_sample::less(s, magnitude(d) >> sh))
 }
 

@@ -16,7 +16,6 @@ use Rattle.plane_taps.proofs.plain.constrain.Statement.{statement}
 use Rattle.plane_taps.proofs.plain.constrain.Tie as tie
 use Rattle.plane_taps.proofs.plain.constrain.Reads as reads
 use Rattle.plane_taps.proofs.plain.constrain.Lts as lts
-use Rattle.plane_taps.proofs.plain.apart.Reads as apart-reads
 use Rattle.plane_taps.proofs.plain.held.Reads as held-reads
 use Rattle.plane_taps.proofs.plain.magnitude.Reads as magnitude-reads
 use Rattle.arith_sample.proofs.less.Reads as less-reads
@@ -27,14 +26,14 @@ glue t c s sh m l d h e1 e2 e3 e4 = e4 ∙ rw (e3, e2, e1) (held-con t c s sh)
 small : (s : tie.Start) → natAbs (pos (s .args .t) -ℤ pos (s .args .c)) ≤ 32767
 small s = omega (arith, size-diff (s .args .t) (s .args .c), s .pre .0, s .pre .1)
 
-apart-back : (c : tie.After-apart) → toZ w16 (ofZ w16 (c .apart .result)) ≡ pos (c .before .args .t) -ℤ pos (c .before .args .c)
-apart-back c = rw (c .apart .ensures) (back _ (small (c .before)))
+difference-back : (c : tie.After-difference) → toZ w16 (ofZ w16 (c .difference .result)) ≡ pos (c .before .args .t) -ℤ pos (c .before .args .c)
+difference-back c = rw (c .difference .ensures) (back _ (small (c .before)))
 
-apart-requires : tie.Need-apart-requires
-apart-requires c κs = search needs
+difference-requires : tie.Need-difference-requires
+difference-requires c κs = search needs
 
 magnitude-requires : tie.Need-magnitude-requires
-magnitude-requires c κs = rw (apart-back c) (small (c .before))
+magnitude-requires c κs = rw (difference-back c) (small (c .before))
 
 cast-less : tie.Need-cast-less
 cast-less c = search needs
@@ -47,19 +46,19 @@ less-requires c κs = search needs
 
 held-requires : tie.Need-held-requires
 held-requires c κs = let s = c .before .before .before in
-    (rw (apart-back (c .before .before)) (small s), omega (arith, c .less .ensures, s .pre .2))
+    (rw (difference-back (c .before .before)) (small s), omega (arith, c .less .ensures, s .pre .2))
 
 returns : tie.Need-returns
 returns c = let s = c .before .before .before .before in
     let a = s .args in
-    let e = glue (a .t) (a .c) (a .s) (a .sh) _ _ _ _ (apart-back (c .before .before .before)) (c .before .before .magnitude .ensures) (c .before .less .ensures) (c .held .ensures) in
+    let e = glue (a .t) (a .c) (a .s) (a .sh) _ _ _ _ (difference-back (c .before .before .before)) (c .before .before .magnitude .ensures) (c .before .less .ensures) (c .held .ensures) in
     rw e (back _ (omega (arith, size-con (a .t) (a .c) (a .s) (a .sh), s .pre .2)))
 
 pub constrain-spec : {M : Type 1} → statement M
 constrain-spec =
     tie.close
     (tie.spec
-    apart-requires
+    difference-requires
     magnitude-requires
     cast-less
     shr-less

@@ -41,18 +41,6 @@ pub fn total(a: &[u16; 64]) -> u32
     t
 }
 
-// The sum of the products of 64 samples and 64 others. The remainders change nothing; from them the compiler sees that each number is small.
-pub fn products(a: &[u16; 64], b: &[u16; 64]) -> u32
-    requires { ⌜ Below (now a) 4096 × Below (now b) 4096 ⌝ }
-    ensures { λ r. ⌜ r ≡ sum 64 (λ k. getD (now (a .entry)) k 0 * getD (now (b .entry)) k 0) ⌝ }
-{
-    let mut t = 0u32;
-    for k in 0..64usize {
-        t = t + (a[k] % 4096) as u32 * (b[k] % 4096) as u32;
-    }
-    t
-}
-
 // The sum of squared differences of 64 samples and 64 others: the differences first, then their squares in pairs, each of which is one instruction's.
 pub fn block_squares(a: &[u16; 64], b: &[u16; 64]) -> u32
     requires { ⌜ Below (now a) 4096 × Below (now b) 4096 ⌝ }

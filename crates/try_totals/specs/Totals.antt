@@ -2,7 +2,7 @@
 use mathlib.Core.Path.{_≡_}
 use mathlib.Core.Bool.{Bool}
 use mathlib.Core.List.{List, [], _∷_}
-use Prim.Native.Nat.{ℕ, _*_, _^_, _≤_, _<_}
+use Prim.Native.Nat.{ℕ, _+_, _*_, _/_, _%_, _^_, _≤_, _<_}
 use lib.IntN.{ℤ, natAbs}
 use lib.ListN.{getD}
 use Rattle.cdef_spec.specs.declared.DistanceConstants.{DistanceConstants}
@@ -51,3 +51,17 @@ pub record Weighed (c : DistanceConstants) (a blocks e : List ℕ) (w : List Flo
   pub weighs : (t : ℕ) → t < 12 → Weighs (getD w t nan) (getD e t 0)
   pub is : (t : ℕ) → t < 12 → timesAt e w t ≡ wholeDistances c a blocks t
   pub low : (t : ℕ) → t < 12 → timesAt e w t < 2 ^ 53
+
+-- the 16 samples of a 4 by 4 block
+unfoldable pub fourOf : List ℕ → ℕ → ℕ → List ℕ
+unfolding at
+fourOf s start pitch = upto (λ k. at s start pitch (k / 4) (k % 4)) 16
+
+-- 16 samples and those from `from` on are below 4096
+pub record Small (a s : List ℕ) (from : ℕ) : Type 0 where
+  pub first : (k : ℕ) → k < 16 → getD a k 0 < 4096
+  pub second : (k : ℕ) → k < 16 → getD s (from + k) 0 < 4096
+
+-- between a 4 by 4 block of an original and trial block t
+unfoldable pub fourDistances : List ℕ → ℕ → ℕ → List ℕ → ℕ → ℕ
+fourDistances original start pitch blocks t = squares 4 4 (at original start pitch) (at blocks (t * 64) 4)

@@ -4,11 +4,12 @@ use mathlib.Core.Logic.{_⊎_, inl, inr}
 use Prim.Native.Nat.{ℕ, zero, suc, _+_, _-_, _*_, _/_, _%_, _^_, _≤_, _<_}
 use native.Mathlib.Nat.{le-trans, le-of-eq, lt-of-lt-of-le, mul-left-comm, mul-right-comm, mul-le-mul-left, mul-le-mul-right, mul-lt-mul-of-pos-right, mod-eq-of-lt, le-div-iff-mul-le, div-lt-iff-lt-mul, div-one}
 use native.Mathlib.Omega.{arith}
-use mathlib.Core.Bool.{true, false, not, _&&_}
+use mathlib.Core.Bool.{Bool, true, false, not, _&&_}
 use borrow.Author.Tests.{lt-leb, ne-eqb}
 use lib.Dec.{T, eqb, ltb, leb, ltb→lt}
 use lib.Pow.{pow-add, pow-pos, pow-mono}
-use lib.Ieee.{Float, nan, inf, fin, binary64, up, down, size, le, lt, fits, isNan, odd, ofFields, ofBits, toBits}
+use lib.Ieee.{Float, nan, inf, fin, binary64, up, down, size, le, lt, fits, isNan, nanBits, odd, ofFields, ofBits, toBits}
+use lib.Ieee.Bits.{nanBits-is}
 use lib.Ieee.Digits.{size-le}
 use lib.Ieee.Fits.{and-l, and-r, down-pos, kept-lt}
 use lib.Ieee.Exact.{HasValue, odd-sign}
@@ -101,14 +102,21 @@ pattern-range x F N = range x F (above-zero x N) (and-l (le leastNormal x) (lt x
 
 -- ---- no NaN
 
-pub normal-no-nan : (x : Float) → T (normal x) → T (not (isNan x))
+pub above-no-nan : (x : Float) → T (above x) → T (not (isNan x))
 unfolding isNan
-normal-no-nan nan N = absurd (above-zero nan N)
-normal-no-nan (inf s) N = tt
-normal-no-nan (fin s m e) N = tt
+above-no-nan nan h = absurd h
+above-no-nan (inf s) h = tt
+above-no-nan (fin s m e) h = tt
+
+pub normal-no-nan : (x : Float) → T (normal x) → T (not (isNan x))
+normal-no-nan x N = above-no-nan x (above-zero x N)
 
 pub value-no-nan : (x : Float) (a c : ℕ) → HasValue x false a c → T (not (isNan x))
 unfolding isNan
 value-no-nan nan a c h = absurd h
 value-no-nan (inf s) a c h = absurd h
 value-no-nan (fin s m e) a c h = tt
+
+-- the pattern of a normal number is none of a NaN
+pub pattern-no-nan : (p : ℕ) → 2 ^ 52 ≤ p → p < 9218868437227405312 → T (not (nanBits binary64 p))
+pattern-no-nan p lo hi = subst (λ (t : Bool). T (not t)) (sym (nanBits-is binary64 p)) (value-no-nan (ofBits binary64 p) (unitsOf p) (2 ^ 1074) (pattern-value p lo hi))

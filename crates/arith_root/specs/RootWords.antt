@@ -1,6 +1,7 @@
 -- Terms of the square root's contracts. Definitions only.
-use Prim.Native.Nat.{ℕ, _+_, _*_, _≤_, _<_}
-use mathlib.Core.Bool.{Bool, false, _&&_}
+use Prim.Native.Nat.{ℕ, _+_, _-_, _*_, _^_, _≤_, _<_}
+use mathlib.Core.Bool.{Bool, false, cond, _&&_}
+use lib.Dec.{leb}
 use lib.IntN.{pos}
 use lib.Ieee.{Float, inf, fin, le, lt}
 use Rattle.cdef_spec.specs.Root.{leastNormal}
@@ -17,3 +18,12 @@ two53 = fin false 1 (pos 53)
 pub record NearestWhole (M n : ℕ) : Type 0 where
   pub above : n * n < M + n
   pub below : M ≤ n * n + n
+
+-- g is the integer square root of h
+unfoldable pub isRoot : ℕ → ℕ → Bool
+isRoot h g = leb (g * g) h && leb (h - g * g) (2 * g)
+
+-- what the next guess lessens: a guess below the square root is followed by one above it, and those decrease
+unfoldable pub guessesLeft : ℕ → ℕ → ℕ
+unfolding isRoot
+guessesLeft h g = cond (isRoot h g) 0 (cond (leb (g * g) h) (2 ^ 29) g)

@@ -4,31 +4,60 @@ ghost use Prim.Native.Nat.{_+_, _*_, _^_, _<_, _≤_};
 ghost use lib.Dec.{T};
 ghost use lib.Ieee as Ieee;
 ghost use Rattle.cdef_spec.specs.Root.{rootOf, IsNearestRoot};
-ghost use Rattle.arith_root.specs.RootWords.{NearestWhole, normal, two53};
+ghost use Rattle.arith_root.specs.RootWords.{NearestWhole, isRoot, normal, two53};
 
-// A guess at the square root of h, within one part in 190: with x for h / 2^52, 2^26 times
-// 0.51855 + 0.52601 x - 0.03954 x². Only its range is promised.
-fn first_guess(h: u64) -> u64
-    requires { ⌜ (2 ^ 52 ≤ h) × (h < 2 ^ 54) ⌝ }
-    ensures { λ r. ⌜ (0 < r) × (r ≤ 2 ^ 34) ⌝ }
+// The first 27 bits of the significand of s, where it is 1 or more.
+fn leading(s: f64) -> u64
+    ensures { λ r. ⌜ (2 ^ 26 ≤ r) × (r < 2 ^ 27) ⌝ }
 {
-    let t = h / 0x1000_0000;
-    34799610 + t * 34473 / 0x4000 - t * t / 0x10_0000 * 2591 / 0x4_0000
+    if s >= 1.0 {
+        return (0x10_0000_0000_0000 + f64::to_bits(s) % 0x10_0000_0000_0000) / 0x400_0000;
+    }
+    0x400_0000
 }
 
-// The integer square root of h, by guesses from above, which settle where the next is no smaller.
+// A guess at the square root of h: with x for h / 2^52 or h / 2^53, from 1 to 4, three of Newton's steps to 1 / sqrt(x), then the leading bits of x / sqrt(x).
+// Only its range is promised.
+fn first_guess(h: u64) -> u64
+    requires { ⌜ (2 ^ 52 ≤ h) × (h < 2 ^ 54) ⌝ }
+    ensures { λ r. ⌜ (2 ^ 26 ≤ r) × (r < 2 ^ 27) ⌝ }
+{
+    let b = if h < 0x20_0000_0000_0000 {
+        1022 * 0x10_0000_0000_0000 + h
+    } else {
+        1023 * 0x10_0000_0000_0000 + h / 2
+    };
+    let x = f64::from_bits(b);
+    let half = 0.5 * x;
+    let y = f64::from_bits(0x5fe6_eb50_c7b5_37a9 - b / 2);
+    let y = y * (1.5 - half * y * y);
+    let y = y * (1.5 - half * y * y);
+    let y = y * (1.5 - half * y * y);
+    leading(x * y)
+}
+
+// Whether g is the integer square root of h.
+fn settled(h: u64, g: u64) -> bool
+    requires { ⌜ g ≤ 2 ^ 28 ⌝ }
+    ensures { λ r. ⌜ r ≡ isRoot h g ⌝ }
+{
+    if h < g * g {
+        return false;
+    }
+    h - g * g <= 2 * g
+}
+
+// The integer square root of h: a guess, and where it has not settled, the next by a division.
 fn whole_root(h: u64) -> u64
     requires { ⌜ (2 ^ 52 ≤ h) × (h < 2 ^ 54) ⌝ }
     ensures { λ r. ⌜ (r * r ≤ h) × (h < (r + 1) * (r + 1)) ⌝ }
 {
-    let first = first_guess(h);
-    let mut g = (first + h / first) / 2;
+    let mut g = first_guess(h);
     let root = loop {
-        let next = (g + h / g) / 2;
-        if next >= g {
+        if settled(h, g) {
             break g;
         }
-        g = next;
+        g = (g + h / g) / 2;
     };
     root
 }

@@ -5,20 +5,12 @@ ghost use Prim.Native.Nat.{_+_, _*_, _≤_, _<_};
 ghost use Rattle.cdef_spec.specs.Standard.{square, divBy, costStraight, costDiagonal, costBetween};
 ghost use Rattle.direction_costs.specs.Costs.{entry};
 
-// The square of a line sum.
-pub fn square_of(v: i16) -> u32
-    ensures { λ r. ⌜ r ≡ square v ⌝ }
-{
-    let w = v as i32;
-    (w * w) as u32
-}
-
 // A line of n samples.
 fn one(l: &[i16; 16], a: usize, n: u32) -> u32
     requires { ⌜ (a < 16) × (1 ≤ n) × (n ≤ 8) × (square (entry (now l) a) * divBy n ≤ 880803840) ⌝ }
     ensures { λ r. ⌜ r ≡ square (entry (now (l .entry)) a) * divBy n ⌝ }
 {
-    square_of(l[a]) * arith_tables::divisor(n)
+    arith_numbers::square_of(l[a]) * arith_tables::divisor(n)
 }
 
 // Two lines of n samples.
@@ -26,7 +18,7 @@ fn two(l: &[i16; 16], a: usize, b: usize, n: u32) -> u32
     requires { ⌜ (a < 16) × (b < 16) × (1 ≤ n) × (n ≤ 8) × ((square (entry (now l) a) + square (entry (now l) b)) * divBy n ≤ 880803840) ⌝ }
     ensures { λ r. ⌜ r ≡ (square (entry (now (l .entry)) a) + square (entry (now (l .entry)) b)) * divBy n ⌝ }
 {
-    (square_of(l[a]) + square_of(l[b])) * arith_tables::divisor(n)
+    (arith_numbers::square_of(l[a]) + arith_numbers::square_of(l[b])) * arith_tables::divisor(n)
 }
 
 // Directions 2 and 6: eight lines of 8 samples.

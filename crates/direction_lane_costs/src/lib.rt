@@ -34,7 +34,7 @@ fn squares(p: &[i16; 128]) -> [u32; 64]
     for k in 0..64usize {
         let a = 2 * k;
         let b = a + 1;
-        q[k] = direction_costs::square_of(z[a]) + direction_costs::square_of(z[b]);
+        q[k] = arith_numbers::square_of(z[a]) + arith_numbers::square_of(z[b]);
     }
     q
 }

@@ -1,39 +1,22 @@
--- Laws of the weighted distance of blocks: what it requires of their sums (the Cauchy-Schwarz inequality among them), and that it depends on rows and columns only.
-use mathlib.Core.Path.{_≡_, refl, ap, _∙_}
-use mathlib.Core.Logic.{inl, inr}
+-- Laws of the weighted distance of blocks: what its spreads require of the sums (the Cauchy-Schwarz inequality), its bounds, and that it depends on rows and columns only.
+use mathlib.Core.Path.{_≡_, ap, _∙_}
 use mathlib.Core.List.{List}
-use Prim.Native.Nat.{ℕ, zero, suc, _+_, _-_, _*_, _^_, _≤_, _<_, min, max}
+use Prim.Native.Nat.{ℕ, zero, suc, _+_, _-_, _*_, _/_, _^_, _≤_, _<_, min, max}
 use native.Mathlib.Nat.{mul-comm, mul-add, add-mul, suc-mul, mul-le-mul}
 use native.Mathlib.Omega.{arith}
-use lib.ListN.{getD}
+use lib.ListN.{getD, replicate, getD-replicate}
 use Rattle.cdef_spec.specs.declared.DistanceConstants.{DistanceConstants}
 use Rattle.cdef_spec.specs.Words.{sum}
-use Rattle.cdef_spec.specs.WordsLaws.{sum2-same}
+use Rattle.cdef_spec.specs.WordsLaws.{sum-same, sum2-same}
 use Rattle.cdef_spec.specs.Distance.{squaredDifference, squaresLimit, squares, spread, weighted}
-use Rattle.arith_root.specs.NewtonLaws.{below-or-not, apart, product-low}
+use Rattle.arith_root.specs.NewtonLaws.{product-low}
 use Rattle.distance_sums.specs.SumLaws.{sum-high, sum-64, difference-high}
 use Rattle.distance_sums.specs.Blocks.{cell, Below, weightedBy}
 use Rattle.distance_sums.specs.BlockLaws.{squares-same, squares-64}
-use Rattle.distance_weight.specs.Weighing.{OfDepth, spreadOf, SumsOf}
+use Rattle.distance_weight.specs.Weighing.{OfDepth}
 use Rattle.distance_weight.specs.WeighingLaws.{weighted-low}
 
--- ---- squares and products
-
-up : (x y d : ℕ) → y ≡ x + d → (max x y - min x y) * (max x y - min x y) + 2 * (x * y) ≡ x * x + y * y
-up x y d e = let m : max x y - min x y ≡ d = omega arith in rw (m, e) (omega (arith, apart x d))
-
-down : (x y d : ℕ) → x ≡ y + d → (max x y - min x y) * (max x y - min x y) + 2 * (x * y) ≡ x * x + y * y
-down x y d e = let m : max x y - min x y ≡ d = omega arith in rw (m, e) (omega (arith, apart y d, mul-comm (y + d) y))
-
-difference-is : (x y : ℕ) → squaredDifference x y + 2 * (x * y) ≡ x * x + y * y
-unfolding squaredDifference
-difference-is x y = elim (below-or-not x y) [ inl l ↦ up x y (y - x) (omega arith) | inr h ↦ down x y (x - y) (omega arith) ]
-
--- the squares of the differences, by the squares and the products
-pub differences : (n : ℕ) (f g : ℕ → ℕ) → sum n (λ k. squaredDifference (f k) (g k)) + 2 * sum n (λ k. f k * g k) ≡ sum n (λ k. f k * f k) + sum n (λ k. g k * g k)
-unfolding sum
-differences zero f g = refl
-differences (suc n) f g = omega (arith, differences n f g, difference-is (f n) (g n))
+-- ---- a sum's square
 
 shift : (x n : ℕ) (f : ℕ → ℕ) → 2 * (x * sum n f) ≤ sum n (λ k. f k * f k) + n * (x * x)
 unfolding sum
@@ -52,37 +35,50 @@ cauchy (suc n) f =
     let b : suc n * (q + x * x) ≡ n * q + n * (x * x) + (q + x * x) = suc-mul n (q + x * x) ∙ ap (λ (z : ℕ). z + (q + x * x)) (mul-add n q (x * x)) in
     omega (arith, cauchy n f, shift x n f)
 
--- ---- of samples of a depth
+-- ---- the spread of 64 samples
 
-module _ (depth : ℕ) (f g : ℕ → ℕ) (hf : (k : ℕ) → k < 64 → f k < 2 ^ depth) (hg : (k : ℕ) → k < 64 → g k < 2 ^ depth) where
-  abbrev top : ℕ
-  top = 2 ^ depth - 1
+less-zero : (x : ℕ) → squaredDifference x 0 ≡ x * x
+unfolding squaredDifference
+less-zero x = let e : max x 0 - min x 0 ≡ x = omega arith in rw e
 
-  f-low : (k : ℕ) → k < 64 → f k ≤ top
-  f-low k l = omega (arith, hf k l)
+pub zeros-below : Below (replicate 64 0) 4096
+zeros-below = record { each = λ k h. rw (getD-replicate {A = ℕ} 64 k 0 0 h) (omega arith) }
 
-  g-low : (k : ℕ) → k < 64 → g k ≤ top
-  g-low k l = omega (arith, hg k l)
+module _ (a : List ℕ) where
+  abbrev A : ℕ → ℕ
+  A k = getD a k 0
 
-  pub differences-high : sum 64 (λ k. squaredDifference (f k) (g k)) ≤ squaresLimit depth
-  unfolding squaresLimit
-  differences-high = sum-high 64 (top * top) _ (λ k l. difference-high (f k) (g k) top (f-low k l) (g-low k l))
+  from-zeros : sum 64 (λ k. squaredDifference (A k) (getD (replicate 64 0) k 0)) ≡ sum 64 (λ k. A k * A k)
+  from-zeros = sum-same 64 _ _ (λ k h. rw (getD-replicate {A = ℕ} 64 k 0 0 h) (less-zero (A k)))
 
-  pub sums-of : SumsOf depth (sum 64 f) (sum 64 g) (sum 64 (λ k. f k * f k)) (sum 64 (λ k. g k * g k)) (sum 64 (λ k. f k * g k))
-  sums-of =
-      let d = differences 64 f g in
-      record {
-        first = cauchy 64 f;
-        second = cauchy 64 g;
-        first-high = unfold squaresLimit in sum-high 64 (top * top) _ (λ k l. mul-le-mul (f-low k l) (f-low k l));
-        second-high = unfold squaresLimit in sum-high 64 (top * top) _ (λ k l. mul-le-mul (g-low k l) (g-low k l));
-        error-low = omega arith;
-        error-high = omega (arith, differences-high);
-      }
+  -- the sums, as the code computes them
+  module _ (s s2 : ℕ) (e : s ≡ sum 64 A) (f : s2 ≡ sum 64 (λ k. squaredDifference (A k) (getD (replicate 64 0) k 0))) where
+    pub square-low : s * s ≤ 64 * s2
+    square-low = rw (e, f, from-zeros) (cauchy 64 A)
+
+    pub spread-is : s2 - (s * s + 32) / 64 ≡ spread (cell a)
+    unfolding spread cell
+    spread-is = rw (e, f, from-zeros, sum-64 (λ k. A k * A k), sum-64 A)
+
+  module _ (depth : ℕ) (h : Below a (2 ^ depth)) where
+    own-low : (k : ℕ) → k < 64 → A k ≤ 2 ^ depth - 1
+    own-low k l = omega (arith, h .each k l)
+
+    own-high : sum 64 (λ k. A k * A k) ≤ squaresLimit depth
+    unfolding squaresLimit
+    own-high = sum-high 64 ((2 ^ depth - 1) * (2 ^ depth - 1)) _ (λ k l. mul-le-mul (own-low k l) (own-low k l))
+
+    pub spread-high : spread (cell a) ≤ squaresLimit depth
+    unfolding spread cell
+    spread-high = omega (arith, own-high, sum-64 (λ k. A k * A k))
+
+    pub squares-high : (b : List ℕ) → Below b (2 ^ depth) → squares 8 8 (cell a) (cell b) ≤ squaresLimit depth
+    unfolding squaresLimit
+    squares-high b g = rw (← squares-64 a b) (sum-high 64 ((2 ^ depth - 1) * (2 ^ depth - 1)) _ (λ k l. difference-high (A k) (getD b k 0) (2 ^ depth - 1) (own-low k l) (omega (arith, g .each k l))))
 
 -- ---- the weighted distance depends on rows and columns only
 
-spread-same : (o p : ℕ → ℕ → ℕ) → ((i j : ℕ) → i < 8 → j < 8 → o i j ≡ p i j) → spread o ≡ spread p
+pub spread-same : (o p : ℕ → ℕ → ℕ) → ((i j : ℕ) → i < 8 → j < 8 → o i j ≡ p i j) → spread o ≡ spread p
 unfolding spread
 spread-same o p h = rw (sum2-same 8 8 (λ i j. o i j * o i j) (λ i j. p i j * p i j) (λ i j hi hj. rw (h i j hi hj)), sum2-same 8 8 o p h)
 
@@ -90,30 +86,12 @@ pub weighted-same : (c : DistanceConstants) (o p d e : ℕ → ℕ → ℕ) → 
 unfolding weightedBy
 weighted-same c o p d e h g = rw (spread-same o p h, spread-same d e g, squares-same 8 8 o p d e h g)
 
--- ---- from the five sums
+-- ---- of 64 samples
 
-pub error-is : (a b : List ℕ) → sum 64 (λ k. getD a k 0 * getD a k 0) + sum 64 (λ k. getD b k 0 * getD b k 0) - 2 * sum 64 (λ k. getD a k 0 * getD b k 0) ≡ squares 8 8 (cell a) (cell b)
-error-is a b = omega (arith, differences 64 (λ k. getD a k 0) (λ k. getD b k 0), squares-64 a b)
-
-pub spread-64 : (a : List ℕ) → spreadOf (sum 64 (λ k. getD a k 0 * getD a k 0)) (sum 64 (λ k. getD a k 0)) ≡ spread (cell a)
-unfolding spreadOf spread cell
-spread-64 a = rw (sum-64 (λ k. getD a k 0 * getD a k 0), sum-64 (λ k. getD a k 0))
-
-pub weighted-64 : (c : DistanceConstants) (a b : List ℕ) (ss sd ss2 sd2 ssd r : ℕ)
-    → ss ≡ sum 64 (λ k. getD a k 0) → sd ≡ sum 64 (λ k. getD b k 0)
-    → ss2 ≡ sum 64 (λ k. getD a k 0 * getD a k 0) → sd2 ≡ sum 64 (λ k. getD b k 0 * getD b k 0) → ssd ≡ sum 64 (λ k. getD a k 0 * getD b k 0)
-    → r ≡ weighted c (spreadOf ss2 ss) (spreadOf sd2 sd) (ss2 + sd2 - 2 * ssd) → r ≡ weightedBy c (cell a) (cell b)
+pub weighted-64 : (c : DistanceConstants) (a b : List ℕ) (x y e r : ℕ) → x ≡ spread (cell a) → y ≡ spread (cell b) → e ≡ sum 64 (λ k. squaredDifference (getD a k 0) (getD b k 0)) → r ≡ weighted c x y e → r ≡ weightedBy c (cell a) (cell b)
 unfolding weightedBy
-weighted-64 c a b ss sd ss2 sd2 ssd r e f g h k l = l ∙ rw (e, f, g, h, k, spread-64 a, spread-64 b, error-is a b)
-
-pub sums-64 : (a b : List ℕ) (depth ss sd ss2 sd2 ssd : ℕ)
-    → ss ≡ sum 64 (λ k. getD a k 0) → sd ≡ sum 64 (λ k. getD b k 0)
-    → ss2 ≡ sum 64 (λ k. getD a k 0 * getD a k 0) → sd2 ≡ sum 64 (λ k. getD b k 0 * getD b k 0) → ssd ≡ sum 64 (λ k. getD a k 0 * getD b k 0)
-    → Below a (2 ^ depth) → Below b (2 ^ depth) → SumsOf depth ss sd ss2 sd2 ssd
-sums-64 a b depth ss sd ss2 sd2 ssd e f g h k x y = rw (e, f, g, h, k) (sums-of depth (λ k. getD a k 0) (λ k. getD b k 0) (x .each) (y .each))
+weighted-64 c a b x y e r ex ey ee er = er ∙ rw (ex, ey, ee, squares-64 a b)
 
 pub weighted-64-low : (c : DistanceConstants) (depth : ℕ) (a b : List ℕ) → OfDepth c depth → Below a (2 ^ depth) → Below b (2 ^ depth) → weightedBy c (cell a) (cell b) < 2 ^ 53
-unfolding weightedBy spreadOf
-weighted-64-low c depth a b o x y =
-    let s = sums-of depth (λ k. getD a k 0) (λ k. getD b k 0) (x .each) (y .each) in
-    rw (← spread-64 a, ← spread-64 b, ← error-is a b) (weighted-low c depth _ _ _ o (omega (arith, s .first-high)) (omega (arith, s .second-high)) (omega (arith, s .error-high)))
+unfolding weightedBy
+weighted-64-low c depth a b o x y = weighted-low c depth _ _ _ o (spread-high a depth x) (spread-high b depth y) (squares-high a depth x b y)

@@ -4,14 +4,16 @@ use mathlib.Core.List.{List}
 use Prim.Native.Nat.{ℕ, _+_, _*_, _/_, _%_, _^_, _≤_, _<_}
 use native.Mathlib.Nat.{lt-of-lt-of-le}
 use native.Mathlib.Omega.{arith}
+use lib.IntN.{ℤ, pos, _-ℤ_}
 use lib.ListN.{getD}
 use lib.Pow.{pow-mono}
 use Rattle.cdef_spec.specs.Words.{sum, sum2}
 use Rattle.cdef_spec.specs.WordsLaws.{sum2-same}
+use Rattle.cdef_spec.specs.Standard.{square}
 use Rattle.cdef_spec.specs.Distance.{squaredDifference, squares}
 use Rattle.arith_sample.specs.Upto.{getD-upto}
-use Rattle.distance_sums.specs.SumLaws.{sum-none, sum-more, sum-high, sum-64, difference-high}
-use Rattle.distance_sums.specs.Blocks.{at, cell, blockOf, Below, Within}
+use Rattle.distance_sums.specs.SumLaws.{sum-none, sum-more, sum-high, sum-64, difference-square, difference-high}
+use Rattle.distance_sums.specs.Blocks.{at, cell, blockOf, differencesOf, Below, Within}
 
 -- ---- the 64 samples of a block
 
@@ -56,6 +58,14 @@ module _ (a b : List ℕ) where
   pub squares-64 : sum 64 (λ k. squaredDifference (A k) (B k)) ≡ squares 8 8 (cell a) (cell b)
   unfolding squares cell
   squares-64 = sum-64 (λ k. squaredDifference (A k) (B k))
+
+  -- a difference squared, by its place
+  pub square-at : (v : List ℤ) (k : ℕ) → v ≡ differencesOf a b → k < 64 → square (getD v k (pos 0)) ≡ squaredDifference (A k) (B k)
+  unfolding differencesOf
+  square-at v k e h = rw (e, getD-upto (λ n. pos (A n) -ℤ pos (B n)) 64 k (pos 0) h) (difference-square (A k) (B k))
+
+  pub square-high : (k : ℕ) → Below a 4096 → Below b 4096 → k < 64 → squaredDifference (A k) (B k) ≤ 16769025
+  square-high k x y h = difference-high (A k) (B k) 4095 (omega (arith, x .each k h)) (omega (arith, y .each k h))
 
 -- ---- squares row by row
 

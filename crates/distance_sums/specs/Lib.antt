@@ -2,3 +2,4 @@
 pub mod SumLaws
 pub mod Blocks
 pub mod BlockLaws
+pub mod ColumnLaws

@@ -1,4 +1,4 @@
-// Sums over blocks: of samples, of products, of squared differences.
+// Sums over blocks: of samples, of squared differences.
 ghost use mathlib.Core.Path.{_≡_};
 ghost use Prim.Native.Nat.{ℕ, _+_, _*_, _≤_, _<_};
 ghost use lib.ListN.{getD, length};
@@ -22,38 +22,37 @@ pub fn block_of(s: &[u16], start: usize, pitch: usize) -> [u16; 64]
     b
 }
 
-// The sum of 64 samples.
+// The sum of 64 samples, by columns first: eight samples are below 2^15.
 pub fn total(a: &[u16; 64]) -> u32
     requires { ⌜ Below (now a) 4096 ⌝ }
     ensures { λ r. ⌜ r ≡ sum 64 (λ k. getD (now (a .entry)) k 0) ⌝ }
 {
+    let mut col = [0u16; 8];
+    for i in 0..8usize {
+        let at = i * 8;
+        for j in 0..8usize {
+            col[j] = col[j] + a[at + j];
+        }
+    }
     let mut t = 0u32;
-    for k in 0..64usize {
-        t = t + a[k] as u32;
+    for j in 0..8usize {
+        t = t + col[j] as u32;
     }
     t
 }
 
-// The sum of the products of 64 samples and 64 others. The remainders change nothing; from them the compiler sees that each number is small.
-pub fn products(a: &[u16; 64], b: &[u16; 64]) -> u32
-    requires { ⌜ Below (now a) 4096 × Below (now b) 4096 ⌝ }
-    ensures { λ r. ⌜ r ≡ sum 64 (λ k. getD (now (a .entry)) k 0 * getD (now (b .entry)) k 0) ⌝ }
-{
-    let mut t = 0u32;
-    for k in 0..64usize {
-        t = t + (a[k] % 4096) as u32 * (b[k] % 4096) as u32;
-    }
-    t
-}
-
-// The sum of squared differences of 64 samples and 64 others.
+// The sum of squared differences of 64 samples and 64 others: the differences first, then their squares in pairs, each of which is one instruction's.
 pub fn block_squares(a: &[u16; 64], b: &[u16; 64]) -> u32
     requires { ⌜ Below (now a) 4096 × Below (now b) 4096 ⌝ }
     ensures { λ r. ⌜ r ≡ sum 64 (λ k. squaredDifference (getD (now (a .entry)) k 0) (getD (now (b .entry)) k 0)) ⌝ }
 {
-    let mut t = 0u32;
+    let mut v = [0i16; 64];
     for k in 0..64usize {
-        t = t + arith_numbers::squared_difference(a[k], b[k]);
+        v[k] = arith_numbers::difference(a[k], b[k]);
+    }
+    let mut t = 0u32;
+    for k in 0..32usize {
+        t = t + (arith_numbers::square_of(v[2 * k]) + arith_numbers::square_of(v[2 * k + 1]));
     }
     t
 }

@@ -1,9 +1,9 @@
 -- Terms of the weighted distance's contracts. Definitions only.
 use mathlib.Core.Path.{_≡_}
-use Prim.Native.Nat.{ℕ, _+_, _-_, _*_, _≤_}
+use Prim.Native.Nat.{ℕ, _≤_}
+use lib.Ieee.{Float, binary64, add, mul, toUnsigned}
 use Rattle.cdef_spec.specs.declared.DistanceConstants.{DistanceConstants}
-use Rattle.cdef_spec.specs.Words.{_>>_}
-use Rattle.cdef_spec.specs.Distance.{constantsOf, squaresLimit}
+use Rattle.cdef_spec.specs.Distance.{whole, half, constantsOf, squaresLimit, weight}
 
 -- the constants are those of a depth that passes question 1
 pub record OfDepth (c : DistanceConstants) (depth : ℕ) : Type 0 where
@@ -15,15 +15,19 @@ pub record OfDepth (c : DistanceConstants) (depth : ℕ) : Type 0 where
 abbrev pub most : ℕ
 most = 1073217600
 
--- s2 - ((s * s + 32) >> 6), as `spread` computes it for a block
-unfoldable pub spreadOf : ℕ → ℕ → ℕ
-spreadOf s2 s = s2 - ((s * s + 32) >> 6)
+-- 0.5 + e * w, truncated to an integer
+unfoldable pub timesOf : ℕ → Float → ℕ
+unfolding add mul toUnsigned
+timesOf e w = toUnsigned 64 (add binary64 half (mul binary64 (whole e) w))
 
--- what holds of the sums of two blocks of a depth: of the samples, of their squares, and of their products
-pub record SumsOf (depth ss sd ss2 sd2 ssd : ℕ) : Type 0 where
-  pub first : ss * ss ≤ 64 * ss2
-  pub second : sd * sd ≤ 64 * sd2
-  pub first-high : ss2 ≤ squaresLimit depth
-  pub second-high : sd2 ≤ squaresLimit depth
-  pub error-low : 2 * ssd ≤ ss2 + sd2
-  pub error-high : ss2 + sd2 ≤ 2 * ssd + squaresLimit depth
+-- w is the weight of two spreads, and e a sum of squares, of samples of one depth
+pub record Weighs (w : Float) (e : ℕ) : Type 0 where
+  pub constants : DistanceConstants
+  pub depth : ℕ
+  pub first : ℕ
+  pub second : ℕ
+  pub deep : OfDepth constants depth
+  pub first-low : first ≤ squaresLimit depth
+  pub second-low : second ≤ squaresLimit depth
+  pub error-low : e ≤ squaresLimit depth
+  pub is : w ≡ weight constants first second

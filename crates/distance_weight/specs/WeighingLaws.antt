@@ -1,5 +1,5 @@
 -- The constants and the limit of a depth, as the laws of the sequence require them; 0.5; and the weighted distance stays below 2 ^ 53.
-use mathlib.Core.Path.{_≡_, refl, sym, subst}
+use mathlib.Core.Path.{_≡_, refl, sym, ap, subst}
 use mathlib.Core.Bool.{false}
 use Prim.Native.Nat.{ℕ, _-_, _*_, _/_, _^_, _≤_, _<_}
 use native.Mathlib.Nat.{le-of-eq, lt-of-le-of-lt, lt-of-lt-of-le, mul-le-mul, mul-le-mul-left, div-lt-iff-lt-mul}
@@ -7,11 +7,11 @@ use native.Mathlib.Omega.{arith}
 use lib.IntN.{pos}
 use lib.Dec.{T, le→leb, lit≤}
 use lib.Pow.{pow-mono, pow-pos}
-use lib.Ieee.{binary64, inFloat, ofBits}
+use lib.Ieee.{Float, binary64, inFloat, ofBits}
 use lib.Ieee.Exact.{HasValue}
 use Rattle.cdef_spec.specs.declared.DistanceConstants.{DistanceConstants}
 use Rattle.cdef_spec.specs.Distance.{half, constantsOf, squaresLimit, weight, weighted}
-use Rattle.distance_weight.specs.Weighing.{OfDepth, most}
+use Rattle.distance_weight.specs.Weighing.{OfDepth, most, timesOf}
 use Rattle.arith_root.specs.FloatLaws.{U, U-pos}
 use Rattle.arith_root.specs.TruncateLaws.{truncated-value}
 use Rattle.distance_weight.specs.SequenceLaws.{whole-val, X, value-truncated}
@@ -64,6 +64,10 @@ limit-most depth h =
 pub half-is : ofBits binary64 0x3fe0_0000_0000_0000 ≡ half
 unfolding ofBits
 half-is = refl
+
+pub times-weight : (c : DistanceConstants) (a b e : ℕ) (w : Float) → w ≡ weight c a b → timesOf e w ≡ weighted c a b e
+unfolding timesOf weighted
+times-weight c a b e w h = ap (timesOf e) h
 
 -- a weighted distance is below 2 ^ 53
 pub weighted-low : (c : DistanceConstants) (depth a b e : ℕ) → OfDepth c depth → a ≤ squaresLimit depth → b ≤ squaresLimit depth → e ≤ squaresLimit depth → weighted c a b e < 2 ^ 53

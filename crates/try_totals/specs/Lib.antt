@@ -2,3 +2,4 @@
 pub mod Totals
 pub mod TurnLaws
 pub mod WholeLaws
+pub mod FourLaws

@@ -1,61 +1,53 @@
--- A whole luma block's weighted distances from sums.
+-- A whole luma block's weighted distances.
 use mathlib.Core.Path.{_≡_, refl, sym, ap, _∙_}
 use mathlib.Core.Bool.{true}
 use mathlib.Core.List.{List}
 use Prim.Native.Nat.{ℕ, _+_, _-_, _*_, _/_, _%_, _^_, _≤_, _<_}
-use native.Mathlib.Nat.{lt-of-lt-of-le}
 use native.Mathlib.Omega.{arith}
-use lib.ListN.{getD, length}
-use lib.Pow.{pow-mono}
+use lib.Ieee.{Float, nan}
+use lib.ListN.{getD}
 use Rattle.cdef_spec.specs.declared.DistanceConstants.{DistanceConstants}
 use Rattle.cdef_spec.specs.Words.{sum}
-use Rattle.cdef_spec.specs.WordsLaws.{sum-same}
-use Rattle.cdef_spec.specs.Distance.{weighted}
+use Rattle.cdef_spec.specs.Distance.{squaredDifference, squaresLimit, squares, spread, weight}
 use Rattle.cdef_spec.specs.LoopForm.{addTurns}
-use Rattle.distance_weight.specs.Weighing.{OfDepth, SumsOf, spreadOf}
+use Rattle.arith_sample.specs.Upto.{getD-upto}
+use Rattle.distance_weight.specs.Weighing.{OfDepth}
+use Rattle.distance_weight.specs.WeighingLaws.{times-weight}
 use Rattle.distance_sums.specs.Blocks.{at, cell, blockOf, Below, Within, weightedBy}
-use Rattle.distance_sums.specs.BlockLaws.{block-at, block-cell, block-below}
-use Rattle.distance_block.specs.WeightedLaws.{weighted-same, weighted-64, sums-64, weighted-64-low}
+use Rattle.distance_sums.specs.BlockLaws.{block-cell, block-below, squares-same, squares-64}
+use Rattle.distance_block.specs.WeightedLaws.{spread-same, spread-high, squares-high, weighted-same, weighted-64-low}
 use Rattle.distance_visible.specs.CutLaws.{cut-whole}
 use Rattle.arith_totals.specs.FoldLaws.{turns-same}
-use Rattle.try_totals.specs.Totals.{trialDistances, wholeDistances}
+use Rattle.try_totals.specs.Totals.{trialDistances, wholeDistances, spreadsOf, errorsOf, weightsOf, timesAt, Weighed}
 
--- ---- 64 samples in a row are the 8 by 8 block there
+-- ---- trial block t
 
-module _ (s : List ℕ) (from : ℕ) where
-  in-row : (k : ℕ) → k < 64 → getD s (from + k) 0 ≡ getD (blockOf s from 8) k 0
-  unfolding at
-  in-row k h =
-      let e : from + k ≡ from + k / 8 * 8 + k % 8 = omega arith in
-      ap (λ (n : ℕ). getD s n 0) e ∙ sym (block-at s from 8 k h)
+module _ (a blocks : List ℕ) (depth t : ℕ) (flat : depth ≤ 12) (b : Below a (2 ^ depth)) (w : Within blocks (t * 64) 8 8 8 (2 ^ depth)) where
+  abbrev block : List ℕ
+  block = blockOf blocks (t * 64) 8
 
-  module _ (depth : ℕ) (flat : depth ≤ 12) (w : Within s from 8 8 8 (2 ^ depth)) where
-    pub row-held : from + 64 ≤ length s
-    row-held = omega (arith, w .held 7 (omega arith))
+  pub trial-below : Below block (2 ^ depth)
+  trial-below = block-below blocks (t * 64) 8 (2 ^ depth) w
 
-    pub row-low : (k : ℕ) → k < 64 → getD s (from + k) 0 < 4096
-    row-low k h = lt-of-lt-of-le (rw (in-row k h) (block-below s from 8 (2 ^ depth) w .each k h)) (pow-mono {i = depth} {j = 12} flat)
+  trial-spread : spread (cell block) ≡ spread (at blocks (t * 64) 8)
+  trial-spread = spread-same _ _ (block-cell blocks (t * 64) 8)
 
-  -- the sums, as the code computes them
-  module _ (a : List ℕ) (ss sd ss2 sd2 ssd : ℕ) (e : ss ≡ sum 64 (λ k. getD a k 0)) (f : sd ≡ sum 64 (λ k. getD s (from + k) 0)) (g : ss2 ≡ sum 64 (λ k. getD a k 0 * getD a k 0))
-      (i : sd2 ≡ sum 64 (λ k. getD s (from + k) 0 * getD s (from + k) 0)) (j : ssd ≡ sum 64 (λ k. getD a k 0 * getD s (from + k) 0)) where
-    own : sd ≡ sum 64 (λ k. getD (blockOf s from 8) k 0)
-    own = f ∙ sum-same 64 _ _ in-row
+  trial-error : squares 8 8 (cell a) (cell block) ≡ squares 8 8 (cell a) (at blocks (t * 64) 8)
+  trial-error = squares-same 8 8 _ _ _ _ (λ i j hi hj. refl) (block-cell blocks (t * 64) 8)
 
-    squares : sd2 ≡ sum 64 (λ k. getD (blockOf s from 8) k 0 * getD (blockOf s from 8) k 0)
-    squares = i ∙ sum-same 64 _ _ (λ k h. rw (in-row k h))
+  -- its spread and its squares, as the code computes them
+  pub spread-so : (x : List ℕ) (r : ℕ) → x ≡ block → r ≡ spread (cell x) → r ≡ spread (at blocks (t * 64) 8)
+  spread-so x r e f = f ∙ rw e trial-spread
 
-    products : ssd ≡ sum 64 (λ k. getD a k 0 * getD (blockOf s from 8) k 0)
-    products = j ∙ sum-same 64 _ _ (λ k h. rw (in-row k h))
+  pub error-so : (x : List ℕ) (r : ℕ) → x ≡ block → r ≡ sum 64 (λ k. squaredDifference (getD a k 0) (getD x k 0)) → r ≡ squares 8 8 (cell a) (at blocks (t * 64) 8)
+  error-so x r e f = f ∙ rw e (squares-64 a block ∙ trial-error)
 
-    pub whole-sums : (depth : ℕ) → Below a (2 ^ depth) → Within s from 8 8 8 (2 ^ depth) → SumsOf depth ss sd ss2 sd2 ssd
-    whole-sums depth b w = sums-64 a (blockOf s from 8) depth ss sd ss2 sd2 ssd e own g squares products b (block-below s from 8 (2 ^ depth) w)
+  -- and their limits
+  pub spread-limit : spread (at blocks (t * 64) 8) ≤ squaresLimit depth
+  spread-limit = rw (← trial-spread) (spread-high block depth trial-below)
 
-    pub whole-is : (c : DistanceConstants) (depth r : ℕ) → OfDepth c depth → Below a (2 ^ depth) → Within s from 8 8 8 (2 ^ depth) → r ≡ weighted c (spreadOf ss2 ss) (spreadOf sd2 sd) (ss2 + sd2 - 2 * ssd)
-        → (r ≡ weightedBy c (cell a) (at s from 8)) × (r < 2 ^ 53)
-    whole-is c depth r o b w l =
-        let k = weighted-64 c a (blockOf s from 8) ss sd ss2 sd2 ssd r e own g squares products l in
-        (k ∙ weighted-same c (cell a) (cell a) _ _ (λ m n hm hn. refl) (block-cell s from 8), rw k (weighted-64-low c depth a (blockOf s from 8) o b (block-below s from 8 (2 ^ depth) w)))
+  pub error-limit : squares 8 8 (cell a) (at blocks (t * 64) 8) ≤ squaresLimit depth
+  error-limit = rw (← trial-error) (squares-high a depth b block trial-below)
 
 -- ---- the totals add up the same, whole block or not
 
@@ -71,3 +63,52 @@ unfolding wholeDistances
 distances-low c depth a blocks o b t w =
     rw (← weighted-same c (cell a) (cell a) _ _ (λ m n hm hn. refl) (block-cell blocks (t * 64) 8))
     (weighted-64-low c depth a (blockOf blocks (t * 64) 8) o b (block-below blocks (t * 64) 8 (2 ^ depth) w))
+
+-- ---- from the sums and the weights, as the code computes them
+
+module _ (c : DistanceConstants) (depth : ℕ) (a blocks : List ℕ) (o : OfDepth c depth) (b : Below a (2 ^ depth)) (h : (t : ℕ) → t < 12 → Within blocks (t * 64) 8 8 8 (2 ^ depth)) (x : ℕ) (ex : x ≡ spread (cell a)) where
+  pub own-limit : x ≤ squaresLimit depth
+  own-limit = rw ex (spread-high a depth b)
+
+  pub spreads-limit : (s : List ℕ) → s ≡ spreadsOf blocks → (t : ℕ) → t < 12 → getD s t 0 ≤ squaresLimit depth
+  unfolding spreadsOf
+  spreads-limit s es t l = rw (es, getD-upto (λ t. spread (at blocks (t * 64) 8)) 12 t 0 l) (spread-limit a blocks depth t (o .flat) b (h t l))
+
+  module _ (s e : List ℕ) (w : List Float) (es : s ≡ spreadsOf blocks) (ee : e ≡ errorsOf a blocks) (ew : w ≡ weightsOf c x s) where
+    error-at : (t : ℕ) → t < 12 → getD e t 0 ≡ squares 8 8 (cell a) (at blocks (t * 64) 8)
+    unfolding errorsOf
+    error-at t l = rw (ee, getD-upto (λ t. squares 8 8 (cell a) (at blocks (t * 64) 8)) 12 t 0 l)
+
+    spread-at : (t : ℕ) → t < 12 → getD s t 0 ≡ spread (at blocks (t * 64) 8)
+    unfolding spreadsOf
+    spread-at t l = rw (es, getD-upto (λ t. spread (at blocks (t * 64) 8)) 12 t 0 l)
+
+    weight-at : (t : ℕ) → t < 12 → getD w t nan ≡ weight c x (getD s t 0)
+    unfolding weightsOf
+    weight-at t l = rw (ew, getD-upto (λ t. weight c x (getD s t 0)) 12 t nan l)
+
+    times-at : (t : ℕ) → t < 12 → timesAt e w t ≡ wholeDistances c a blocks t
+    unfolding timesAt wholeDistances weightedBy
+    times-at t l = times-weight c x (getD s t 0) (getD e t 0) (getD w t nan) (weight-at t l) ∙ rw (ex, spread-at t l, error-at t l)
+
+    pub weighed : Weighed c a blocks e w
+    weighed =
+        record {
+          weighs = λ t l. record {
+            constants = c;
+            depth = depth;
+            first = x;
+            second = getD s t 0;
+            deep = o;
+            first-low = own-limit;
+            second-low = spreads-limit s es t l;
+            error-low = rw (error-at t l) (error-limit a blocks depth t (o .flat) b (h t l));
+            is = weight-at t l;
+          };
+          is = times-at;
+          low = λ t l. rw (times-at t l) (distances-low c depth a blocks o b t (h t l));
+        }
+
+-- the totals
+pub weighed-turns : (l : List ℕ) (base : ℕ) (c : DistanceConstants) (a blocks e : List ℕ) (w : List Float) → Weighed c a blocks e w → addTurns l base (timesAt e w) 12 ≡ addTurns l base (wholeDistances c a blocks) 12
+weighed-turns l base c a blocks e w k = turns-same l base _ _ 12 (k .is)

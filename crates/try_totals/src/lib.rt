@@ -8,6 +8,7 @@ ghost use Rattle.distance_sums.specs.Blocks.{Within};
 ghost use Rattle.try_totals.specs.Totals.{plainOf, Low, trialDistances};
 use cdef_spec::DistanceConstants;
 
+mod four; // four.rt: the same for a whole chroma block of 4 by 4 samples
 mod whole; // whole.rt: the same for a whole luma block
 
 // Adds to twelve totals, from `base` on, the distances between a block of the original and the trial blocks, one by one.
@@ -74,6 +75,15 @@ pub fn add_trials(
             let a = distance_sums::block_of(original, at, pitch);
             whole::add_whole(totals, base, &a, blocks, c);
             return;
+        }
+    } else {
+        if step == 4 {
+            if cols == 4 {
+                if rows == 4 {
+                    four::add_four(totals, base, original, at, pitch, blocks);
+                    return;
+                }
+            }
         }
     }
     add_cut(

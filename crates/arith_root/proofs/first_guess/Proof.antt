@@ -1,34 +1,44 @@
 -- `arith_root::first_guess` meets its contract.
-use borrow.Author.Needs.{needs}
-use Prim.Native.Nat.{ℕ, _*_, _/_, _^_, _≤_}
-use native.Mathlib.Nat.{mul-le-mul-right}
+use mathlib.Core.Logic.{⊎-elim}
+use Prim.Native.Nat.{_*_, _^_, _≤_, _<_}
 use native.Mathlib.Omega.{arith}
+use borrow.Author.Needs.{needs}
+use Rattle.arith_root.specs.PatternLaws.{pattern-no-nan}
 use Rattle.arith_root.proofs.first_guess.Statement.{statement}
 use Rattle.arith_root.proofs.first_guess.Tie as tie
 
-abbrev Top : tie.Start → ℕ
-Top c = c .args .h / 2 ^ 28
+-- the pattern of x, from 1 to 4
+b-range : (c : tie.Joined1) → (1023 * 2 ^ 52 ≤ c .if1 .b) × (c .if1 .b < 1025 * 2 ^ 52)
+b-range c = ⊎-elim (λ w. (omega (arith, w .0 .taken, w .1), omega (arith, w .0 .taken, w .1))) (λ w. (omega (arith, w .0 .left, w .1), omega (arith, w .0 .left, w .1))) (c .if1 .came)
 
-square : (c : tie.Start) → Top c * Top c ≤ 2 ^ 26 * Top c
-square c = mul-le-mul-right (Top c) (omega arith)
+mul-b : tie.Need-mul-b
+mul-b c = search needs
 
-mul-result : tie.Need-mul-result
-mul-result c = search needs
+add-b : tie.Need-add-b
+add-b c = search needs
 
-add-result : tie.Need-add-result
-add-result c = search needs
+mul-b-2 : tie.Need-mul-b-2
+mul-b-2 c = search needs
 
-mul-result-2 : tie.Need-mul-result-2
-mul-result-2 c = omega (arith, square c)
+add-b-2 : tie.Need-add-b-2
+add-b-2 c = search needs
 
-mul-result-3 : tie.Need-mul-result-3
-mul-result-3 c = omega (arith, square c)
+float-from-bits-x : tie.Need-float-from-bits-x
+float-from-bits-x c = pattern-no-nan (c .if1 .b) (omega (arith, b-range c)) (omega (arith, b-range c))
 
-sub-result : tie.Need-sub-result
-sub-result c = omega (arith, square c)
+sub-y : tie.Need-sub-y
+sub-y c = omega (arith, b-range (c .before))
+
+float-from-bits-y : tie.Need-float-from-bits-y
+float-from-bits-y c = pattern-no-nan _ (omega (arith, b-range (c .before))) (omega (arith, b-range (c .before)))
+
+leading-requires : tie.Need-leading-requires
+leading-requires c κs = search needs
 
 returns : tie.Need-returns
-returns c = omega (arith, square c)
+returns c = c .leading .ensures
 
 pub first-guess-spec : {M : Type 1} → statement M
-first-guess-spec = tie.close (tie.spec mul-result add-result mul-result-2 mul-result-3 sub-result returns)
+first-guess-spec =
+    tie.close
+    (tie.spec mul-b add-b mul-b-2 add-b-2 float-from-bits-x sub-y float-from-bits-y leading-requires returns)

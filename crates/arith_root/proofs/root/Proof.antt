@@ -2,14 +2,12 @@
 use borrow.Author.Needs.{needs}
 use mathlib.Core.Path.{_≡_, sym, ap, subst}
 use mathlib.Core.Logic.{⊎-elim}
-use mathlib.Core.Bool.{Bool, not}
 use Prim.Native.Nat.{ℕ, _+_, _-_, _*_, _/_, _^_, _≤_, _<_}
 use native.Mathlib.Omega.{arith}
 use lib.Dec.{T}
 use lib.Ieee.{Float, binary64, fits, ofBits, toBits}
-use lib.Ieee.Bits.{nanBits-is}
 use Rattle.cdef_spec.specs.Root.{rootOf, IsNearestRoot}
-use Rattle.arith_root.specs.PatternLaws.{pattern-range, normal-no-nan, value-no-nan, pattern-value, unitsOf}
+use Rattle.arith_root.specs.PatternLaws.{pattern-range, normal-no-nan, pattern-no-nan}
 use Rattle.arith_root.specs.RootLaws.{Moved, even-case, odd-case, found-range, found, found-normal}
 use Rattle.arith_root.specs.NearestLaws.{root-nearest}
 use Rattle.arith_root.proofs.root.Statement.{statement}
@@ -68,7 +66,7 @@ float-from-bits-result c =
     let p = (b / 2 ^ 52 + 1023) / 2 * 2 ^ 52 + (n - 2 ^ 52) in
     let k = known c in
     let r = found-normal b n (k .b-low) (k .b-high) (k .n-low) (k .n-high) in
-    subst (λ (t : Bool). T (not t)) (sym (nanBits-is binary64 p)) (value-no-nan (ofBits binary64 p) (unitsOf p) (2 ^ 1074) (pattern-value p (r .0) (r .1)))
+    pattern-no-nan p (r .0) (r .1)
 
 is-root : (c : tie.After-wide-root) → ofBits binary64 ((B (c .before) / 2 ^ 52 + 1023) / 2 * 2 ^ 52 + (c .wide-root .result - 2 ^ 52)) ≡ rootOf (c .before .before .args .v)
 unfolding rootOf

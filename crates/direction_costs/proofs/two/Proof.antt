@@ -9,7 +9,7 @@ use mir.ValLaws.{toZ-ofZ}
 use Rattle.cdef_spec.specs.Standard.{square, divBy}
 use Rattle.arith_tables.specs.DivisorLaws.{divisor-is-standard}
 use Rattle.direction_costs.specs.Costs.{entry}
-use Rattle.direction_costs.proofs.Squares.{square-low}
+use Rattle.arith_numbers.proofs.Squares.{square-low}
 use borrow.Author.Needs.{needs}
 use Rattle.direction_costs.proofs.two.Statement.{statement}
 use Rattle.direction_costs.proofs.two.Tie as tie

@@ -1,7 +1,10 @@
 -- `distance_block::block_distance` meets its contract.
+use mathlib.Core.Path.{_≡_, _∙_}
+use native.Mathlib.Omega.{arith}
+use Rattle.cdef_spec.specs.Distance.{squaresLimit}
 use Rattle.distance_sums.specs.Blocks.{Below}
-use Rattle.distance_sums.specs.BlockLaws.{below-4096}
-use Rattle.distance_block.specs.WeightedLaws.{sums-64, weighted-64}
+use Rattle.distance_sums.specs.BlockLaws.{below-4096, squares-64}
+use Rattle.distance_block.specs.WeightedLaws.{spread-high, squares-high, weighted-64}
 use borrow.Author.Needs.{needs}
 use Rattle.distance_block.proofs.block_distance.Statement.{statement}
 use Rattle.distance_block.proofs.block_distance.Tie as tie
@@ -12,55 +15,31 @@ low-a s = below-4096 _ (s .pre .0) (s .pre .1 .flat) (s .pre .2)
 low-b : (s : tie.Start) → Below (s .args .b .now) 4096
 low-b s = below-4096 _ (s .pre .0) (s .pre .1 .flat) (s .pre .3)
 
-total-requires : tie.Need-total-requires
-total-requires c κs = low-a c
+spread-of-requires : tie.Need-spread-of-requires
+spread-of-requires c κs = low-a c
 
-cast-ss : tie.Need-cast-ss
-cast-ss c = search needs
+spread-of-requires-2 : tie.Need-spread-of-requires-2
+spread-of-requires-2 c κs = low-b (c .before)
 
-total-requires-2 : tie.Need-total-requires-2
-total-requires-2 c κs = low-b (c .before)
+block-squares-requires : tie.Need-block-squares-requires
+block-squares-requires c κs = (low-a (c .before .before), low-b (c .before .before))
 
-cast-sd : tie.Need-cast-sd
-cast-sd c = search needs
+cast-e : tie.Need-cast-e
+cast-e c = search needs
 
-products-requires : tie.Need-products-requires
-products-requires c κs = (low-a (c .before .before), low-a (c .before .before))
-
-cast-ss2 : tie.Need-cast-ss2
-cast-ss2 c = search needs
-
-products-requires-2 : tie.Need-products-requires-2
-products-requires-2 c κs = (low-b (c .before .before .before), low-b (c .before .before .before))
-
-cast-sd2 : tie.Need-cast-sd2
-cast-sd2 c = search needs
-
-products-requires-3 : tie.Need-products-requires-3
-products-requires-3 c κs = (low-a (c .before .before .before .before), low-b (c .before .before .before .before))
-
-cast-ssd : tie.Need-cast-ssd
-cast-ssd c = search needs
-
-cdef-dist-from-sums-requires : tie.Need-cdef-dist-from-sums-requires
-cdef-dist-from-sums-requires c κs = let s = c .before .before .before .before .before in (s .pre .0, s .pre .1, sums-64 _ _ (s .pre .0) _ _ _ _ _ (c .before .before .before .before .total .ensures) (c .before .before .before .total2 .ensures) (c .before .before .products .ensures) (c .before .products2 .ensures) (c .products3 .ensures) (s .pre .2) (s .pre .3))
+weighted-requires : tie.Need-weighted-requires
+weighted-requires c κs =
+    let s = c .before .before .before in
+    let p = s .pre in (
+      p .0,
+      p .1,
+      omega (arith, c .before .before .spread-of .ensures, spread-high _ (p .0) (p .2)),
+      omega (arith, c .before .spread-of2 .ensures, spread-high _ (p .0) (p .3)),
+      omega (arith, c .block-squares .ensures, squares-64 (s .args .a .now) (s .args .b .now), squares-high _ (p .0) (p .2) _ (p .3)),
+    )
 
 returns : tie.Need-returns
-returns c = weighted-64 _ _ _ _ _ _ _ _ _ (c .before .before .before .before .before .total .ensures) (c .before .before .before .before .total2 .ensures) (c .before .before .before .products .ensures) (c .before .before .products2 .ensures) (c .before .products3 .ensures) (c .cdef-dist-from-sums .ensures)
+returns c = weighted-64 _ _ _ _ _ _ _ (c .before .before .before .spread-of .ensures) (c .before .before .spread-of2 .ensures) (c .before .block-squares .ensures) (c .weighted .ensures)
 
 pub block-distance-spec : {M : Type 1} → statement M
-block-distance-spec =
-    tie.close
-    (tie.spec
-    total-requires
-    cast-ss
-    total-requires-2
-    cast-sd
-    products-requires
-    cast-ss2
-    products-requires-2
-    cast-sd2
-    products-requires-3
-    cast-ssd
-    cdef-dist-from-sums-requires
-    returns)
+block-distance-spec = tie.close (tie.spec spread-of-requires spread-of-requires-2 block-squares-requires cast-e weighted-requires returns)

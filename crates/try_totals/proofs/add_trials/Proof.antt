@@ -8,6 +8,7 @@ use Rattle.cdef_spec.specs.LoopForm.{signed}
 use Rattle.distance_sums.specs.Blocks.{Within}
 use Rattle.distance_sums.specs.BlockLaws.{block-below}
 use Rattle.try_totals.specs.WholeLaws.{whole-turns}
+use Rattle.try_totals.specs.FourLaws.{within-four, four-turns}
 use borrow.Author.Needs.{needs}
 use Rattle.try_totals.proofs.add_trials.Statement.{statement}
 use Rattle.try_totals.proofs.add_trials.Tie as tie
@@ -41,14 +42,31 @@ returns : tie.Need-returns
 returns c = let w = c .before .before .before .before .before in
     c .before .add-whole .ensures ∙ rw (c .before .before .before .before .before .before .if1 .taken) (ap signed (whole-turns _ _ _ _ _ _ _ _ _ _ _ (whole w .0) (whole w .1) (whole w .2) (c .before .before .before .before .block-of .ensures)))
 
-add-cut-requires : tie.Need-add-cut-requires
-add-cut-requires c κs = search needs
+add-four-requires : tie.Need-add-four-requires
+add-four-requires c κs =
+    let s = c .before .before .before .before .before .before .before in
+    let p = s .pre .1 in
+    let er = c .before .if5 .taken in
+    let ec = c .before .before .if4 .taken in
+    let es = c .before .before .before .if3 .taken in
+    ((s .pre .0 .0, s .pre .0 .1), (within-four _ _ _ _ _ _ (p .0) er ec refl (p .1 .flat) (p .2), λ k h. within-four _ _ _ _ _ _ (p .0) er ec es (p .1 .flat) (p .3 k h)))
 
 same-length-2 : tie.Need-same-length-2
 same-length-2 c = search needs
 
 returns-2 : tie.Need-returns-2
-returns-2 c = search needs
+returns-2 c =
+    let t = c .before .before .before in
+    c .before .add-four .ensures ∙ rw (t .before .before .before .if1 .left) (ap signed (four-turns _ _ _ _ _ _ _ _ _ _ (t .if5 .taken) (t .before .if4 .taken) (t .before .before .if3 .taken)))
+
+add-cut-requires : tie.Need-add-cut-requires
+add-cut-requires c κs = search needs
+
+same-length-3 : tie.Need-same-length-3
+same-length-3 c = search needs
+
+returns-3 : tie.Need-returns-3
+returns-3 c = search needs
 
 pub add-trials-spec : {M : Type 1} → statement M
 add-trials-spec =
@@ -59,6 +77,9 @@ add-trials-spec =
     add-whole-requires
     same-length
     returns
-    add-cut-requires
+    add-four-requires
     same-length-2
-    returns-2)
+    returns-2
+    add-cut-requires
+    same-length-3
+    returns-3)

@@ -1,10 +1,10 @@
--- `direction_costs::square_of` meets its contract.
+-- `arith_numbers::square_of` meets its contract.
 use native.Mathlib.Omega.{arith}
 use mathlib.Core.Path.{ap}
 use lib.IntN.{natAbs}
-use Rattle.direction_costs.proofs.Squares.{square-low, wide-fits, product-fits, product-back}
-use Rattle.direction_costs.proofs.square_of.Statement.{statement}
-use Rattle.direction_costs.proofs.square_of.Tie as tie
+use Rattle.arith_numbers.proofs.Squares.{square-low, wide-fits, product-fits, product-back}
+use Rattle.arith_numbers.proofs.square_of.Statement.{statement}
+use Rattle.arith_numbers.proofs.square_of.Tie as tie
 
 cast-w : tie.Need-cast-w
 cast-w c = wide-fits _ (c .fits .v)

@@ -52,13 +52,13 @@ module _ (a : List ℕ) where
   from-zeros = sum-same 64 _ _ (λ k h. rw (getD-replicate {A = ℕ} 64 k 0 0 h) (less-zero (A k)))
 
   -- the sums, as the code computes them
-  module _ (s s2 : ℕ) (e : s ≡ sum 64 A) (f : s2 ≡ sum 64 (λ k. squaredDifference (A k) (getD (replicate 64 0) k 0))) where
+  module _ (none : List ℕ) (s s2 : ℕ) (z : none ≡ replicate 64 0) (e : s ≡ sum 64 A) (f : s2 ≡ sum 64 (λ k. squaredDifference (A k) (getD none k 0))) where
     pub square-low : s * s ≤ 64 * s2
-    square-low = rw (e, f, from-zeros) (cauchy 64 A)
+    square-low = rw (e, f, z, from-zeros) (cauchy 64 A)
 
     pub spread-is : s2 - (s * s + 32) / 64 ≡ spread (cell a)
     unfolding spread cell
-    spread-is = rw (e, f, from-zeros, sum-64 (λ k. A k * A k), sum-64 A)
+    spread-is = rw (e, f, z, from-zeros, sum-64 (λ k. A k * A k), sum-64 A)
 
   module _ (depth : ℕ) (h : Below a (2 ^ depth)) where
     own-low : (k : ℕ) → k < 64 → A k ≤ 2 ^ depth - 1

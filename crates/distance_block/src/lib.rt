@@ -2,7 +2,7 @@
 ghost use mathlib.Core.Path.{_≡_};
 ghost use mathlib.Core.Bool.{true};
 ghost use Prim.Native.Nat.{ℕ, _+_, _*_, _^_, _≤_, _<_};
-ghost use lib.ListN.{length};
+ghost use lib.ListN.{length, replicate};
 ghost use Rattle.cdef_spec.specs.Questions.{cutTaken};
 ghost use Rattle.cdef_spec.specs.Distance.{constantsOf, spread};
 ghost use Rattle.cdef_spec.specs.BlockCalls.{planeSquares, planeDistance};
@@ -10,14 +10,13 @@ ghost use Rattle.distance_weight.specs.Weighing.{OfDepth};
 ghost use Rattle.distance_sums.specs.Blocks.{cell, Below, weightedBy};
 use cdef_spec::DistanceConstants;
 
-// s2 - (s² + 32) / 64, with s the sum of 64 samples and s2 that of their squares, which is the sum of squared differences from zeros.
-pub fn spread_of(a: &[u16; 64]) -> u64
-    requires { ⌜ Below (now a) 4096 ⌝ }
+// s2 - (s² + 32) / 64, with s the sum of 64 samples and s2 that of their squares, which is the sum of squared differences from 64 zeros.
+pub fn spread_of(a: &[u16; 64], none: &[u16; 64]) -> u64
+    requires { ⌜ Below (now a) 4096 × (now none ≡ replicate 64 0) ⌝ }
     ensures { λ r. ⌜ r ≡ spread (cell (now (a .entry))) ⌝ }
 {
-    let none = [0u16; 64];
     let s = distance_sums::total(a) as u64;
-    let s2 = distance_sums::block_squares(a, &none) as u64;
+    let s2 = distance_sums::block_squares(a, none) as u64;
     s2 - (s * s + 32) / 64
 }
 
@@ -26,8 +25,9 @@ pub fn block_distance(a: &[u16; 64], b: &[u16; 64], c: DistanceConstants) -> u64
     requires { ⌜ ((depth : ℕ) × OfDepth c depth × Below (now a) (2 ^ depth) × Below (now b) (2 ^ depth)) ⌝ }
     ensures { λ r. ⌜ r ≡ weightedBy c (cell (now (a .entry))) (cell (now (b .entry))) ⌝ }
 {
-    let x = spread_of(a);
-    let y = spread_of(b);
+    let none = [0u16; 64];
+    let x = spread_of(a, &none);
+    let y = spread_of(b, &none);
     let e = distance_sums::block_squares(a, b) as u64;
     distance_weight::weighted(x, y, e, c)
 }

@@ -15,15 +15,15 @@ use Rattle.try_totals.proofs.whole.sums_of.Statement.{statement}
 use Rattle.try_totals.proofs.whole.sums_of.Tie as tie
 
 abbrev Inv-loop : tie.InvT-loop
-Inv-loop a blocks spreads₀ errors₀ t₀ spreads errors t = (take t spreads ≡ upto (λ (k : ℕ). spread (at blocks (k * 64) 8)) t) × (take t errors ≡ upto (λ (k : ℕ). squares 8 8 (cell a) (at blocks (k * 64) 8)) t) × (length spreads ≡ 12) × (length errors ≡ 12) × (t ≤ 12)
+Inv-loop a none blocks spreads₀ errors₀ t₀ spreads errors t = (take t spreads ≡ upto (λ (k : ℕ). spread (at blocks (k * 64) 8)) t) × (take t errors ≡ upto (λ (k : ℕ). squares 8 8 (cell a) (at blocks (k * 64) 8)) t) × (length spreads ≡ 12) × (length errors ≡ 12) × (t ≤ 12)
 
 abbrev μ-loop : tie.MeasureT-loop
-μ-loop a blocks spreads₀ errors₀ t₀ spreads errors t = 12 - t
+μ-loop a none blocks spreads₀ errors₀ t₀ spreads errors t = 12 - t
 
 -- the trial block of an iteration
 low : (c : tie.After-block-of Inv-loop μ-loop) → Below (c .block-of .result) 4096
 low c =
-    let p = c .before .before .before .before .pre in
+    let p = c .before .before .before .before .pre .1 in
     rw (c .block-of .ensures) (below-4096 _ (p .0) (p .1) (trial-below _ _ (p .0) (c .before .before .loop .t) (p .1) (p .2) (p .3 _ (c .before .loop-test .taken))))
 
 loop-holds : tie.Need-loop-holds Inv-loop μ-loop
@@ -33,10 +33,10 @@ mul-block-of : tie.Need-mul-block-of Inv-loop μ-loop
 mul-block-of c = omega arith
 
 block-of-requires : tie.Need-block-of-requires Inv-loop μ-loop
-block-of-requires c κs = let p = c .before .before .before .pre in p .3 (c .before .loop .t) (c .loop-test .taken) .held
+block-of-requires c κs = let p = c .before .before .before .pre .1 in p .3 (c .before .loop .t) (c .loop-test .taken) .held
 
 spread-of-requires : tie.Need-spread-of-requires Inv-loop μ-loop
-spread-of-requires c κs = low (c .before)
+spread-of-requires c κs = (low (c .before), c .before .before .before .before .before .pre .0)
 
 mul-spreads : tie.Need-mul-spreads Inv-loop μ-loop
 mul-spreads c = omega arith
@@ -45,7 +45,7 @@ array-write-spreads : tie.Need-array-write-spreads Inv-loop μ-loop
 array-write-spreads c = omega arith
 
 block-squares-requires : tie.Need-block-squares-requires Inv-loop μ-loop
-block-squares-requires c κs = let p = c .before .before .before .before .before .before .before .pre in (below-4096 _ (p .0) (p .1) (p .2), low (c .before .before .before))
+block-squares-requires c κs = let p = c .before .before .before .before .before .before .before .pre .1 in (below-4096 _ (p .0) (p .1) (p .2), low (c .before .before .before))
 
 cast-errors : tie.Need-cast-errors Inv-loop μ-loop
 cast-errors c = search needs
@@ -65,7 +65,7 @@ loop-less c = omega arith
 loop-again : tie.Need-loop-again Inv-loop μ-loop
 loop-again c =
     let l = c .before .before .before .before .before .before .loop in
-    let p = c .before .before .before .before .before .before .before .before .pre in
+    let p = c .before .before .before .before .before .before .before .before .pre .1 in
     let w = p .3 _ (c .before .before .before .before .before .loop-test .taken) in (
       upto-more _ _ _ _ (l .inv .0) (omega arith) (spread-so _ _ (p .0) (l .t) (p .1) (p .2) w _ _ (c .before .before .before .before .block-of .ensures) (c .before .before .spread-of .ensures)),
       upto-more _ _ _ _ (l .inv .1) (omega arith) (error-so _ _ (p .0) (l .t) (p .1) (p .2) w _ _ (c .before .before .before .before .block-of .ensures) (c .block-squares .ensures)),

@@ -31,9 +31,9 @@ fn strips_four(win: &[u16; 144], n: usize) -> [u16; 480]
     for x in 0..5usize {
         for i in 0..n {
             let to = (x * n + i) * 4;
-            let from = i * 12 + x;
+            let first = i * 12 + x;
             for j in 0..4usize {
-                out[to + j] = win[from + j];
+                out[to + j] = win[first + j];
             }
         }
     }

@@ -11,10 +11,10 @@ use Rattle.trial_strips.proofs.strips_four.Reads as reads
 use Rattle.trial_strips.proofs.strips_four.Lts as lts
 
 abbrev Inv-loop3 : tie.InvT-loop3
-Inv-loop3 win n out₀ x i to from j₀ out j = Filled win 4 n (x * n + i) j out × (length out ≡ 480) × (j ≤ 4)
+Inv-loop3 win n out₀ x i to first j₀ out j = Filled win 4 n (x * n + i) j out × (length out ≡ 480) × (j ≤ 4)
 
 abbrev μ-loop3 : tie.MeasureT-loop3
-μ-loop3 win n out₀ x i to from j₀ out j = 4 - j
+μ-loop3 win n out₀ x i to first j₀ out j = 4 - j
 
 abbrev Inv-loop2 : tie.InvT-loop2
 Inv-loop2 win n out₀ x i₀ out i = Filled win 4 n (x * n + i) 0 out × (length out ≡ 480) × (i ≤ n)
@@ -47,11 +47,11 @@ add-to c = omega (arith, low c)
 mul-to-2 : tie.Need-mul-to-2 Inv-loop3 μ-loop3 Inv-loop2 μ-loop2 Inv-loop μ-loop
 mul-to-2 c = omega (arith, low c)
 
-mul-from : tie.Need-mul-from Inv-loop3 μ-loop3 Inv-loop2 μ-loop2 Inv-loop μ-loop
-mul-from c = omega arith
+mul-first : tie.Need-mul-first Inv-loop3 μ-loop3 Inv-loop2 μ-loop2 Inv-loop μ-loop
+mul-first c = omega arith
 
-add-from : tie.Need-add-from Inv-loop3 μ-loop3 Inv-loop2 μ-loop2 Inv-loop μ-loop
-add-from c = omega arith
+add-first : tie.Need-add-first Inv-loop3 μ-loop3 Inv-loop2 μ-loop2 Inv-loop μ-loop
+add-first c = omega arith
 
 loop3-holds : tie.Need-loop3-holds Inv-loop3 μ-loop3 Inv-loop2 μ-loop2 Inv-loop μ-loop
 loop3-holds c = let p = c .before in (p .loop2 .inv .0, p .loop2 .inv .1, omega arith)
@@ -119,8 +119,8 @@ strips-four-spec =
     mul-to
     add-to
     mul-to-2
-    mul-from
-    add-from
+    mul-first
+    add-first
     loop3-holds
     add-out
     mul-out

@@ -6,7 +6,14 @@ use support::planes::SIDE_MAX;
 pub const USAGE: &str = "against BEFORE OURS [--only PART].. [--launches N] [--rounds N]";
 
 /// What is timed on the largest picture too.
-pub const GROWN: [&str; 3] = ["direction pass", "apply (4, 2) luma", "apply (4, 2) chroma"];
+pub const GROWN: [&str; 6] = [
+    "direction pass",
+    "try luma",
+    "try chroma",
+    "apply (4, 2) luma",
+    "apply (4, 2) chroma",
+    "measure (0, 0) luma",
+];
 
 pub struct Options {
     /// Shared objects.

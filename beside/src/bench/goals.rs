@@ -7,12 +7,18 @@ use timed::scene::DEPTHS;
 use timed::table::{Line, Lines};
 
 /// The largest allowed ratio of our time to the reference's: goals, then the earlier limits.
-const GOALS: [(&str, &str, f64); 15] = [
-    ("goal", "try luma", 0.18),
-    ("goal", "apply (4, 2) luma", 0.08),
+const GOALS: [(&str, &str, f64); 21] = [
     ("goal", "direction", 0.5),
-    ("goal", "filter (4, 2), inside", 0.06),
-    ("goal", "trial luma", 0.11),
+    ("goal", "filter (4, 2), inside", 0.037),
+    ("goal", "filter (4, 0), inside", 0.074),
+    ("goal", "filter (0, 2), inside", 0.06),
+    ("goal", "trial luma", 0.048),
+    ("goal", "trial chroma", 0.08),
+    ("goal", "try luma", 0.069),
+    ("goal", "try chroma", 0.067),
+    ("goal", "apply (4, 2) luma", 0.08),
+    ("goal", "measure (0, 0) luma", 0.6),
+    ("goal", "distance", 0.55),
     ("limit", "direction", 0.6),
     ("limit", "filter (4, 2), inside", 0.10),
     ("limit", "filter (4, 0), inside", 0.12),

@@ -1,9 +1,9 @@
 // Trying, applying and measuring in a chroma plane with the pairs as two lists, and the agreement of their totals.
 ghost use Rattle.std.specs.Prelude.{◌≡◌, true};
-ghost use Rattle.cdef_spec.specs.Picture.{chromaPicture};
-ghost use Rattle.cdef_spec.specs.FrameCalls.{pairsOf};
+ghost use Rattle.cdef_spec.specs.Picture.{chroma_picture};
+ghost use Rattle.cdef_spec.specs.FrameCalls.{pairs_of};
 ghost use Rattle.cdef_spec.specs.Demand3.{Agrees};
-ghost use Rattle.agree_lists.specs.Agree.{isAgreed, agreeListsOutcome};
+ghost use Rattle.agree_lists.specs.Agree.{is_agreed, agree_lists_outcome};
 
 use crate::Agreement;
 use cdef_spec::{DampingChoice, UnitPair, Visible};
@@ -29,25 +29,25 @@ pub fn agree_chroma(
     secs: &[u8],
     damping: DampingChoice,
 ) -> Agreement
-    ensures value { result ≡ (agreeListsOutcome (chromaPicture depth width height sx sy skip.now dirs.now) damping visible
+    ensures value { result ≡ (agree_lists_outcome (chroma_picture depth width height sx sy skip.now dirs.now) damping visible
         snapshot.now original.now pris.now secs.now tried.old dst.old
         measured.old scratch.old).answer }
-    ensures tried_after { tried.new ≡ (agreeListsOutcome (chromaPicture depth width height sx sy skip.now dirs.now) damping
+    ensures tried_after { tried.new ≡ (agree_lists_outcome (chroma_picture depth width height sx sy skip.now dirs.now) damping
         visible snapshot.now original.now pris.now secs.now tried.old dst.old
         measured.old scratch.old).tried }
-    ensures dst_after { dst.new ≡ (agreeListsOutcome (chromaPicture depth width height sx sy skip.now dirs.now) damping
+    ensures dst_after { dst.new ≡ (agree_lists_outcome (chroma_picture depth width height sx sy skip.now dirs.now) damping
         visible snapshot.now original.now pris.now secs.now tried.old dst.old
         measured.old scratch.old).dst }
     ensures measured_after { measured.new
-        ≡ (agreeListsOutcome (chromaPicture depth width height sx sy skip.now dirs.now) damping visible snapshot.now
+        ≡ (agree_lists_outcome (chroma_picture depth width height sx sy skip.now dirs.now) damping visible snapshot.now
         original.now pris.now secs.now tried.old dst.old measured.old
         scratch.old).measured }
     ensures scratch_after { scratch.new ≡
-        (agreeListsOutcome (chromaPicture depth width height sx sy skip.now dirs.now) damping visible snapshot.now
+        (agree_lists_outcome (chroma_picture depth width height sx sy skip.now dirs.now) damping visible snapshot.now
         original.now pris.now secs.now tried.old dst.old measured.old
         scratch.old).scratch }
-    ensures agrees { isAgreed result ≡ true → Agrees (chromaPicture depth width height sx sy skip.now dirs.now)
-        (pairsOf pris.now secs.now) tried.new measured.new }
+    ensures agrees { is_agreed result ≡ true → Agrees (chroma_picture depth width height sx sy skip.now dirs.now)
+        (pairs_of pris.now secs.now) tried.new measured.new }
 {
     let t = cdef::trying::try_chroma(
         tried, snapshot, original, width, height, sx, sy, visible, depth, skip, dirs, damping,

@@ -1,9 +1,9 @@
 // Trying, applying and measuring in luma with the pairs as two lists, and the agreement of their totals.
 ghost use Rattle.std.specs.Prelude.{◌≡◌, true};
-ghost use Rattle.cdef_spec.specs.Picture.{lumaPicture};
-ghost use Rattle.cdef_spec.specs.FrameCalls.{pairsOf};
+ghost use Rattle.cdef_spec.specs.Picture.{luma_picture};
+ghost use Rattle.cdef_spec.specs.FrameCalls.{pairs_of};
 ghost use Rattle.cdef_spec.specs.Demand3.{Agrees};
-ghost use Rattle.agree_lists.specs.Agree.{isAgreed, agreeListsOutcome};
+ghost use Rattle.agree_lists.specs.Agree.{is_agreed, agree_lists_outcome};
 
 use crate::Agreement;
 use cdef_spec::{DampingChoice, UnitPair, Visible};
@@ -28,27 +28,27 @@ pub fn agree_luma(
     secs: &[u8],
     damping: DampingChoice,
 ) -> Agreement
-    ensures value { result ≡ (agreeListsOutcome (lumaPicture depth width height skip.now dirs.now vars.now) damping
+    ensures value { result ≡ (agree_lists_outcome (luma_picture depth width height skip.now dirs.now vars.now) damping
         visible snapshot.now original.now pris.now secs.now tried.old dst.old
         measured.old scratch.old).answer }
-    ensures tried_after { tried.new ≡ (agreeListsOutcome
-        (lumaPicture depth width height skip.now dirs.now vars.now) damping visible snapshot.now
+    ensures tried_after { tried.new ≡ (agree_lists_outcome
+        (luma_picture depth width height skip.now dirs.now vars.now) damping visible snapshot.now
         original.now pris.now secs.now tried.old dst.old measured.old
         scratch.old).tried }
-    ensures dst_after { dst.new ≡ (agreeListsOutcome
-        (lumaPicture depth width height skip.now dirs.now vars.now) damping visible snapshot.now
+    ensures dst_after { dst.new ≡ (agree_lists_outcome
+        (luma_picture depth width height skip.now dirs.now vars.now) damping visible snapshot.now
         original.now pris.now secs.now tried.old dst.old measured.old
         scratch.old).dst }
     ensures measured_after { measured.new
-        ≡ (agreeListsOutcome (lumaPicture depth width height skip.now dirs.now vars.now) damping visible
+        ≡ (agree_lists_outcome (luma_picture depth width height skip.now dirs.now vars.now) damping visible
         snapshot.now original.now pris.now secs.now tried.old dst.old
         measured.old scratch.old).measured }
     ensures scratch_after { scratch.new ≡
-        (agreeListsOutcome (lumaPicture depth width height skip.now dirs.now vars.now) damping visible
+        (agree_lists_outcome (luma_picture depth width height skip.now dirs.now vars.now) damping visible
         snapshot.now original.now pris.now secs.now tried.old dst.old
         measured.old scratch.old).scratch }
-    ensures agrees { isAgreed result ≡ true → Agrees (lumaPicture depth width height skip.now dirs.now vars.now)
-        (pairsOf pris.now secs.now) tried.new measured.new }
+    ensures agrees { is_agreed result ≡ true → Agrees (luma_picture depth width height skip.now dirs.now vars.now)
+        (pairs_of pris.now secs.now) tried.new measured.new }
 {
     let t = cdef::trying::try_luma(
         tried, snapshot, original, width, height, visible, depth, skip, dirs, vars, damping,

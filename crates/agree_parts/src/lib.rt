@@ -1,7 +1,7 @@
 // What is done between trying, applying and measuring: the test that each pair is one of the twelve, and the copy of the snapshot.
 ghost use Rattle.std.specs.Prelude.{◌≡◌, ◌&&◌, get_or};
-ghost use Rattle.cdef_spec.specs.FrameCalls.{pairsOf};
-ghost use Rattle.agree_parts.specs.Parts.{trialPairs, copied};
+ghost use Rattle.cdef_spec.specs.FrameCalls.{pairs_of};
+ghost use Rattle.agree_parts.specs.Parts.{trial_pairs, copied};
 
 use cdef_spec::UnitPair;
 
@@ -27,7 +27,7 @@ fn both(a: bool, b: bool) -> bool
 
 // Whether each unit's pair is one of the twelve. More than 4,096 pairs are not checked: applying rejects them.
 pub fn trial_pairs(pris: &[u8], secs: &[u8]) -> bool
-    ensures { result ≡ trialPairs (pairsOf pris.now secs.now) }
+    ensures { result ≡ trial_pairs (pairs_of pris.now secs.now) }
 {
     if 4096 < pris.len() {
         return true;

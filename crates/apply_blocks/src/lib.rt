@@ -1,10 +1,10 @@
 // One block: left as it is, or filtered with its unit's pair.
 ghost use Rattle.std.specs.Prelude.{◌≡◌, true, List, ℕ, ◌/◌, ◌+◌, ◌*◌, ◌≤◌, ◌<◌, get_or, length};
-ghost use Rattle.cdef_spec.specs.FrameCalls.{pairsOf};
+ghost use Rattle.cdef_spec.specs.FrameCalls.{pairs_of};
 ghost use Rattle.cdef_spec.specs.Picture.{pair_at};
-ghost use Rattle.frame_shape.specs.Frame.{Shaped, pictureOf};
-ghost use Rattle.frame_shape.specs.Lent.{Listed, Sampled, Paired, InForce, blocksOf, samplesOf};
-ghost use Rattle.apply_blocks.specs.Blocks.{blockFiltered, blockApplied};
+ghost use Rattle.frame_shape.specs.Frame.{Shaped, picture_of};
+ghost use Rattle.frame_shape.specs.Lent.{Listed, Sampled, Paired, InForce, blocks_of, samples_of};
+ghost use Rattle.apply_blocks.specs.Blocks.{block_filtered, block_applied};
 
 use cdef_spec::{SignalledDamping, UnitPair};
 use frame_shape::Frame;
@@ -12,7 +12,7 @@ use frame_shape::Frame;
 // The pair of unit u.
 fn pair_of(pris: &[u8], secs: &[u8], u: usize) -> UnitPair
     requires { (u < length pris.now) × (u < length secs.now) }
-    ensures { result ≡ pair_at (pairsOf pris.now secs.now) u }
+    ensures { result ≡ pair_at (pairs_of pris.now secs.now) u }
 {
     UnitPair {
         primary: pris[u],
@@ -34,12 +34,12 @@ fn filter_with(
     by: usize,
     bx: usize,
 )
-    requires shaped { Shaped f × (length dirs.now ≡ blocksOf f) × (f.luma ≡ true → length vars.now ≡ blocksOf f)
+    requires shaped { Shaped f × (length dirs.now ≡ blocks_of f) × (f.luma ≡ true → length vars.now ≡ blocks_of f)
         × ((b : ℕ) → get_or dirs.now b 0 < 8) }
     requires sampled { Sampled f snapshot.now × InForce d × (p.primary ≤ 15) × (p.secondary ≤ 4) }
     requires w_value { (w ≡ f.width / (1 + f.sx)) × (h ≡ f.height / (1 + f.sy)) × (by < f.height / 8) × (bx < f.width / 8)
-        × (length dst.old ≡ samplesOf f) }
-    ensures { (s : List ℕ) → dst.new ≡ blockFiltered (pictureOf f s dirs.now vars.now) d
+        × (length dst.old ≡ samples_of f) }
+    ensures { (s : List ℕ) → dst.new ≡ block_filtered (picture_of f s dirs.now vars.now) d
         snapshot.now p by bx dst.old }
 {
     let block = frame_shape::geometry::block_of(f, by, bx);
@@ -80,9 +80,9 @@ pub fn apply_block(
 )
     requires shaped { Shaped f × Listed f skip.now dirs.now vars.now × Sampled f snapshot.now × Paired f pris.now secs.now × InForce d }
     requires w_value { (w ≡ f.width / (1 + f.sx)) × (h ≡ f.height / (1 + f.sy)) × (by < f.height / 8) × (bx < f.width / 8)
-        × (length dst.old ≡ samplesOf f) }
-    ensures { dst.new ≡ blockApplied (pictureOf f skip.now dirs.now vars.now) d
-        snapshot.now (pairsOf pris.now secs.now) by bx dst.old }
+        × (length dst.old ≡ samples_of f) }
+    ensures { dst.new ≡ block_applied (picture_of f skip.now dirs.now vars.now) d
+        snapshot.now (pairs_of pris.now secs.now) by bx dst.old }
 {
     if skip[by * (f.width / 8) + bx] != 0 {
         return;

@@ -2,8 +2,8 @@
 use Rattle.std.specs.Prelude.{◌≡◌, false, cond, ℕ, ◌≤◌, eqb}
 use Rattle.cdef_spec.specs.declared.DampingChoice.{DampingChoice}
 use Rattle.cdef_spec.specs.declared.DampingChoice.TheVariants.{Given, Unstated}
-use Rattle.cdef_spec.specs.Document01.{inForce}
-use Rattle.cdef_spec.specs.Questions.{signalledTaken}
+use Rattle.cdef_spec.specs.Document01.{in_force}
+use Rattle.cdef_spec.specs.Questions.{signalled_taken}
 
 -- flag 0: the number is the signalled damping; flag 1: none is stated, whatever the number; any other flag: the signalled damping 0, which is out of range
 unfoldable pub choice_of : ℕ → ℕ → DampingChoice
@@ -13,4 +13,4 @@ choice_of damping unstated =
 
 -- a flag above 1 fails question 8, whatever the number
 abbrev pub OtherFlagRejected : Type 0
-OtherFlagRejected = (damping unstated : ℕ) → 2 ≤ unstated → signalledTaken (inForce (choice_of damping unstated)) ≡ false
+OtherFlagRejected = (damping unstated : ℕ) → 2 ≤ unstated → signalled_taken (in_force (choice_of damping unstated)) ≡ false

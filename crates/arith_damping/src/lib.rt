@@ -1,13 +1,13 @@
 // The signalled damping of a quality index and of a frame call, and the working damping by the luma and the chroma rule.
 ghost use Rattle.std.specs.Prelude.{◌≡◌, ◌≤◌};
-ghost use Rattle.cdef_spec.specs.Document01.{qualityDamping, inForce, lumaDamping, chromaDamping};
+ghost use Rattle.cdef_spec.specs.Document01.{quality_damping, in_force, luma_damping, chroma_damping};
 ghost use Rattle.arith_damping.specs.Choice.{choice_of};
 
 use cdef_spec::{DampingChoice, SignalledDamping, WorkingDamping};
 
 // The damping of a quality index: 3 + min(index / 64, 3).
 pub fn cdef_damping(index: u32) -> SignalledDamping
-    ensures { result ≡ qualityDamping index }
+    ensures { result ≡ quality_damping index }
 {
     let mut step = index / 64;
     if 3 < step {
@@ -18,7 +18,7 @@ pub fn cdef_damping(index: u32) -> SignalledDamping
 
 // The figure in force: the signalled damping given, or 3 where none is stated.
 pub fn in_force(choice: DampingChoice) -> SignalledDamping
-    ensures { result ≡ inForce choice }
+    ensures { result ≡ in_force choice }
 {
     match choice {
         DampingChoice::Given(d) => d,
@@ -43,7 +43,7 @@ pub fn choice_of(damping: u8, unstated: u8) -> DampingChoice
 // The luma rule: signalled + depth - 8.
 pub fn luma_damping(d: SignalledDamping, depth: u8) -> WorkingDamping
     requires { (d.0 ≤ 200) × (8 ≤ depth) × (depth ≤ 12) }
-    ensures { result ≡ lumaDamping d depth }
+    ensures { result ≡ luma_damping d depth }
 {
     WorkingDamping(d.0 + (depth - 8))
 }
@@ -51,7 +51,7 @@ pub fn luma_damping(d: SignalledDamping, depth: u8) -> WorkingDamping
 // The chroma rule: one less.
 pub fn chroma_damping(d: SignalledDamping, depth: u8) -> WorkingDamping
     requires { (1 ≤ d.0) × (d.0 ≤ 200) × (8 ≤ depth) × (depth ≤ 12) }
-    ensures { result ≡ chromaDamping d depth }
+    ensures { result ≡ chroma_damping d depth }
 {
     WorkingDamping(d.0 + (depth - 8) - 1)
 }

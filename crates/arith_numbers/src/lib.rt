@@ -1,7 +1,7 @@
 // The lesser of two sides or positions, the difference of two samples, squares, and blocks whose samples fill runs of sixteen.
 ghost use Rattle.std.specs.Prelude.{◌≡◌, true, ◌≤◌, ◌<◌, min, pos, ◌-ℤ◌};
 ghost use Rattle.cdef_spec.specs.Standard.{square};
-ghost use Rattle.cdef_spec.specs.Distance.{squaredDifference};
+ghost use Rattle.cdef_spec.specs.Distance.{squared_difference};
 ghost use Rattle.arith_numbers.specs.Packed.{Packed};
 
 // The lesser of two sides or positions.
@@ -14,7 +14,7 @@ pub fn lesser(a: usize, b: usize) -> usize
 // (a - b)². The remainder changes nothing; from it the compiler sees that the number is small.
 pub fn squared_difference(a: u16, b: u16) -> u32
     requires { (a < 4096) × (b < 4096) }
-    ensures { result ≡ squaredDifference a b }
+    ensures { result ≡ squared_difference a b }
 {
     let d = if a < b { b - a } else { a - b };
     let w = (d % 4096) as u32;

@@ -1,4 +1,4 @@
--- `rootOf` is the f64 nearest to the square root: every other f64 is further away.
+-- `root_of` is the f64 nearest to the square root: every other f64 is further away.
 use Rattle.std.specs.Prelude.{◌≡◌, refl, ℕ, ◌+◌, ◌-◌, ◌*◌, ◌/◌, ◌%◌, ◌^◌, ◌≤◌, ◌<◌, true, T, Float}
 use Rattle.std.proofs.Common.{sym, ◌∙◌, inl, inr, le_trans, le_of_eq, lt_of_le_of_lt, lt_of_lt_of_le, not-le_of_lt, mul_assoc, mul-add, add-mul, mul-le-mul, mul-le-mul_left, mul-le-mul_right, mul-lt-mul_of_pos_right, mul-pos, lt_of_mul-lt-mul_right, sub-add_cancel, two-mul, arith, true≢false, lit<, pow-add, pow_pos, pow_mono}
 use Rattle.std.proofs.Math.Path.{ap, subst}
@@ -8,9 +8,9 @@ use Rattle.std.specs.Float.{nan, inf, fin}
 use Rattle.std.specs.Float.Ieee.{binary64, fits, of_bits, to_bits}
 use Rattle.std.specs.Float.Ieee.Bits.{of_bits-to_bits, of_bits-fits}
 use Rattle.std.specs.Float.Ieee.Exact.{HasValue}
-use Rattle.cdef_spec.specs.Root.{nearestWhole, rootBits, rootOf, plain, IsNearestRoot, RootIsNearest}
+use Rattle.cdef_spec.specs.Root.{nearest_whole, root_bits, root_of, plain, IsNearestRoot, RootIsNearest}
 use Rattle.arith_root.specs.RootWords.{normal, NearestWhole}
-use Rattle.arith_root.specs.PatternLaws.{unitsOf, pattern-value, pattern-range}
+use Rattle.arith_root.specs.PatternLaws.{units_of, pattern-value, pattern-range}
 use Rattle.arith_root.specs.NewtonLaws.{below_or_not}
 use Rattle.arith_root.specs.RootLaws.{Wide, moved-any, found-range, found, found-normal, nearest-whole, wide_low, wide_high, under128}
 use Rattle.arith_root.specs.FloatLaws.{U}
@@ -85,7 +85,7 @@ square-edge M n K Y p h l =
     lt_of_le_of_lt t (lt_of_lt_of_le s (le_trans (le_of_eq e) (mul-le-mul_left 4 f)))
 
 -- ---- the numbers of a pattern and of its square root's
-root-value : (F n : ℕ) → 2 ^ 52 ≤ n → n < 2 ^ 53 → unitsOf (F * 2 ^ 52 + (n - 2 ^ 52)) ≡ n * 2 ^ (F - 1)
+root-value : (F n : ℕ) → 2 ^ 52 ≤ n → n < 2 ^ 53 → units_of (F * 2 ^ 52 + (n - 2 ^ 52)) ≡ n * 2 ^ (F - 1)
 root-value F n l u =
     let b = F * 2 ^ 52 + (n - 2 ^ 52) in
     let e : b / 2 ^ 52 ≡ F = omega arith in
@@ -93,7 +93,7 @@ root-value F n l u =
     ap (λ (z : ℕ). z * 2 ^ (b / 2 ^ 52 - 1)) f ∙ ap (λ (z : ℕ). n * 2 ^ (z - 1)) e
 
 -- the value of v is M times the square of the square root's unit
-squared-unit : (b : ℕ) → 2 ^ 52 ≤ b → unitsOf b * U ≡ Wide b * (2 ^ ((b / 2 ^ 52 + 1023) / 2 - 1) * 2 ^ ((b / 2 ^ 52 + 1023) / 2 - 1))
+squared-unit : (b : ℕ) → 2 ^ 52 ≤ b → units_of b * U ≡ Wide b * (2 ^ ((b / 2 ^ 52 + 1023) / 2 - 1) * 2 ^ ((b / 2 ^ 52 + 1023) / 2 - 1))
 squared-unit b l =
     let E = b / 2 ^ 52 in
     let m = 2 ^ 52 + b % 2 ^ 52 in
@@ -122,11 +122,11 @@ module _ (v : Float) (F : T (fits binary64 v)) (N : T (normal v)) where
     pub n-high : n < 2 ^ 53
     pub A : ℕ
     pub v-value : HasValue v false A U
-    pub r-value : HasValue (rootOf v) false (n * 2 ^ k) U
+    pub r-value : HasValue (root_of v) false (n * 2 ^ k) U
     pub unit : A * U ≡ M * (2 ^ k * 2 ^ k)
 
   pub facts : Facts
-  unfolding rootOf
+  unfolding root_of
   facts =
       let b = to_bits binary64 v in
       let rg = pattern-range v F N in
@@ -134,12 +134,12 @@ module _ (v : Float) (F : T (fits binary64 v)) (N : T (normal v)) where
       let h = mv.0 in
       let m = mv.1 in
       let M = h * 2 ^ 52 in
-      let n = nearestWhole M in
+      let n = nearest_whole M in
       let p : NearestWhole M n = nearest-whole M (lt_of_lt_of_le (lit< tt) (wide_low h m.low)) (under128 M (wide_high h m.high)) in
       let r = found-range b h n m p in
       let nr = found-normal b n rg.0 rg.1 r.0 r.1 in
       let x = (b / 2 ^ 52 + 1023) / 2 * 2 ^ 52 + (n - 2 ^ 52) in
-      let e : x ≡ rootBits b = found b h n m p in
+      let e : x ≡ root_bits b = found b h n m p in
       record {
         M = M;
         n = n;
@@ -148,16 +148,16 @@ module _ (v : Float) (F : T (fits binary64 v)) (N : T (normal v)) where
         M-low = wide_low h m.low;
         n-low = r.0;
         n-high = r.1;
-        A = unitsOf b;
-        v-value = subst (λ (z : Float). HasValue z false (unitsOf b) U) (of_bits-to_bits binary64 v F) (pattern-value b rg.0 rg.1);
+        A = units_of b;
+        v-value = subst (λ (z : Float). HasValue z false (units_of b) U) (of_bits-to_bits binary64 v F) (pattern-value b rg.0 rg.1);
         r-value = subst (λ (z : ℕ). HasValue (of_bits binary64 z) false (n * 2 ^ ((b / 2 ^ 52 + 1023) / 2 - 1)) U) e
             (subst (λ (z : ℕ). HasValue (of_bits binary64 x) false z U) (root-value ((b / 2 ^ 52 + 1023) / 2) n r.0 r.1) (pattern-value x nr.0 nr.1));
         unit = squared-unit b rg.0 ∙ ap (λ (z : ℕ). z * (2 ^ ((b / 2 ^ 52 + 1023) / 2 - 1) * 2 ^ ((b / 2 ^ 52 + 1023) / 2 - 1))) (sym m.wide);
       }
 
-  root-held : T (fits binary64 (rootOf v))
-  unfolding rootOf
-  root-held = of_bits-fits binary64 (rootBits (to_bits binary64 v))
+  root-held : T (fits binary64 (root_of v))
+  unfolding root_of
+  root-held = of_bits-fits binary64 (root_bits (to_bits binary64 v))
 
   smaller : (M n k Y j c : ℕ) → NearestWhole M n → 2 ^ 104 ≤ M → 2 ^ 52 ≤ n → c < 2 ^ 53 → Y ≡ c * 2 ^ j → Y < n * 2 ^ k → (n * 2 ^ k + Y) * (n * 2 ^ k + Y) < 4 * (M * (2 ^ k * 2 ^ k))
   smaller M n k Y j c w ml nl s e l =
@@ -188,23 +188,23 @@ module _ (v : Float) (F : T (fits binary64 v)) (N : T (normal v)) where
       let l' : n < q = lt-of-times n q K (lt_of_lt_of_le l (le_of_eq f)) in
       subst (λ (z : ℕ). 4 * (M * (K * K)) < (n * K + z) * (n * K + z)) (sym f) (square_above M n q K (pow_pos k) w (omega arith))
 
-  pub root-nearest : IsNearestRoot v (rootOf v)
+  pub root-nearest : IsNearestRoot v (root_of v)
   root-nearest =
       let t = facts in
       let P = t.n * 2 ^ t.k in
       record {
         is-an-f64 = root-held;
-        finite-plain = value-plain (rootOf v) P U t.r-value;
+        finite-plain = value-plain (root_of v) P U t.r-value;
         not-below = λ y fy py l.
             let c = counted y fy py in
             let Y = c.n * 2 ^ c.j in
-            below_of v (rootOf v) y t.A P Y t.v-value t.r-value c.value
-            (subst (λ (z : ℕ). (P + Y) * (P + Y) < 4 * z) (sym t.unit) (smaller t.M t.n t.k Y c.j c.n t.nearest t.M-low t.n-low c.small refl (cross-lt y (rootOf v) Y P c.value t.r-value l)));
+            below_of v (root_of v) y t.A P Y t.v-value t.r-value c.value
+            (subst (λ (z : ℕ). (P + Y) * (P + Y) < 4 * z) (sym t.unit) (smaller t.M t.n t.k Y c.j c.n t.nearest t.M-low t.n-low c.small refl (cross-lt y (root_of v) Y P c.value t.r-value l)));
         not-above = λ y fy py l.
             let c = counted y fy py in
             let Y = c.n * 2 ^ c.j in
-            above_of v (rootOf v) y t.A P Y t.v-value t.r-value c.value
-            (subst (λ (z : ℕ). 4 * z < (P + Y) * (P + Y)) (sym t.unit) (larger t.M t.n t.k Y c.j c.n t.nearest t.n-low c.small refl (cross-lt (rootOf v) y P Y t.r-value c.value l)));
+            above_of v (root_of v) y t.A P Y t.v-value t.r-value c.value
+            (subst (λ (z : ℕ). 4 * z < (P + Y) * (P + Y)) (sym t.unit) (larger t.M t.n t.k Y c.j c.n t.nearest t.n-low c.small refl (cross-lt (root_of v) y P Y t.r-value c.value l)));
       }
 
 pub root-is-nearest : RootIsNearest

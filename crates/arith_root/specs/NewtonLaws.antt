@@ -4,7 +4,7 @@ use Rattle.std.proofs.Common.{sym, subst, inl, inr, lt_of_lt_of_le, mul_comm, mu
 use Rattle.std.proofs.Math.Decide.{dec_lt}
 use Rattle.std.proofs.lemmas.Bool.{lt-leb}
 use Rattle.std.specs.Float.Ieee.Fits.{and_l, and_r}
-use Rattle.arith_root.specs.RootWords.{isRoot, guessesLeft}
+use Rattle.arith_root.specs.RootWords.{is_root, guesses_left}
 
 pub below_or_not : (i b : ℕ) → (i < b) ⊎ (b ≤ i)
 below_or_not i b = go (dec_lt i b)
@@ -47,8 +47,8 @@ next-above h g p =
 -- ---- guesses at the square root of a number of 53 or 54 bits
 
 -- a guess that has settled is the integer square root
-pub root-so : (h g : ℕ) → isRoot h g ≡ true → (g * g ≤ h) × (h < (g + 1) * (g + 1))
-unfolding isRoot
+pub root-so : (h g : ℕ) → is_root h g ≡ true → (g * g ≤ h) × (h < (g + 1) * (g + 1))
+unfolding is_root
 root-so h g e =
     let b : T (leb (g * g) h && leb (h - g * g) (2 * g)) = subst T (sym e) tt in
     let l : g * g ≤ h = leb→le (g * g) h (and_l (leb (g * g) h) (leb (h - g * g) (2 * g)) b) in
@@ -57,22 +57,22 @@ root-so h g e =
     (l, omega arith)
 
 -- and the integer square root has settled
-so-root : (h g : ℕ) → g * g ≤ h → h < (g + 1) * (g + 1) → isRoot h g ≡ true
-unfolding isRoot
+so-root : (h g : ℕ) → g * g ≤ h → h < (g + 1) * (g + 1) → is_root h g ≡ true
+unfolding is_root
 so-root h g l m =
     let s : (g + 1) * (g + 1) ≡ g * g + 2 * g + 1 = simp (mul-add, add-mul) (omega arith) in
     rw (le-leb (g * g) h l, le-leb (h - g * g) (2 * g) (omega arith))
 
-left-settled : (h g : ℕ) → isRoot h g ≡ true → guessesLeft h g ≡ 0
-unfolding guessesLeft
+left-settled : (h g : ℕ) → is_root h g ≡ true → guesses_left h g ≡ 0
+unfolding guesses_left
 left-settled h g e = rw e
 
-left_below : (h g : ℕ) → isRoot h g ≡ false → g * g ≤ h → guessesLeft h g ≡ 2 ^ 29
-unfolding guessesLeft
+left_below : (h g : ℕ) → is_root h g ≡ false → g * g ≤ h → guesses_left h g ≡ 2 ^ 29
+unfolding guesses_left
 left_below h g e l = rw (e, le-leb (g * g) h l)
 
-left-above : (h g : ℕ) → h < g * g → guessesLeft h g ≡ g
-unfolding guessesLeft isRoot
+left-above : (h g : ℕ) → h < g * g → guesses_left h g ≡ g
+unfolding guesses_left is_root
 left-above h g l = rw (lt-leb (g * g) h l)
 
 module _ (h g : ℕ) (low : 2 ^ 52 ≤ h) (high : h < 2 ^ 54) (gl : 2 ^ 26 ≤ g) (gh : g ≤ 2 ^ 28) where
@@ -94,7 +94,7 @@ module _ (h g : ℕ) (low : 2 ^ 52 ≤ h) (high : h < 2 ^ 54) (gl : 2 ^ 26 ≤ g
           omega (arith, above_root)
 
   -- from a guess that has not settled, below the square root or above it
-  pub next-less : isRoot h g ≡ false → guessesLeft h ((g + h / g) / 2) < guessesLeft h g
+  pub next-less : is_root h g ≡ false → guesses_left h ((g + h / g) / 2) < guesses_left h g
   next-less e = elim (below_or_not h (g * g)) [
     | inl l ↦
         let q : h / g < g = (div-lt_iff_lt-mul {k = g} (omega arith)).1 l in
@@ -102,7 +102,7 @@ module _ (h g : ℕ) (low : 2 ^ 52 ≤ h) (high : h < 2 ^ 54) (gl : 2 ^ 26 ≤ g
     | inr m ↦ omega (arith, left_below h g e m, next-left, next-range.1)
   ]
     where
-      next-left : guessesLeft h ((g + h / g) / 2) ≤ (g + h / g) / 2
+      next-left : guesses_left h ((g + h / g) / 2) ≤ (g + h / g) / 2
       next-left = let n = (g + h / g) / 2 in elim (below_or_not h (n * n)) [
         | inl l ↦ omega (arith, left-above h n l)
         | inr m ↦ omega (arith, left-settled h n (so-root h n m above_root))

@@ -9,13 +9,13 @@ use Rattle.std.specs.Float.Ieee.Digits.{size-le}
 use Rattle.std.specs.Float.Ieee.Fits.{and_l, and_r, down_pos, kept-lt}
 use Rattle.std.specs.Float.Ieee.Exact.{HasValue, odd_sign}
 use Rattle.std.specs.Float.Ieee.Positive.{above, above_of_le, le→cross}
-use Rattle.cdef_spec.specs.Root.{leastNormal}
+use Rattle.cdef_spec.specs.Root.{least_normal}
 use Rattle.arith_root.specs.RootWords.{normal}
 use Rattle.arith_root.specs.NewtonLaws.{below_or_not}
 
 -- the 53-bit significand of a pattern, shifted left by its exponent field less 1
-abbrev pub unitsOf : ℕ → ℕ
-unitsOf b = (2 ^ 52 + b % 2 ^ 52) * 2 ^ (b / 2 ^ 52 - 1)
+abbrev pub units_of : ℕ → ℕ
+units_of b = (2 ^ 52 + b % 2 ^ 52) * 2 ^ (b / 2 ^ 52 - 1)
 
 -- ---- what a pattern stands for
 
@@ -24,16 +24,16 @@ unfolding of_fields
 field-value zero t l u = absurd (omega arith)
 field-value (suc x) t l u = let k : suc x - 1 ≡ x = omega arith in rw (ne_eqb (suc x) 2047 (λ e. omega arith), k)
 
-pub pattern-value : (b : ℕ) → 2 ^ 52 ≤ b → b < 9218868437227405312 → HasValue (of_bits binary64 b) false (unitsOf b) (2 ^ 1074)
+pub pattern-value : (b : ℕ) → 2 ^ 52 ≤ b → b < 9218868437227405312 → HasValue (of_bits binary64 b) false (units_of b) (2 ^ 1074)
 unfolding of_bits
 pattern-value b l u =
     let s : leb (2 ^ 63) b ≡ false = lt-leb (2 ^ 63) b (omega arith) in
     let r : b % 2 ^ 63 ≡ b = mod-eq_of_lt (omega arith) in
     let e : of_fields binary64 (leb (2 ^ 63) b) (b % 2 ^ 63 / 2 ^ 52) (b % 2 ^ 52) ≡ odd 53 false (2 ^ 52 + b % 2 ^ 52) (b / 2 ^ 52 - 1) 1074 = rw (s, r) (field-value (b / 2 ^ 52) (b % 2 ^ 52) (omega arith) (omega arith)) in
-    subst (λ (z : Float). HasValue z false (unitsOf b) (2 ^ 1074)) (sym e) (odd_sign 53 false (2 ^ 52 + b % 2 ^ 52) (b / 2 ^ 52 - 1) 1074)
+    subst (λ (z : Float). HasValue z false (units_of b) (2 ^ 1074)) (sym e) (odd_sign 53 false (2 ^ 52 + b % 2 ^ 52) (b / 2 ^ 52 - 1) 1074)
 
 -- a greater pattern stands for a greater value
-pub value_grows : (b c : ℕ) → 2 ^ 52 ≤ b → b ≤ c → unitsOf b ≤ unitsOf c
+pub value_grows : (b c : ℕ) → 2 ^ 52 ≤ b → b ≤ c → units_of b ≤ units_of c
 value_grows b c l h =
     let x = b / 2 ^ 52 in
     let y = c / 2 ^ 52 in
@@ -76,7 +76,7 @@ high-units d p h = lt_of_lt_of_le (mul-lt-mul_of_pos_right h (pow_pos 1074)) (le
 once : (d p : ℕ) → 1 * 1 * d ≤ p → d ≤ p
 once d p h = omega arith
 
-range : (x : Float) → T (fits binary64 x) → T (above x) → T (le leastNormal x) → T (lt x (inf false)) → Range (to_bits binary64 x)
+range : (x : Float) → T (fits binary64 x) → T (above x) → T (le least_normal x) → T (lt x (inf false)) → Range (to_bits binary64 x)
 unfolding fits to_bits lt
 range nan F a h k = absurd a
 range (inf true) F a h k = absurd a
@@ -85,15 +85,15 @@ range (fin true m e) F a h k = absurd a
 range (fin false zero e) F a h k = absurd a
 range (fin false (suc m) e) F a h k =
     let p = suc m * up e in
-    let lo : down e ≤ p * 2 ^ 1022 = once (down e) (p * 2 ^ 1022) (le→cross leastNormal (fin false (suc m) e) tt a h) in
+    let lo : down e ≤ p * 2 ^ 1022 = once (down e) (p * 2 ^ 1022) (le→cross least_normal (fin false (suc m) e) tt a h) in
     let hi : p < 2 ^ 1024 * down e = ltb→lt p (2 ^ 1024 * down e) (and_r (eqb (suc m % 2) 1 && ltb (suc m) (2 ^ 53) && leb (down e) (2 ^ 1074)) (ltb p (2 ^ 1024 * down e)) F) in
     units-range (p * 2 ^ 1074 / down e) ((le-div_iff_mul-le (down_pos e)).1 (low-units (down e) p lo)) ((div-lt_iff_lt-mul (down_pos e)).1 (high-units (down e) p hi))
 
 above_zero : (x : Float) → T (normal x) → T (above x)
-above_zero x N = above_of_le leastNormal x tt (and_l (le leastNormal x) (lt x (inf false)) N)
+above_zero x N = above_of_le least_normal x tt (and_l (le least_normal x) (lt x (inf false)) N)
 
 pub pattern-range : (x : Float) → T (fits binary64 x) → T (normal x) → (2 ^ 52 ≤ to_bits binary64 x) × (to_bits binary64 x < 9218868437227405312)
-pattern-range x F N = range x F (above_zero x N) (and_l (le leastNormal x) (lt x (inf false)) N) (and_r (le leastNormal x) (lt x (inf false)) N)
+pattern-range x F N = range x F (above_zero x N) (and_l (le least_normal x) (lt x (inf false)) N) (and_r (le least_normal x) (lt x (inf false)) N)
 
 -- ---- no NaN
 
@@ -114,4 +114,4 @@ value-no-nan (fin s m e) a c h = tt
 
 -- the pattern of a normal number is none of a NaN
 pub pattern-no-nan : (p : ℕ) → 2 ^ 52 ≤ p → p < 9218868437227405312 → T (not (nan_bits binary64 p))
-pattern-no-nan p lo hi = subst (λ (t : Bool). T (not t)) (sym (nan_bits_is binary64 p)) (value-no-nan (of_bits binary64 p) (unitsOf p) (2 ^ 1074) (pattern-value p lo hi))
+pattern-no-nan p lo hi = subst (λ (t : Bool). T (not t)) (sym (nan_bits_is binary64 p)) (value-no-nan (of_bits binary64 p) (units_of p) (2 ^ 1074) (pattern-value p lo hi))

@@ -1,9 +1,9 @@
--- `nearestWhole` is the one whole number nearest to the square root, and `rootBits` the pattern of a number that is not subnormal.
+-- `nearest_whole` is the one whole number nearest to the square root, and `root_bits` the pattern of a number that is not subnormal.
 use Rattle.std.specs.Prelude.{◌≡◌, refl, ℕ, zero, suc, ◌+◌, ◌-◌, ◌*◌, ◌/◌, ◌%◌, ◌^◌, ◌≤◌, ◌<◌, Bool, true, false, not, cond, T, ltb}
 use Rattle.std.proofs.Common.{sym, ap, ◌∙◌, subst, inl, inr, le_trans, le_of_eq, lt_of_lt_of_le, lt_of_le_of_lt, add_assoc, mul-add, add-mul, le-add_right, mul-le-mul_left, mul-le-mul_right, two-mul, arith, leb→le, ltb→lt, nltb→le, lit<}
 use Rattle.std.proofs.Math.Nat.{pow-succ'}
 use Rattle.std.proofs.Math.Dec.{nleb→lt}
-use Rattle.cdef_spec.specs.Root.{fitsBit, bitRoot, upOrNot, nearestWhole, rootBits}
+use Rattle.cdef_spec.specs.Root.{fits_bit, bit_root, up_or_not, nearest_whole, root_bits}
 use Rattle.arith_root.specs.RootWords.{NearestWhole}
 use Rattle.arith_root.specs.NewtonLaws.{below_or_not}
 
@@ -27,25 +27,25 @@ one-nearest M n n' p q =
       | inr h ↦ elim (below_or_not n' n) [ inl l ↦ absurd (apart M n' n q p l) | inr g ↦ omega arith ]
     ]
 
--- ---- and `nearestWhole` is one
+-- ---- and `nearest_whole` is one
 abbrev Whole : ℕ → ℕ → Type 0
 Whole M r = (r * r ≤ M) × (M < (r + 1) * (r + 1))
 
-bit-root : (k : ℕ) (b : Bool) (r M : ℕ) → b ≡ fitsBit k r M → r * r ≤ M → M < (r + 2 ^ k) * (r + 2 ^ k) → Whole M (bitRoot k b r M)
-unfolding bitRoot fitsBit
+bit-root : (k : ℕ) (b : Bool) (r M : ℕ) → b ≡ fits_bit k r M → r * r ≤ M → M < (r + 2 ^ k) * (r + 2 ^ k) → Whole M (bit_root k b r M)
+unfolding bit_root fits_bit
 bit-root zero b r M e l u = (l, u)
 bit-root (suc k) true r M e l u =
-    bit-root k (fitsBit k (r + 2 ^ k) M) (r + 2 ^ k) M refl (leb→le ((r + 2 ^ k) * (r + 2 ^ k)) M (subst T e tt)) (subst (λ (z : ℕ). M < z * z) twice u)
+    bit-root k (fits_bit k (r + 2 ^ k) M) (r + 2 ^ k) M refl (leb→le ((r + 2 ^ k) * (r + 2 ^ k)) M (subst T e tt)) (subst (λ (z : ℕ). M < z * z) twice u)
   where
     twice : r + 2 ^ suc k ≡ r + 2 ^ k + 2 ^ k
     twice = ap (λ (z : ℕ). r + z) (pow-succ' 2 k ∙ two-mul (2 ^ k)) ∙ sym (add_assoc r (2 ^ k) (2 ^ k))
-bit-root (suc k) false r M e l u = bit-root k (fitsBit k r M) r M refl l (nleb→lt ((r + 2 ^ k) * (r + 2 ^ k)) M (subst (λ (t : Bool). T (not t)) e tt))
+bit-root (suc k) false r M e l u = bit-root k (fits_bit k r M) r M refl l (nleb→lt ((r + 2 ^ k) * (r + 2 ^ k)) M (subst (λ (t : Bool). T (not t)) e tt))
 
-pub nearest-whole : (M : ℕ) → 0 < M → M < 2 ^ 128 → NearestWhole M (nearestWhole M)
-unfolding nearestWhole upOrNot
+pub nearest-whole : (M : ℕ) → 0 < M → M < 2 ^ 128 → NearestWhole M (nearest_whole M)
+unfolding nearest_whole up_or_not
 nearest-whole M p h =
-    let r = bitRoot 64 (fitsBit 64 0 M) 0 M in
-    let w : Whole M r = bit-root 64 (fitsBit 64 0 M) 0 M refl (omega arith) h in
+    let r = bit_root 64 (fits_bit 64 0 M) 0 M in
+    let w : Whole M r = bit-root 64 (fits_bit 64 0 M) 0 M refl (omega arith) h in
     go r w (ltb (r * r + r) M) (ltb→lt (r * r + r) M) (nltb→le (r * r + r) M)
   where
     go : (r : ℕ) → Whole M r → (t : Bool) → (T t → r * r + r < M) → (T (not t) → M ≤ r * r + r) → NearestWhole M (cond t (r + 1) r)
@@ -73,7 +73,7 @@ many P M n pp h m a =
     let u : 1 * d ≤ P * d = mul-le-mul_right d pp in
     omega arith
 
--- ---- the square root of a number of 105 or 106 bits, as `rootBits` has it, has 53
+-- ---- the square root of a number of 105 or 106 bits, as `root_bits` has it, has 53
 pub root-range : (M n : ℕ) → 2 ^ 104 ≤ M → M + 2 ^ 53 ≤ 2 ^ 106 → NearestWhole M n → (2 ^ 52 ≤ n) × (n < 2 ^ 53)
 root-range M n lo hi p = (
   elim (below_or_not n (2 ^ 52)) [ inl l ↦ absurd (few l) | inr h ↦ h ],
@@ -138,11 +138,11 @@ found-range b h n m p = root-range (h * 2 ^ 52) n (wide_low h m.low) (wide_high 
 pub under128 : (M : ℕ) → M + 2 ^ 53 ≤ 2 ^ 106 → M < 2 ^ 128
 under128 M h = lt_of_le_of_lt (le_trans (le-add_right M (2 ^ 53)) h) (lit< tt)
 
-pub found : (b h n : ℕ) → Moved b h → NearestWhole (h * 2 ^ 52) n → (b / 2 ^ 52 + 1023) / 2 * 2 ^ 52 + (n - 2 ^ 52) ≡ rootBits b
-unfolding rootBits
+pub found : (b h n : ℕ) → Moved b h → NearestWhole (h * 2 ^ 52) n → (b / 2 ^ 52 + 1023) / 2 * 2 ^ 52 + (n - 2 ^ 52) ≡ root_bits b
+unfolding root_bits
 found b h n m p =
-    let e : n ≡ nearestWhole (h * 2 ^ 52) = one-nearest (h * 2 ^ 52) n (nearestWhole (h * 2 ^ 52)) p (nearest-whole (h * 2 ^ 52) (lt_of_lt_of_le (lit< tt) (wide_low h m.low)) (under128 (h * 2 ^ 52) (wide_high h m.high))) in
-    ap (λ (z : ℕ). (b / 2 ^ 52 + 1023) / 2 * 2 ^ 52 + (z - 2 ^ 52)) (e ∙ ap nearestWhole m.wide)
+    let e : n ≡ nearest_whole (h * 2 ^ 52) = one-nearest (h * 2 ^ 52) n (nearest_whole (h * 2 ^ 52)) p (nearest-whole (h * 2 ^ 52) (lt_of_lt_of_le (lit< tt) (wide_low h m.low)) (under128 (h * 2 ^ 52) (wide_high h m.high))) in
+    ap (λ (z : ℕ). (b / 2 ^ 52 + 1023) / 2 * 2 ^ 52 + (z - 2 ^ 52)) (e ∙ ap nearest_whole m.wide)
 
 -- and the pattern that it makes is a normal value's
 pub found-normal : (b n : ℕ) → 2 ^ 52 ≤ b → b < 9218868437227405312 → 2 ^ 52 ≤ n → n < 2 ^ 53 → (2 ^ 52 ≤ (b / 2 ^ 52 + 1023) / 2 * 2 ^ 52 + (n - 2 ^ 52)) × ((b / 2 ^ 52 + 1023) / 2 * 2 ^ 52 + (n - 2 ^ 52) < 9218868437227405312)

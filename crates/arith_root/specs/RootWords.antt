@@ -2,11 +2,11 @@
 use Rattle.std.specs.Prelude.{ℕ, ◌+◌, ◌-◌, ◌*◌, ◌^◌, ◌≤◌, ◌<◌, Bool, false, cond, ◌&&◌, leb, pos, Float}
 use Rattle.std.specs.Float.{inf, fin}
 use Rattle.std.specs.Float.Ieee.{le, lt}
-use Rattle.cdef_spec.specs.Root.{leastNormal}
+use Rattle.cdef_spec.specs.Root.{least_normal}
 
 -- a number that is not subnormal, above 0 and below the infinity
 abbrev pub normal : Float → Bool
-normal v = le leastNormal v && lt v (inf false)
+normal v = le least_normal v && lt v (inf false)
 
 -- 2 ^ 53, up to which every whole number is an f64
 abbrev pub two53 : Float
@@ -18,10 +18,10 @@ pub record NearestWhole (M n : ℕ) : Type 0 where
   pub below : M ≤ n * n + n
 
 -- g is the integer square root of h
-unfoldable pub isRoot : ℕ → ℕ → Bool
-isRoot h g = leb (g * g) h && leb (h - g * g) (2 * g)
+unfoldable pub is_root : ℕ → ℕ → Bool
+is_root h g = leb (g * g) h && leb (h - g * g) (2 * g)
 
 -- the loop's measure, which the next guess lessens: a guess below the square root is followed by one above it, and those decrease; 2 ^ 29 exceeds them all
-unfoldable pub guessesLeft : ℕ → ℕ → ℕ
-unfolding isRoot
-guessesLeft h g = cond (isRoot h g) 0 (cond (leb (g * g) h) (2 ^ 29) g)
+unfoldable pub guesses_left : ℕ → ℕ → ℕ
+unfolding is_root
+guesses_left h g = cond (is_root h g) 0 (cond (leb (g * g) h) (2 ^ 29) g)

@@ -7,7 +7,7 @@ use Rattle.std.specs.Float.Ieee.{up, down, lt, to_unsigned}
 use Rattle.std.specs.Float.Ieee.Fits.{down_pos}
 use Rattle.std.specs.Float.Ieee.Exact.{HasValue}
 use Rattle.std.specs.Float.Ieee.Nearest.{div_same}
-use Rattle.arith_root.specs.PatternLaws.{unitsOf, value_grows}
+use Rattle.arith_root.specs.PatternLaws.{units_of, value_grows}
 use Rattle.arith_root.specs.NewtonLaws.{below_or_not}
 
 -- ---- what a value says of a comparison and of truncation
@@ -36,17 +36,17 @@ truncated-value (fin false m e) a c C v h =
 
 -- ---- the integer part of the value that a pattern b stands for
 -- the exponent field is at most 1075, since x is below 2 ^ 53
-pub field-high : (b : ℕ) → 2 ^ 52 ≤ b → unitsOf b < 2 ^ 53 * 2 ^ 1074 → b < 1076 * 2 ^ 52
+pub field-high : (b : ℕ) → 2 ^ 52 ≤ b → units_of b < 2 ^ 53 * 2 ^ 1074 → b < 1076 * 2 ^ 52
 field-high b l h = elim (below_or_not b (1076 * 2 ^ 52)) [ inl u ↦ u | inr u ↦ absurd (not-le_of_lt h (value_grows (1076 * 2 ^ 52) b (lit≤ tt) u)) ]
 
 -- below 1
-pub none : (b : ℕ) → 2 ^ 52 ≤ b → b / 2 ^ 52 < 1023 → unitsOf b / 2 ^ 1074 ≡ 0
+pub none : (b : ℕ) → 2 ^ 52 ≤ b → b / 2 ^ 52 < 1023 → units_of b / 2 ^ 1074 ≡ 0
 none b l h =
     let m : 2 ^ 52 + b % 2 ^ 52 < 2 ^ 53 = omega arith in
     div-eq_of_lt (lt_of_lt_of_le (shl_lt 53 (b / 2 ^ 52 - 1) m) (pow_mono {i = 53 + (b / 2 ^ 52 - 1)} {j = 1074} (omega arith)))
 
 -- from 1 on
-pub some : (b : ℕ) → 2 ^ 52 ≤ b → b / 2 ^ 52 ≤ 1075 → unitsOf b / 2 ^ 1074 ≡ (2 ^ 52 + b % 2 ^ 52) / 2 ^ (1075 - b / 2 ^ 52)
+pub some : (b : ℕ) → 2 ^ 52 ≤ b → b / 2 ^ 52 ≤ 1075 → units_of b / 2 ^ 1074 ≡ (2 ^ 52 + b % 2 ^ 52) / 2 ^ (1075 - b / 2 ^ 52)
 some b l h =
     let x = b / 2 ^ 52 in
     let m = 2 ^ 52 + b % 2 ^ 52 in

@@ -9,7 +9,7 @@ use Rattle.std.specs.Float.Ieee.{up, down, fits}
 use Rattle.std.specs.Float.Ieee.Fits.{and_l, and_r}
 use Rattle.std.specs.Float.Ieee.Exact.{HasValue}
 use Rattle.std.specs.Float.Ieee.Positive.{num, den, den_pos, value→cross}
-use Rattle.cdef_spec.specs.Root.{plain, sumNum, sumDen}
+use Rattle.cdef_spec.specs.Root.{plain, sum_num, sum_den}
 use Rattle.arith_root.specs.NewtonLaws.{below_or_not}
 use Rattle.arith_root.specs.FloatLaws.{U, U_pos}
 
@@ -54,7 +54,7 @@ cross-lt x y a b h k l =
 
 -- ---- the squares, from units to fractions
 module _ (v r y : Float) (A P Y : ℕ) (hv : HasValue v false A U) (hr : HasValue r false P U) (hy : HasValue y false Y U) where
-  sum_is : sumNum r y * U ≡ (P + Y) * sumDen r y
+  sum_is : sum_num r y * U ≡ (P + Y) * sum_den r y
   sum_is =
       let p : num r * U ≡ P * den r = value→cross r P U hr in
       let q : num y * U ≡ Y * den y = value→cross y Y U hy in
@@ -64,22 +64,22 @@ module _ (v r y : Float) (A P Y : ℕ) (hv : HasValue v false A U) (hr : HasValu
 
   -- what both sides are multiplied by
   weight : ℕ
-  weight = sumDen r y * sumDen r y * den v
+  weight = sum_den r y * sum_den r y * den v
 
   weight-pos : 0 < weight
   unfolding weight
   weight-pos = mul-pos (mul-pos (mul-pos (den_pos r) (den_pos y)) (mul-pos (den_pos r) (den_pos y))) (den_pos v)
 
-  left : sumNum r y * sumNum r y * den v * (U * U) ≡ (P + Y) * (P + Y) * weight
+  left : sum_num r y * sum_num r y * den v * (U * U) ≡ (P + Y) * (P + Y) * weight
   unfolding weight
   left =
-      mul_right_comm (sumNum r y * sumNum r y) (den v) (U * U)
-      ∙ ap (λ (z : ℕ). z * den v) (mul-mul-mul_comm (sumNum r y) (sumNum r y) U U ∙ ap (λ (z : ℕ). z * (sumNum r y * U)) sum_is ∙ ap (λ (z : ℕ). (P + Y) * sumDen r y * z) sum_is ∙ mul-mul-mul_comm (P + Y) (sumDen r y) (P + Y) (sumDen r y))
-      ∙ mul_assoc ((P + Y) * (P + Y)) (sumDen r y * sumDen r y) (den v)
+      mul_right_comm (sum_num r y * sum_num r y) (den v) (U * U)
+      ∙ ap (λ (z : ℕ). z * den v) (mul-mul-mul_comm (sum_num r y) (sum_num r y) U U ∙ ap (λ (z : ℕ). z * (sum_num r y * U)) sum_is ∙ ap (λ (z : ℕ). (P + Y) * sum_den r y * z) sum_is ∙ mul-mul-mul_comm (P + Y) (sum_den r y) (P + Y) (sum_den r y))
+      ∙ mul_assoc ((P + Y) * (P + Y)) (sum_den r y * sum_den r y) (den v)
 
-  right : 4 * num v * (sumDen r y * sumDen r y) * (U * U) ≡ 4 * (A * U) * weight
+  right : 4 * num v * (sum_den r y * sum_den r y) * (U * U) ≡ 4 * (A * U) * weight
   unfolding weight
-  right = regroup (num v) (sumDen r y * sumDen r y) U A (den v) (value→cross v A U hv)
+  right = regroup (num v) (sum_den r y * sum_den r y) U A (den v) (value→cross v A U hv)
     where
       regroup : (n o u a d : ℕ) → n * u ≡ a * d → 4 * n * o * (u * u) ≡ 4 * (a * u) * (o * d)
       regroup n o u a d e =
@@ -87,8 +87,8 @@ module _ (v r y : Float) (A P Y : ℕ) (hv : HasValue v false A U) (hr : HasValu
           let z : 4 * (a * d) * (u * o) ≡ 4 * (a * u) * (o * d) = simp (mul_assoc, mul_comm, mul_left_comm) in
           x ∙ ap (λ (w : ℕ). 4 * w * (u * o)) e ∙ z
 
-  pub below_of : (P + Y) * (P + Y) < 4 * (A * U) → sumNum r y * sumNum r y * den v < 4 * num v * (sumDen r y * sumDen r y)
+  pub below_of : (P + Y) * (P + Y) < 4 * (A * U) → sum_num r y * sum_num r y * den v < 4 * num v * (sum_den r y * sum_den r y)
   below_of l = lt_of_mul-lt-mul_right (U * U) (lt_of_le_of_lt (le_of_eq left) (lt_of_lt_of_le (mul-lt-mul_of_pos_right l weight-pos) (le_of_eq (sym right))))
 
-  pub above_of : 4 * (A * U) < (P + Y) * (P + Y) → 4 * num v * (sumDen r y * sumDen r y) < sumNum r y * sumNum r y * den v
+  pub above_of : 4 * (A * U) < (P + Y) * (P + Y) → 4 * num v * (sum_den r y * sum_den r y) < sum_num r y * sum_num r y * den v
   above_of l = lt_of_mul-lt-mul_right (U * U) (lt_of_le_of_lt (le_of_eq right) (lt_of_lt_of_le (mul-lt-mul_of_pos_right l weight-pos) (le_of_eq (sym left))))

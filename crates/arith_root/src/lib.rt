@@ -1,8 +1,8 @@
 // The square root of an f64, computed in whole numbers, and the truncation of an f64 to a whole number.
 ghost use Rattle.std.specs.Prelude.{◌≡◌, ◌+◌, ◌*◌, ◌^◌, ◌<◌, ◌≤◌, T};
 ghost use Rattle.std.specs.Float.Ieee as Ieee;
-ghost use Rattle.cdef_spec.specs.Root.{rootOf, IsNearestRoot};
-ghost use Rattle.arith_root.specs.RootWords.{NearestWhole, isRoot, normal, two53};
+ghost use Rattle.cdef_spec.specs.Root.{root_of, IsNearestRoot};
+ghost use Rattle.arith_root.specs.RootWords.{NearestWhole, is_root, normal, two53};
 
 // The first 27 bits of the significand of s, where it is 1 or more.
 fn leading(s: f64) -> u64
@@ -37,7 +37,7 @@ fn first_guess(h: u64) -> u64
 // Whether g is the integer square root of h.
 fn settled(h: u64, g: u64) -> bool
     requires { g ≤ 2 ^ 28 }
-    ensures { result ≡ isRoot h g }
+    ensures { result ≡ is_root h g }
 {
     if h < g * g {
         return false;
@@ -78,7 +78,7 @@ fn wide_root(h: u64) -> u64
 // field is even, the square root of that shifted left by 52, and half the exponent.
 pub fn root(v: f64) -> f64
     requires { T (normal v) }
-    ensures { (result ≡ rootOf v) × IsNearestRoot v result }
+    ensures { (result ≡ root_of v) × IsNearestRoot v result }
 {
     let b = f64::to_bits(v);
     let field = b / 0x10_0000_0000_0000;

@@ -9,7 +9,7 @@ use lib.Dec.{ltb}
 use lib.IntN.{ℤ, pos, negsuc, neg_ℤ, nat_abs, ◌+ℤ◌, ◌-ℤ◌, ◌*ℤ◌, +ℤ_idl}
 use lib.Signed.{lt_z, shr_z}
 use Rattle.cdef_spec.specs.SignedLaws.{size-add, size_scale}
-use Rattle.arith_sample.specs.Sample.{movedOf, overOf}
+use Rattle.arith_sample.specs.Sample.{moved_of, over_of}
 use Rattle.arith_sample.specs.SampleLaws.{moved-neg, moved-pos}
 use mir.Syntax.{w16}
 use mir.Val.{SFits, to_z, of_z}
@@ -110,15 +110,15 @@ module _ (c g : ℕ) (z : ℤ) (hc : c ≤ 16384) (hg : g ≤ 8) (hz : nat_abs z
   pub moved_back : to_z w16 (of_z w16 (to_z w16 c +ℤ to_z w16 (of_z w16 (shr_z (to_z w16 (of_z w16 (to_z w16 (of_z w16 z) +ℤ to_z w16 g))) 16)))) ≡ pos c +ℤ shr_z (z +ℤ pos g) 16
   moved_back = rw moved-is (back (pos c +ℤ shr_z (z +ℤ pos g) 16) moved-small)
 
-pub size-moved : (c : ℕ) (z : ℤ) → nat_abs (movedOf c z) ≤ c + nat_abs z + 8
+pub size-moved : (c : ℕ) (z : ℤ) → nat_abs (moved_of c z) ≤ c + nat_abs z + 8
 size-moved c z = go (lt_z z (pos 0)) refl
   where
-    go : (t : Bool) → lt_z z (pos 0) ≡ t → nat_abs (movedOf c z) ≤ c + nat_abs z + 8
+    go : (t : Bool) → lt_z z (pos 0) ≡ t → nat_abs (moved_of c z) ≤ c + nat_abs z + 8
     go true e = rw (moved-neg c z e) (omega (arith, size-add (pos c) (shr_z (z +ℤ pos 7) 16), size-shr (z +ℤ pos 7) 16, size-add z (pos 7)))
     go false e = rw (moved-pos c z e) (omega (arith, size-add (pos c) (shr_z (z +ℤ pos 8) 16), size-shr (z +ℤ pos 8) 16, size-add z (pos 8)))
 
-pub size-over : (z : ℤ) (lo m : ℕ) → nat_abs z ≤ m → lo ≤ m → nat_abs (overOf z lo) ≤ m
-unfolding overOf
+pub size-over : (z : ℤ) (lo m : ℕ) → nat_abs z ≤ m → lo ≤ m → nat_abs (over_of z lo) ≤ m
+unfolding over_of
 size-over z lo m h k = go (lt_z z (pos lo))
   where
     go : (t : Bool) → nat_abs (cond t (pos lo) z) ≤ m

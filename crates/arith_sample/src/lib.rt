@@ -1,7 +1,7 @@
 // One sample of the filter: its taps unsigned, their sums 16-bit signed numbers.
 ghost use Rattle.std.specs.Prelude.{◌≡◌, ℕ, ◌+◌, ◌-◌, ◌*◌, ◌≤◌, ◌<◌, min, max, nat_abs, pos, ◌+ℤ◌, ◌-ℤ◌, ◌*ℤ◌};
 ghost use Rattle.std.specs.Int.Signed.{mag};
-ghost use Rattle.arith_sample.specs.Sample.{conOf, held_of, movedOf, overOf, underOf, finishOf, freeOf};
+ghost use Rattle.arith_sample.specs.Sample.{con_of, held_of, moved_of, over_of, under_of, finish_of, free_of};
 
 // The mark, in place of a sample that is not there (RULES, Glossary). It must exceed every sample (they are below 2^12), so that a marked tap is never the least one,
 // and stay so far below 2^15 that a centre plus its rounded sum, at most 1,000 in size, fits an i16.
@@ -60,7 +60,7 @@ pub fn less(s: u16, t: u16) -> u16
 // A tap's constrained difference from the centre: the difference held to what its size leaves of the strength.
 pub fn constrain_tap(p: u16, c: u16, s: u16, sh: u32) -> i16
     requires { (p ≤ 32767) × (c ≤ 32767) × (s ≤ 32767) × (sh ≤ 15) }
-    ensures { result ≡ conOf p c s sh }
+    ensures { result ≡ con_of p c s sh }
 {
     let d = apart(p, c);
     held(d, less(s, magnitude(d) >> sh))
@@ -85,7 +85,7 @@ pub fn scale(k: u16, a: i16) -> i16
 // The centre plus the rounded sum: the sum divided by 16 and rounded to the nearest, halves away from 0.
 pub fn moved(c: u16, sum: i16) -> i16
     requires { (c ≤ 16384) × (nat_abs sum ≤ 16000) }
-    ensures { result ≡ movedOf c sum }
+    ensures { result ≡ moved_of c sum }
 {
     let g = if sum < 0 { 7i16 } else { 8i16 };
     (c as i16) + ((sum + g) >> 4)
@@ -94,7 +94,7 @@ pub fn moved(c: u16, sum: i16) -> i16
 // At least lo.
 pub fn at_least(v: i16, lo: u16) -> i16
     requires { (nat_abs v ≤ 32767) × (lo ≤ 32767) }
-    ensures { result ≡ overOf v lo }
+    ensures { result ≡ over_of v lo }
 {
     if v < (lo as i16) { lo as i16 } else { v }
 }
@@ -102,7 +102,7 @@ pub fn at_least(v: i16, lo: u16) -> i16
 // At most hi.
 pub fn at_most(v: i16, hi: u16) -> i16
     requires { (nat_abs v ≤ 32767) × (hi ≤ 32767) }
-    ensures { result ≡ underOf v hi }
+    ensures { result ≡ under_of v hi }
 {
     if (hi as i16) < v { hi as i16 } else { v }
 }
@@ -110,7 +110,7 @@ pub fn at_most(v: i16, hi: u16) -> i16
 // The centre plus the rounded sum, clipped.
 pub fn clipped(c: u16, sum: i16, lo: u16, hi: u16) -> u16
     requires { (c ≤ 16384) × (nat_abs sum ≤ 16000) × (lo ≤ 16384) × (hi ≤ 16384) }
-    ensures { result ≡ mag (underOf (overOf (movedOf c sum) lo) hi) }
+    ensures { result ≡ mag (under_of (over_of (moved_of c sum) lo) hi) }
 {
     at_most(at_least(moved(c, sum), lo), hi) as u16
 }
@@ -118,7 +118,7 @@ pub fn clipped(c: u16, sum: i16, lo: u16, hi: u16) -> u16
 // The centre plus the rounded sum, at least 0.
 pub fn raised(c: u16, sum: i16) -> u16
     requires { (c ≤ 16384) × (nat_abs sum ≤ 16000) }
-    ensures { result ≡ mag (overOf (movedOf c sum) 0) }
+    ensures { result ≡ mag (over_of (moved_of c sum) 0) }
 {
     at_least(moved(c, sum), 0) as u16
 }
@@ -126,7 +126,7 @@ pub fn raised(c: u16, sum: i16) -> u16
 // The filtered sample; a marked centre is kept.
 pub fn finish(c: u16, sum: i16, lo: u16, hi: u16) -> u16
     requires { (c ≤ 16384) × (nat_abs sum ≤ 16000) × (lo ≤ 16384) × (hi ≤ 16384) }
-    ensures { result ≡ finishOf c sum lo hi }
+    ensures { result ≡ finish_of c sum lo hi }
 {
     let v = clipped(c, sum, lo, hi);
     if c == MARK { c } else { v }
@@ -135,7 +135,7 @@ pub fn finish(c: u16, sum: i16, lo: u16, hi: u16) -> u16
 // The centre plus its rounded sum, not clipped to the taps; a marked centre is kept.
 pub fn free(c: u16, sum: i16) -> u16
     requires { (c ≤ 16384) × (nat_abs sum ≤ 16000) }
-    ensures { result ≡ freeOf c sum }
+    ensures { result ≡ free_of c sum }
 {
     let v = raised(c, sum);
     if c == MARK { c } else { v }

@@ -2,7 +2,7 @@
 use Rattle.std.specs.Prelude.{◌≡◌, Bool, true, false, cond, ℕ, ◌+◌, ◌-◌, ◌*◌, ◌/◌, ◌%◌, ◌^◌, ◌≤◌, min, eqb}
 use Rattle.std.proofs.Common.{mul-le-mul, arith, pow_mono}
 use Rattle.cdef_spec.specs.Words.{◌>>◌}
-use Rattle.cdef_spec.specs.Standard.{FloorLog2, adjustPri}
+use Rattle.cdef_spec.specs.Standard.{floor_log2, adjust_pri}
 
 -- a strength up to 15, shifted by depth - 8, is at most 240 and fits
 pub limit-low : (n d : ℕ) → n ≤ 15 → d ≤ 12 → n * 2 ^ (d - 8) ≤ 240
@@ -23,10 +23,10 @@ capped : (b : Bool) (n : ℕ) → cond b 0 (min n 12) ≤ 12
 capped true n = omega arith
 capped false n = omega arith
 
-pub adjust-low : (s v : ℕ) → adjustPri s v ≤ s
-unfolding adjustPri
+pub adjust-low : (s v : ℕ) → adjust_pri s v ≤ s
+unfolding adjust_pri
 adjust-low s v = go (eqb v 0)
   where
-    go : (b : Bool) → cond b 0 ((s * (4 + cond (eqb (v >> 6) 0) 0 (min (FloorLog2 (v >> 6)) 12)) + 8) >> 4) ≤ s
+    go : (b : Bool) → cond b 0 ((s * (4 + cond (eqb (v >> 6) 0) 0 (min (floor_log2 (v >> 6)) 12)) + 8) >> 4) ≤ s
     go true = omega arith
-    go false = weighed s (cond (eqb (v >> 6) 0) 0 (min (FloorLog2 (v >> 6)) 12)) (capped (eqb (v >> 6) 0) (FloorLog2 (v >> 6)))
+    go false = weighed s (cond (eqb (v >> 6) 0) 0 (min (floor_log2 (v >> 6)) 12)) (capped (eqb (v >> 6) 0) (floor_log2 (v >> 6)))

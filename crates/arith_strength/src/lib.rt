@@ -1,13 +1,13 @@
 // The arithmetic of strengths: the base 2 logarithm, constrained differences, the adjusted primary strength. Nothing is validated here.
 ghost use Rattle.std.specs.Prelude.{◌≡◌, ◌≤◌, nat_abs};
-ghost use Rattle.cdef_spec.specs.Standard.{FloorLog2, adjustPri, constrain};
-ghost use Rattle.cdef_spec.specs.CodeForm.{constrainMag};
+ghost use Rattle.cdef_spec.specs.Standard.{floor_log2, adjust_pri, constrain};
+ghost use Rattle.cdef_spec.specs.CodeForm.{constrain_mag};
 
 use cdef_spec::WorkingDamping;
 
 // The index of the highest set bit, 0 for 0.
 pub fn log2_floor(v: u32) -> u32
-    ensures { result ≡ FloorLog2 v }
+    ensures { result ≡ floor_log2 v }
 {
     if v == 0 {
         return 0;
@@ -18,7 +18,7 @@ pub fn log2_floor(v: u32) -> u32
 // The magnitude of a constrained difference of magnitude a.
 pub fn constrain_mag(a: u32, strength: u32, damping: u32) -> u32
     requires { damping ≤ 31 }
-    ensures { result ≡ constrainMag a strength damping }
+    ensures { result ≡ constrain_mag a strength damping }
 {
     if strength == 0 {
         return 0;
@@ -56,7 +56,7 @@ pub fn constrain_spec(diff: i32, strength: u32, damping: WorkingDamping) -> i32
 // The primary strength of a luma block, adjusted by its variance.
 pub fn adjust_pri(pri: u32, var: u32) -> u32
     requires { pri ≤ 65535 }
-    ensures { result ≡ adjustPri pri var }
+    ensures { result ≡ adjust_pri pri var }
 {
     if var == 0 {
         return 0;

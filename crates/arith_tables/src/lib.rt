@@ -1,6 +1,6 @@
 // The standard's tables, each as a function (a constant array would be built anew at each use); the divisors of the direction cost, computed.
 ghost use Rattle.std.specs.Prelude.{◌≡◌, ◌/◌, ◌≤◌, ◌<◌};
-ghost use Rattle.cdef_spec.specs.Standard.{chromaDirection};
+ghost use Rattle.cdef_spec.specs.Standard.{chroma_direction};
 
 // What the direction cost multiplies the squared sum of a line of n samples by. That it is the standard's Div_Table[n] is `DivisorIsStandard` (specs/Divisor.antt).
 pub fn divisor(n: u32) -> u32
@@ -13,7 +13,7 @@ pub fn divisor(n: u32) -> u32
 // Cdef_Uv_Dir: 4:4:4 and 4:2:0 keep the luma direction; 4:2:2 and 4:4:0 have a row each.
 pub fn chroma_direction(sub_x: u8, sub_y: u8, dir: u8) -> u8
     requires { (sub_x < 2) × (sub_y < 2) × (dir < 8) }
-    ensures { result ≡ chromaDirection sub_x sub_y dir }
+    ensures { result ≡ chroma_direction sub_x sub_y dir }
 {
     if sub_x == sub_y {
         return dir;

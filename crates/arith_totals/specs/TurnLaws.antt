@@ -3,8 +3,8 @@ use Rattle.std.specs.Prelude.{◌≡◌, refl, List, [], ◌∷◌, ℕ, ◌+◌
 use Rattle.std.proofs.Common.{sym, ap, ◌∙◌, arith, to_z, of_z, SFits}
 use Rattle.std.specs.Int.{w64}
 use Rattle.std.proofs.lemmas.Int.{to_z-of_z, to_z_pos}
-use Rattle.cdef_spec.specs.LoopForm.{signed, addTurns}
-use Rattle.cdef_spec.specs.TotalLaws.{length-signed, getD-signed, add-signed, length-turns}
+use Rattle.cdef_spec.specs.LoopForm.{signed, add_turns}
+use Rattle.cdef_spec.specs.TotalLaws.{length-signed, get_or-signed, add-signed, length-turns}
 use Rattle.arith_totals.specs.FoldLaws.{turns-none, turns_more}
 use Rattle.arith_totals.specs.TotalBounds.{turns-low}
 use Rattle.arith_totals.specs.Turns.{plain_of, Low}
@@ -29,19 +29,19 @@ pub sum_is : (z : ℤ) (m n : ℕ) → z ≡ pos m → m ≤ 65 * 2 ^ 53 → n <
 sum_is z m n e h k = to_z-of_z w64 _ (sum_fits z m n e h k) ∙ rw (e, to_z-of_z w64 (pos m) (record { sfits = omega arith }), to_z_pos w64 n (omega arith))
 
 module _ (l : List ℤ) (w : Low l) (base : ℕ) (d : ℕ → ℕ) where
-  pub turns-start : l ≡ signed (addTurns (plain_of l) base d 0)
+  pub turns-start : l ≡ signed (add_turns (plain_of l) base d 0)
   turns-start = rw (turns-none (plain_of l) base d) w.is
 
-  module _ (t : ℕ) (m : List ℤ) (e : m ≡ signed (addTurns (plain_of l) base d t)) where
+  module _ (t : ℕ) (m : List ℤ) (e : m ≡ signed (add_turns (plain_of l) base d t)) where
     pub turns-length : length m ≡ length l
     turns-length = ap length e ∙ length-signed _ ∙ length-turns (plain_of l) base d t ∙ sym (ap length w.is ∙ length-signed (plain_of l))
 
     -- a total before its addition
-    pub turn_at : (i : ℕ) → get_or m i (pos 0) ≡ pos (get_or (addTurns (plain_of l) base d t) i 0)
-    turn_at i = rw e (getD-signed _ i)
+    pub turn_at : (i : ℕ) → get_or m i (pos 0) ≡ pos (get_or (add_turns (plain_of l) base d t) i 0)
+    turn_at i = rw e (get_or-signed _ i)
 
-    pub turn_low : ((k : ℕ) → k < t → d k < 2 ^ 53) → (i : ℕ) → get_or (addTurns (plain_of l) base d t) i 0 ≤ 65 * 2 ^ 53
+    pub turn_low : ((k : ℕ) → k < t → d k < 2 ^ 53) → (i : ℕ) → get_or (add_turns (plain_of l) base d t) i 0 ≤ 65 * 2 ^ 53
     turn_low h i = omega (arith, turns-low (plain_of l) base d t (2 ^ 53) (64 * 2 ^ 53) (λ k b. omega (arith, h k b)) w.each i)
 
-    pub turn_more : set m (base + t) (get_or m (base + t) (pos 0) +ℤ pos (d t)) ≡ signed (addTurns (plain_of l) base d (t + 1))
-    turn_more = rw (e, turns_more (plain_of l) base d t) (add-signed (addTurns (plain_of l) base d t) (base + t) (d t))
+    pub turn_more : set m (base + t) (get_or m (base + t) (pos 0) +ℤ pos (d t)) ≡ signed (add_turns (plain_of l) base d (t + 1))
+    turn_more = rw (e, turns_more (plain_of l) base d t) (add-signed (add_turns (plain_of l) base d t) (base + t) (d t))

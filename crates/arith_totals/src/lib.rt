@@ -1,6 +1,6 @@
 // Unit totals as the frame loops build them up: set to zero, and a distance or twelve added; their steps and bounds are laws.
 ghost use Rattle.std.specs.Prelude.{◌≡◌, List, ℕ, ◌+◌, ◌^◌, ◌≤◌, ◌<◌, pos, get_or, length, replicate};
-ghost use Rattle.cdef_spec.specs.LoopForm.{signed, addAt, addTurns};
+ghost use Rattle.cdef_spec.specs.LoopForm.{signed, add_at, add_turns};
 ghost use Rattle.arith_totals.specs.Small.{Small};
 ghost use Rattle.arith_totals.specs.Turns.{plain_of, Low};
 
@@ -16,7 +16,7 @@ pub fn clear_totals(totals: &mut [i64])
 // Adds a distance to the total of unit u.
 pub fn add_at(totals: &mut [i64], u: usize, n: u64)
     requires { (u < length totals.old) × (n < 2 ^ 53) × ((t : List ℕ) × (totals.old ≡ signed t) × Small t) }
-    ensures { (t : List ℕ) → totals.old ≡ signed t → totals.new ≡ signed (addAt t u n) }
+    ensures { (t : List ℕ) → totals.old ≡ signed t → totals.new ≡ signed (add_at t u n) }
 {
     totals[u] = totals[u] + n as i64;
 }
@@ -24,7 +24,7 @@ pub fn add_at(totals: &mut [i64], u: usize, n: u64)
 // Adds twelve distances to twelve totals, from `base` on.
 pub fn add_twelve(totals: &mut [i64], base: usize, distances: [u64; 12])
     requires { (base + 12 ≤ length totals.old) × Low totals.old × ((t : ℕ) → t < 12 → get_or distances t 0 < 2 ^ 53) }
-    ensures { totals.new ≡ signed (addTurns (plain_of totals.old) base (λ t. get_or distances t 0) 12) }
+    ensures { totals.new ≡ signed (add_turns (plain_of totals.old) base (λ t. get_or distances t 0) 12) }
 {
     for t in 0..12usize {
         totals[base + t] = totals[base + t] + distances[t] as i64;

@@ -9,7 +9,7 @@ use Rattle.std.proofs.Math.Dec.{leb, eqb}
 use Rattle.cdef_spec.specs.Words.{every}
 use Rattle.cdef_spec.specs.WordsLaws.{agree}
 use Rattle.cdef_spec.specs.declared.UnitPair.{UnitPair}
-use Rattle.cdef_spec.specs.Document01.{primaries, secondaries, trialPair, index_of, trialNumber, one_of, isTrialPair}
+use Rattle.cdef_spec.specs.Document01.{primaries, secondaries, trial_pair, index_of, trial_number, one_of, is_trial_pair}
 use Rattle.cdef_spec.specs.PairLaws.{trial-of}
 
 -- ---- the pair of a trial number
@@ -22,8 +22,8 @@ secondary-is : (i : ℕ) → i < 3 → i ≡ get_or secondaries i 0
 unfolding every secondaries
 secondary-is = agree 3 (λ i. i) (λ i. get_or secondaries i 0) refl
 
-pub pair_is : (t p : ℕ) → t < 12 → p ≡ cond (eqb (t % 4) 3) 4 (t % 4) → ◌≡◌ {A = UnitPair} (record { primary = p; secondary = t / 4 }) (trialPair t)
-unfolding trialPair
+pub pair_is : (t p : ℕ) → t < 12 → p ≡ cond (eqb (t % 4) 3) 4 (t % 4) → ◌≡◌ {A = UnitPair} (record { primary = p; secondary = t / 4 }) (trial_pair t)
+unfolding trial_pair
 pair_is t p h e = rw (e, primary-is (t % 4) (omega arith), ← secondary-is (t / 4) (omega arith))
 
 -- ---- a pair of the twelve
@@ -34,10 +34,10 @@ and-off false = refl
 
 module _ (p s : ℕ) where
   abbrev test : Bool
-  test = isTrialPair (record { primary = p; secondary = s })
+  test = is_trial_pair (record { primary = p; secondary = s })
 
   no-secondary : 2 < s → false ≡ test
-  unfolding isTrialPair one_of secondaries
+  unfolding is_trial_pair one_of secondaries
   no-secondary h = rw (ne_eqb s 0 (λ e. omega arith), ne_eqb s 1 (λ e. omega arith), ne_eqb s 2 (λ e. omega arith)) (sym (and-off (one_of p primaries)))
 
   second-on : s ≤ 2 → one_of s secondaries ≡ true
@@ -51,11 +51,11 @@ module _ (p s : ℕ) where
       go (suc (suc (suc n))) h = absurd (omega arith)
 
   primary-four : s ≤ 2 → p ≡ 4 → true ≡ test
-  unfolding isTrialPair one_of primaries
+  unfolding is_trial_pair one_of primaries
   primary-four h e = rw (e, second-on h)
 
   primary-low : s ≤ 2 → (p ≡ 4 → ⊥) → leb p 2 ≡ test
-  unfolding isTrialPair one_of primaries
+  unfolding is_trial_pair one_of primaries
   primary-low h n = rw (second-on h, ne_eqb p 4 n) (go p)
     where
       go : (k : ℕ) → leb k 2 ≡ (eqb k 0 || (eqb k 1 || (eqb k 2 || (false || false)))) && true
@@ -68,7 +68,7 @@ module _ (p s : ℕ) where
 
 module _ (p s : ℕ) where
   abbrev number : ℕ
-  number = cond (isTrialPair (record { primary = p; secondary = s })) (trialNumber (record { primary = p; secondary = s })) 12
+  number = cond (is_trial_pair (record { primary = p; secondary = s })) (trial_number (record { primary = p; secondary = s })) 12
 
   second-index : (n : ℕ) → n ≤ 2 → index_of n secondaries ≡ n
   unfolding index_of secondaries
@@ -88,11 +88,11 @@ module _ (p s : ℕ) where
   number-none h = rw (← no-secondary p s h)
 
   pub number-low : s ≤ 2 → p ≤ 2 → s * 4 + p ≡ number
-  unfolding trialNumber
+  unfolding trial_number
   number-low h k = rw (← primary-low p s h (λ e. omega arith), le-leb p 2 k, second-index s h, first-index p k)
 
   pub number-four : s ≤ 2 → p ≡ 4 → s * 4 + 3 ≡ number
-  unfolding trialNumber index_of primaries
+  unfolding trial_number index_of primaries
   number-four h k = rw (← primary-four p s h k, second-index s h, k)
 
   pub number-other : s ≤ 2 → 2 < p → (p ≡ 4 → ⊥) → 12 ≡ number
@@ -100,9 +100,9 @@ module _ (p s : ℕ) where
 
 -- ---- the test
 
-pub is-trial : (p : UnitPair) (n : ℕ) → n ≡ cond (isTrialPair p) (trialNumber p) 12 → leb n 11 ≡ isTrialPair p
-is-trial p n = go (isTrialPair p) refl
+pub is-trial : (p : UnitPair) (n : ℕ) → n ≡ cond (is_trial_pair p) (trial_number p) 12 → leb n 11 ≡ is_trial_pair p
+is-trial p n = go (is_trial_pair p) refl
   where
-    go : (b : Bool) → isTrialPair p ≡ b → n ≡ cond b (trialNumber p) 12 → leb n 11 ≡ b
+    go : (b : Bool) → is_trial_pair p ≡ b → n ≡ cond b (trial_number p) 12 → leb n 11 ≡ b
     go true e h = le-leb n 11 (omega (arith, (trial-of p e).0, h))
     go false e h = lt-leb n 11 (omega (arith, h))

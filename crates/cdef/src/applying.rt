@@ -1,9 +1,9 @@
 // The calls for applying: the snapshot filtered into a destination, each unit with its own pair of the caller's slice.
 // A function that borrows structs is proved by hand, and only gathers them for the covered function next to it.
 ghost use Rattle.std.specs.Prelude.{◌≡◌};
-ghost use Rattle.cdef_spec.specs.Answers.{readAnswer};
-ghost use Rattle.cdef_spec.specs.Picture.{lumaPicture, chromaPicture};
-ghost use Rattle.cdef_spec.specs.FrameCalls.{applyingOutcome};
+ghost use Rattle.cdef_spec.specs.Answers.{read_answer};
+ghost use Rattle.cdef_spec.specs.Picture.{luma_picture, chroma_picture};
+ghost use Rattle.cdef_spec.specs.FrameCalls.{applying_outcome};
 ghost use Rattle.cdef_pairs.specs.Gather.{listed};
 
 use cdef_spec::{Answer, DampingChoice, UnitPair};
@@ -22,8 +22,8 @@ fn apply_luma_of(
     a: [UnitPair; 4096],
     damping: DampingChoice,
 ) -> Answer
-    ensures { applyingOutcome (lumaPicture depth width height skip.now dirs.now vars.now) damping
-        snapshot.now (listed n a) dst.old ≡ record { answer = readAnswer result; plane = dst.new } }
+    ensures { applying_outcome (luma_picture depth width height skip.now dirs.now vars.now) damping
+        snapshot.now (listed n a) dst.old ≡ record { answer = read_answer result; plane = dst.new } }
 {
     let lists = cdef_pairs::lists_of(a);
     let pris = lists.pris;
@@ -60,8 +60,8 @@ fn apply_chroma_of(
     a: [UnitPair; 4096],
     damping: DampingChoice,
 ) -> Answer
-    ensures { applyingOutcome (chromaPicture depth width height sx sy skip.now dirs.now) damping snapshot.now
-        (listed n a) dst.old ≡ record { answer = readAnswer result; plane = dst.new } }
+    ensures { applying_outcome (chroma_picture depth width height sx sy skip.now dirs.now) damping snapshot.now
+        (listed n a) dst.old ≡ record { answer = read_answer result; plane = dst.new } }
 {
     let lists = cdef_pairs::lists_of(a);
     let pris = lists.pris;
@@ -97,8 +97,8 @@ pub fn apply_luma(
     pairs: &[UnitPair],
     damping: DampingChoice,
 ) -> Answer
-    ensures { applyingOutcome (lumaPicture depth width height skip.now dirs.now vars.now) damping
-        snapshot.now pairs.now dst.old ≡ record { answer = readAnswer result; plane = dst.new } }
+    ensures { applying_outcome (luma_picture depth width height skip.now dirs.now vars.now) damping
+        snapshot.now pairs.now dst.old ≡ record { answer = read_answer result; plane = dst.new } }
 {
     apply_luma_of(
         dst,
@@ -129,8 +129,8 @@ pub fn apply_chroma(
     pairs: &[UnitPair],
     damping: DampingChoice,
 ) -> Answer
-    ensures { applyingOutcome (chromaPicture depth width height sx sy skip.now dirs.now) damping snapshot.now
-        pairs.now dst.old ≡ record { answer = readAnswer result; plane = dst.new } }
+    ensures { applying_outcome (chroma_picture depth width height sx sy skip.now dirs.now) damping snapshot.now
+        pairs.now dst.old ≡ record { answer = read_answer result; plane = dst.new } }
 {
     apply_chroma_of(
         dst,

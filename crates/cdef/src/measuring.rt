@@ -1,8 +1,8 @@
 // The calls for measuring: per unit the total of distances between the original and a plane, filtered with one pair or, with 0, 0, unfiltered.
 ghost use Rattle.std.specs.Prelude.{◌≡◌};
-ghost use Rattle.cdef_spec.specs.Answers.{readAnswer};
-ghost use Rattle.cdef_spec.specs.Picture.{lumaPicture, chromaPicture};
-ghost use Rattle.cdef_spec.specs.FrameCalls.{measuringOutcome};
+ghost use Rattle.cdef_spec.specs.Answers.{read_answer};
+ghost use Rattle.cdef_spec.specs.Picture.{luma_picture, chroma_picture};
+ghost use Rattle.cdef_spec.specs.FrameCalls.{measuring_outcome};
 
 use cdef_spec::{Answer, DampingChoice, UnitPair, Visible};
 use frame_shape::Frame;
@@ -23,9 +23,9 @@ pub fn measure_luma(
     pair: UnitPair,
     damping: DampingChoice,
 ) -> Answer
-    ensures { measuringOutcome (lumaPicture depth width height skip.now dirs.now vars.now) damping visible
+    ensures { measuring_outcome (luma_picture depth width height skip.now dirs.now vars.now) damping visible
         plane.now original.now pair totals.old scratch.old
-        ≡ record { answer = readAnswer result; totals = totals.new; scratch = scratch.new } }
+        ≡ record { answer = read_answer result; totals = totals.new; scratch = scratch.new } }
 {
     let f = Frame {
         luma: true,
@@ -58,9 +58,9 @@ pub fn measure_chroma(
     pair: UnitPair,
     damping: DampingChoice,
 ) -> Answer
-    ensures { measuringOutcome (chromaPicture depth width height sx sy skip.now dirs.now) damping visible
+    ensures { measuring_outcome (chroma_picture depth width height sx sy skip.now dirs.now) damping visible
         plane.now original.now pair totals.old scratch.old
-        ≡ record { answer = readAnswer result; totals = totals.new; scratch = scratch.new } }
+        ≡ record { answer = read_answer result; totals = totals.new; scratch = scratch.new } }
 {
     let f = Frame {
         luma: false,

@@ -1,7 +1,7 @@
 // The call for the direction pass.
 ghost use Rattle.std.specs.Prelude.{◌≡◌};
-ghost use Rattle.cdef_spec.specs.Answers.{readAnswer};
-ghost use Rattle.cdef_spec.specs.FrameCalls.{directionPassOutcome};
+ghost use Rattle.cdef_spec.specs.Answers.{read_answer};
+ghost use Rattle.cdef_spec.specs.FrameCalls.{direction_pass_outcome};
 
 use cdef_spec::Answer;
 
@@ -14,8 +14,8 @@ pub fn direction_pass(
     height: usize,
     depth: u8,
 ) -> Answer
-    ensures { directionPassOutcome (record { samples = plane.now; width = width; height = height }) depth dirs.old
-        vars.old ≡ record { answer = readAnswer result; dirs = dirs.new; vars = vars.new } }
+    ensures { direction_pass_outcome (record { samples = plane.now; width = width; height = height }) depth dirs.old
+        vars.old ≡ record { answer = read_answer result; dirs = dirs.new; vars = vars.new } }
 {
     let no = check_pass::direction_pass_no(plane, width, height, depth, dirs, vars);
     if no != 0 {

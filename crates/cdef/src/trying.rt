@@ -1,8 +1,8 @@
 // The calls for trying: per unit the totals of distances between the original and the twelve trial blocks.
 ghost use Rattle.std.specs.Prelude.{◌≡◌};
-ghost use Rattle.cdef_spec.specs.Answers.{readAnswer};
-ghost use Rattle.cdef_spec.specs.Picture.{lumaPicture, chromaPicture};
-ghost use Rattle.cdef_spec.specs.FrameCalls.{tryingOutcome};
+ghost use Rattle.cdef_spec.specs.Answers.{read_answer};
+ghost use Rattle.cdef_spec.specs.Picture.{luma_picture, chroma_picture};
+ghost use Rattle.cdef_spec.specs.FrameCalls.{trying_outcome};
 
 use cdef_spec::{Answer, DampingChoice, Visible};
 use frame_shape::Frame;
@@ -21,8 +21,8 @@ pub fn try_luma(
     vars: &[u32],
     damping: DampingChoice,
 ) -> Answer
-    ensures { tryingOutcome (lumaPicture depth width height skip.now dirs.now vars.now) damping visible
-        snapshot.now original.now totals.old ≡ record { answer = readAnswer result; totals = totals.new } }
+    ensures { trying_outcome (luma_picture depth width height skip.now dirs.now vars.now) damping visible
+        snapshot.now original.now totals.old ≡ record { answer = read_answer result; totals = totals.new } }
 {
     let f = Frame {
         luma: true,
@@ -53,8 +53,8 @@ pub fn try_chroma(
     dirs: &[u8],
     damping: DampingChoice,
 ) -> Answer
-    ensures { tryingOutcome (chromaPicture depth width height sx sy skip.now dirs.now) damping visible
-        snapshot.now original.now totals.old ≡ record { answer = readAnswer result; totals = totals.new } }
+    ensures { trying_outcome (chroma_picture depth width height sx sy skip.now dirs.now) damping visible
+        snapshot.now original.now totals.old ≡ record { answer = read_answer result; totals = totals.new } }
 {
     let f = Frame {
         luma: false,

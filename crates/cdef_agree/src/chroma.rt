@@ -1,9 +1,9 @@
 // Trying, applying and measuring in a chroma plane, and the agreement of their totals.
 ghost use Rattle.std.specs.Prelude.{◌≡◌, true};
-ghost use Rattle.cdef_spec.specs.Picture.{chromaPicture};
+ghost use Rattle.cdef_spec.specs.Picture.{chroma_picture};
 ghost use Rattle.cdef_pairs.specs.Gather.{listed};
 ghost use Rattle.cdef_spec.specs.Demand3.{Agrees};
-ghost use Rattle.agree_lists.specs.Agree.{isAgreed, agreeOutcome};
+ghost use Rattle.agree_lists.specs.Agree.{is_agreed, agree_outcome};
 
 use agree_lists::Agreement;
 use cdef_spec::{DampingChoice, UnitPair, Visible};
@@ -28,7 +28,7 @@ fn agree_chroma_of(
     a: [UnitPair; 4096],
     damping: DampingChoice,
 ) -> Agreement
-    ensures { agreeOutcome (chromaPicture depth width height sx sy skip.now dirs.now) damping visible
+    ensures { agree_outcome (chroma_picture depth width height sx sy skip.now dirs.now) damping visible
         snapshot.now original.now (listed n a) tried.old dst.old measured.old
         scratch.old ≡ record {
           answer = result;
@@ -84,7 +84,7 @@ pub fn agree_chroma(
     pairs: &[UnitPair],
     damping: DampingChoice,
 ) -> Agreement
-    ensures { (agreeOutcome (chromaPicture depth width height sx sy skip.now dirs.now) damping visible
+    ensures { (agree_outcome (chroma_picture depth width height sx sy skip.now dirs.now) damping visible
         snapshot.now original.now pairs.now tried.old dst.old measured.old
         scratch.old ≡ record {
           answer = result;
@@ -93,7 +93,7 @@ pub fn agree_chroma(
           measured = measured.new;
           scratch
               = scratch.new;
-        }) × (isAgreed result ≡ true → Agrees (chromaPicture depth width height sx sy skip.now dirs.now)
+        }) × (is_agreed result ≡ true → Agrees (chroma_picture depth width height sx sy skip.now dirs.now)
         pairs.now tried.new measured.new) }
 {
     agree_chroma_of(

@@ -1,9 +1,9 @@
 // Trying, applying and measuring in luma, and the agreement of their totals.
 ghost use Rattle.std.specs.Prelude.{◌≡◌, true};
-ghost use Rattle.cdef_spec.specs.Picture.{lumaPicture};
+ghost use Rattle.cdef_spec.specs.Picture.{luma_picture};
 ghost use Rattle.cdef_pairs.specs.Gather.{listed};
 ghost use Rattle.cdef_spec.specs.Demand3.{Agrees};
-ghost use Rattle.agree_lists.specs.Agree.{isAgreed, agreeOutcome};
+ghost use Rattle.agree_lists.specs.Agree.{is_agreed, agree_outcome};
 
 use agree_lists::Agreement;
 use cdef_spec::{DampingChoice, UnitPair, Visible};
@@ -27,7 +27,7 @@ fn agree_luma_of(
     a: [UnitPair; 4096],
     damping: DampingChoice,
 ) -> Agreement
-    ensures { agreeOutcome (lumaPicture depth width height skip.now dirs.now vars.now) damping visible
+    ensures { agree_outcome (luma_picture depth width height skip.now dirs.now vars.now) damping visible
         snapshot.now original.now (listed n a) tried.old dst.old measured.old
         scratch.old ≡ record {
           answer = result;
@@ -82,7 +82,7 @@ pub fn agree_luma(
     pairs: &[UnitPair],
     damping: DampingChoice,
 ) -> Agreement
-    ensures { (agreeOutcome (lumaPicture depth width height skip.now dirs.now vars.now) damping visible
+    ensures { (agree_outcome (luma_picture depth width height skip.now dirs.now vars.now) damping visible
         snapshot.now original.now pairs.now tried.old dst.old measured.old
         scratch.old ≡ record {
           answer = result;
@@ -91,8 +91,8 @@ pub fn agree_luma(
           measured = measured.new;
           scratch
               = scratch.new;
-        }) × (isAgreed result ≡ true
-        → Agrees (lumaPicture depth width height skip.now dirs.now vars.now) pairs.now
+        }) × (is_agreed result ≡ true
+        → Agrees (luma_picture depth width height skip.now dirs.now vars.now) pairs.now
         tried.new measured.new) }
 {
     agree_luma_of(

@@ -1,7 +1,7 @@
 // The call for the direction of a block.
 ghost use Rattle.std.specs.Prelude.{◌≡◌};
-ghost use Rattle.cdef_spec.specs.Answers.{readDirection};
-ghost use Rattle.cdef_spec.specs.BlockCalls.{directionOutcome};
+ghost use Rattle.cdef_spec.specs.Answers.{read_direction};
+ghost use Rattle.cdef_spec.specs.BlockCalls.{direction_outcome};
 
 use cdef_spec::DirectionAnswer;
 
@@ -14,7 +14,7 @@ pub fn direction(
     y: usize,
     depth: u8,
 ) -> DirectionAnswer
-    ensures { readDirection result ≡ directionOutcome (record { samples = plane.now; width = width; height = height }) depth y x }
+    ensures { read_direction result ≡ direction_outcome (record { samples = plane.now; width = width; height = height }) depth y x }
 {
     let no = check_block::direction_no(plane, width, height, x, y, depth);
     if no != 0 {

@@ -1,7 +1,7 @@
 // The calls for the distance of two blocks.
 ghost use Rattle.std.specs.Prelude.{◌≡◌};
-ghost use Rattle.cdef_spec.specs.Answers.{readDistance};
-ghost use Rattle.cdef_spec.specs.BlockCalls.{distanceOutcome, squaresOutcome};
+ghost use Rattle.cdef_spec.specs.Answers.{read_distance};
+ghost use Rattle.cdef_spec.specs.BlockCalls.{distance_outcome, squares_outcome};
 
 use cdef_spec::DistanceAnswer;
 
@@ -15,7 +15,7 @@ pub fn distance(
     y: usize,
     depth: u8,
 ) -> DistanceAnswer
-    ensures { readDistance result ≡ distanceOutcome (record { samples = orig.now; width = width; height = height }) other.now
+    ensures { read_distance result ≡ distance_outcome (record { samples = orig.now; width = width; height = height }) other.now
         depth y x }
 {
     let no = check_block::distance::distance_no(orig, other, width, height, x, y, depth);
@@ -37,7 +37,7 @@ pub fn squares(
     y: usize,
     depth: u8,
 ) -> DistanceAnswer
-    ensures { readDistance result ≡ squaresOutcome (record { samples = orig.now; width = width; height = height }) other.now
+    ensures { read_distance result ≡ squares_outcome (record { samples = orig.now; width = width; height = height }) other.now
         depth y x }
 {
     let no = check_block::distance::distance_no(orig, other, width, height, x, y, depth);

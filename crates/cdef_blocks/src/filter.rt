@@ -1,7 +1,7 @@
 // The call for the block filter.
 ghost use Rattle.std.specs.Prelude.{◌≡◌};
-ghost use Rattle.cdef_spec.specs.Answers.{readAnswer};
-ghost use Rattle.cdef_spec.specs.BlockCalls.{filterOutcome};
+ghost use Rattle.cdef_spec.specs.Answers.{read_answer};
+ghost use Rattle.cdef_spec.specs.BlockCalls.{filter_outcome};
 
 use cdef_spec::{Answer, Block, FilterParams};
 
@@ -16,8 +16,8 @@ pub fn filter_block(
     block: Block,
     params: FilterParams,
 ) -> Answer
-    ensures { filterOutcome (record { samples = plane.now; width = width; height = height }) block params y0 dst.old
-        ≡ record { answer = readAnswer result; dst = dst.new } }
+    ensures { filter_outcome (record { samples = plane.now; width = width; height = height }) block params y0 dst.old
+        ≡ record { answer = read_answer result; dst = dst.new } }
 {
     let no = check_block::filter::filter_no(dst, y0, plane, width, height, block, params);
     if no != 0 {

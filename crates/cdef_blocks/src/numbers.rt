@@ -1,7 +1,7 @@
 // The calls on single numbers.
 ghost use Rattle.std.specs.Prelude.{◌≡◌};
-ghost use Rattle.cdef_spec.specs.Answers.{readDifference, readStrength, readDamping, readWorking};
-ghost use Rattle.cdef_spec.specs.BlockCalls.{constrainOutcome, adjustOutcome, dampingOutcome, lumaDampingOutcome, chromaDampingOutcome};
+ghost use Rattle.cdef_spec.specs.Answers.{read_difference, read_strength, read_damping, read_working};
+ghost use Rattle.cdef_spec.specs.BlockCalls.{constrain_outcome, adjust_outcome, damping_outcome, luma_damping_outcome, chroma_damping_outcome};
 
 use cdef_spec::{
     DampingAnswer, DifferenceAnswer, SignalledDamping, StrengthAnswer, WorkingAnswer,
@@ -10,7 +10,7 @@ use cdef_spec::{
 
 // Constrains a difference; the working damping is used as it is, 0 included.
 pub fn constrain(difference: i32, strength: u32, damping: WorkingDamping) -> DifferenceAnswer
-    ensures { readDifference result ≡ constrainOutcome difference strength damping }
+    ensures { read_difference result ≡ constrain_outcome difference strength damping }
 {
     let no = check_numbers::constrain_no(difference, strength, damping);
     if no != 0 {
@@ -21,7 +21,7 @@ pub fn constrain(difference: i32, strength: u32, damping: WorkingDamping) -> Dif
 
 // Adjusts a primary strength by a variance.
 pub fn adjust(strength: u32, variance: u32) -> StrengthAnswer
-    ensures { readStrength result ≡ adjustOutcome strength variance }
+    ensures { read_strength result ≡ adjust_outcome strength variance }
 {
     let no = check_numbers::adjust_no(strength, variance);
     if no != 0 {
@@ -32,7 +32,7 @@ pub fn adjust(strength: u32, variance: u32) -> StrengthAnswer
 
 // The signalled damping of a quality index.
 pub fn damping(index: u32) -> DampingAnswer
-    ensures { readDamping result ≡ dampingOutcome index }
+    ensures { read_damping result ≡ damping_outcome index }
 {
     let no = check_numbers::damping_no(index);
     if no != 0 {
@@ -43,7 +43,7 @@ pub fn damping(index: u32) -> DampingAnswer
 
 // The working damping of a luma plane: the signalled one + depth - 8.
 pub fn luma_damping(signalled: SignalledDamping, depth: u8) -> WorkingAnswer
-    ensures { readWorking result ≡ lumaDampingOutcome signalled depth }
+    ensures { read_working result ≡ luma_damping_outcome signalled depth }
 {
     let no = check_numbers::working_damping_no(signalled, depth);
     if no != 0 {
@@ -54,7 +54,7 @@ pub fn luma_damping(signalled: SignalledDamping, depth: u8) -> WorkingAnswer
 
 // The working damping of a chroma plane: one less than luma's.
 pub fn chroma_damping(signalled: SignalledDamping, depth: u8) -> WorkingAnswer
-    ensures { readWorking result ≡ chromaDampingOutcome signalled depth }
+    ensures { read_working result ≡ chroma_damping_outcome signalled depth }
 {
     let no = check_numbers::working_damping_no(signalled, depth);
     if no != 0 {

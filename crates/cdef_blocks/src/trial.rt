@@ -1,7 +1,7 @@
 // The call for the trial of a block.
 ghost use Rattle.std.specs.Prelude.{◌≡◌};
-ghost use Rattle.cdef_spec.specs.Answers.{readAnswer};
-ghost use Rattle.cdef_spec.specs.BlockCalls.{trialOutcome};
+ghost use Rattle.cdef_spec.specs.Answers.{read_answer};
+ghost use Rattle.cdef_spec.specs.BlockCalls.{trial_outcome};
 
 use cdef_spec::{Answer, Block, TrialWay, WorkingDamping};
 
@@ -18,8 +18,8 @@ pub fn trial(
     damping: WorkingDamping,
     depth: u8,
 ) -> Answer
-    ensures { trialOutcome (record { samples = plane.now; width = width; height = height }) block way dir damping depth
-        out.old ≡ record { answer = readAnswer result; out = out.new } }
+    ensures { trial_outcome (record { samples = plane.now; width = width; height = height }) block way dir damping depth
+        out.old ≡ record { answer = read_answer result; out = out.new } }
 {
     let no = check_block::trial::trial_no(
         out, plane, width, height, block, way, dir, damping, depth,

@@ -2,6 +2,6 @@
 use Rattle.cdef_spec.specs.Answers.{Result, taken, refused}
 
 -- the value where the call is accepted, else the old contents
-unfoldable pub valueOr : {A : Type 0} → A → Result A → A
-valueOr old (taken a) = a
-valueOr old (refused n) = old
+unfoldable pub value_or : {A : Type 0} → A → Result A → A
+value_or old (taken a) = a
+value_or old (refused n) = old

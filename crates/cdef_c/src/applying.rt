@@ -1,8 +1,8 @@
 // The calls for applying; bare numbers become a damping here alone.
 ghost use Rattle.std.specs.Prelude.{◌≡◌};
 ghost use Rattle.cdef_spec.specs.Answers.{number_of};
-ghost use Rattle.cdef_spec.specs.Picture.{lumaPicture, chromaPicture};
-ghost use Rattle.cdef_spec.specs.FrameCalls.{applyingListsOutcome};
+ghost use Rattle.cdef_spec.specs.Picture.{luma_picture, chroma_picture};
+ghost use Rattle.cdef_spec.specs.FrameCalls.{applying_lists_outcome};
 ghost use Rattle.arith_damping.specs.Choice.{choice_of};
 
 use crate::answer;
@@ -23,10 +23,10 @@ pub extern "C" fn quern_apply_luma(
     damping: u8,
     unstated: u8,
 ) -> u32
-    ensures value { result ≡ number_of (applyingListsOutcome (lumaPicture depth width height skip.now dirs.now vars.now)
+    ensures value { result ≡ number_of (applying_lists_outcome (luma_picture depth width height skip.now dirs.now vars.now)
         (choice_of damping unstated) snapshot.now pris.now secs.now dst.old).answer }
-    ensures dst_after { dst.new ≡ (applyingListsOutcome
-        (lumaPicture depth width height skip.now dirs.now vars.now) (choice_of damping unstated)
+    ensures dst_after { dst.new ≡ (applying_lists_outcome
+        (luma_picture depth width height skip.now dirs.now vars.now) (choice_of damping unstated)
         snapshot.now pris.now secs.now dst.old).plane }
 {
     let d = arith_damping::choice_of(damping, unstated);
@@ -52,9 +52,9 @@ pub extern "C" fn quern_apply_chroma(
     damping: u8,
     unstated: u8,
 ) -> u32
-    ensures value { result ≡ number_of (applyingListsOutcome (chromaPicture depth width height sx sy skip.now dirs.now)
+    ensures value { result ≡ number_of (applying_lists_outcome (chroma_picture depth width height sx sy skip.now dirs.now)
         (choice_of damping unstated) snapshot.now pris.now secs.now dst.old).answer }
-    ensures dst_after { dst.new ≡ (applyingListsOutcome (chromaPicture depth width height sx sy skip.now dirs.now)
+    ensures dst_after { dst.new ≡ (applying_lists_outcome (chroma_picture depth width height sx sy skip.now dirs.now)
         (choice_of damping unstated) snapshot.now pris.now secs.now dst.old).plane }
 {
     let d = arith_damping::choice_of(damping, unstated);

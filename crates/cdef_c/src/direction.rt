@@ -1,8 +1,8 @@
 // The call for the direction of a block.
 ghost use Rattle.std.specs.Prelude.{◌≡◌};
 ghost use Rattle.cdef_spec.specs.Answers.{number_of};
-ghost use Rattle.cdef_spec.specs.BlockCalls.{directionOutcome};
-ghost use Rattle.cdef_c.specs.Values.{valueOr};
+ghost use Rattle.cdef_spec.specs.BlockCalls.{direction_outcome};
+ghost use Rattle.cdef_c.specs.Values.{value_or};
 
 use cdef_spec::DirectionAnswer;
 
@@ -18,13 +18,13 @@ pub extern "C" fn quern_direction(
     direction: &mut u8,
     variance: &mut u32,
 ) -> u32
-    ensures value { result ≡ number_of (directionOutcome (record { samples = plane.now; width = width; height = height }) depth y x) }
+    ensures value { result ≡ number_of (direction_outcome (record { samples = plane.now; width = width; height = height }) depth y x) }
     ensures direction_value { direction.exit.now
-        ≡ (valueOr (record { direction = direction.entry.now; variance = variance.old })
-        (directionOutcome (record { samples = plane.now; width = width; height = height }) depth y x)).direction }
+        ≡ (value_or (record { direction = direction.entry.now; variance = variance.old })
+        (direction_outcome (record { samples = plane.now; width = width; height = height }) depth y x)).direction }
     ensures variance_after { variance.new
-        ≡ (valueOr (record { direction = direction.entry.now; variance = variance.old })
-        (directionOutcome (record { samples = plane.now; width = width; height = height }) depth y x)).variance }
+        ≡ (value_or (record { direction = direction.entry.now; variance = variance.old })
+        (direction_outcome (record { samples = plane.now; width = width; height = height }) depth y x)).variance }
 {
     match cdef_blocks::direction::direction(plane, width, height, x, y, depth) {
         DirectionAnswer::Direction(d, v) => {

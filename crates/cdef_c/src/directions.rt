@@ -1,7 +1,7 @@
 // The call for the direction pass.
 ghost use Rattle.std.specs.Prelude.{◌≡◌};
 ghost use Rattle.cdef_spec.specs.Answers.{number_of};
-ghost use Rattle.cdef_spec.specs.FrameCalls.{directionPassOutcome};
+ghost use Rattle.cdef_spec.specs.FrameCalls.{direction_pass_outcome};
 
 use crate::answer;
 
@@ -15,11 +15,11 @@ pub extern "C" fn quern_direction_pass(
     height: usize,
     depth: u8,
 ) -> u32
-    ensures value { result ≡ number_of (directionPassOutcome (record { samples = plane.now; width = width; height = height }) depth
+    ensures value { result ≡ number_of (direction_pass_outcome (record { samples = plane.now; width = width; height = height }) depth
         dirs.old vars.old).answer }
-    ensures dirs_after { dirs.new ≡ (directionPassOutcome (record { samples = plane.now; width = width; height = height }) depth
+    ensures dirs_after { dirs.new ≡ (direction_pass_outcome (record { samples = plane.now; width = width; height = height }) depth
         dirs.old vars.old).dirs }
-    ensures vars_after { vars.new ≡ (directionPassOutcome (record { samples = plane.now; width = width; height = height }) depth
+    ensures vars_after { vars.new ≡ (direction_pass_outcome (record { samples = plane.now; width = width; height = height }) depth
         dirs.old vars.old).vars }
 {
     answer::number(cdef::pass::direction_pass(dirs, vars, plane, width, height, depth))

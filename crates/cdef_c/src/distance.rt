@@ -1,8 +1,8 @@
 // The calls for the distance of two blocks.
 ghost use Rattle.std.specs.Prelude.{◌≡◌};
 ghost use Rattle.cdef_spec.specs.Answers.{number_of};
-ghost use Rattle.cdef_spec.specs.BlockCalls.{distanceOutcome, squaresOutcome};
-ghost use Rattle.cdef_c.specs.Values.{valueOr};
+ghost use Rattle.cdef_spec.specs.BlockCalls.{distance_outcome, squares_outcome};
+ghost use Rattle.cdef_c.specs.Values.{value_or};
 
 use cdef_spec::DistanceAnswer;
 
@@ -18,10 +18,10 @@ pub extern "C" fn quern_distance(
     depth: u8,
     out: &mut i64,
 ) -> u32
-    ensures value { result ≡ number_of (distanceOutcome (record { samples = orig.now; width = width; height = height }) other.now
+    ensures value { result ≡ number_of (distance_outcome (record { samples = orig.now; width = width; height = height }) other.now
         depth y x) }
-    ensures out_after { out.new ≡ valueOr out.old
-        (distanceOutcome (record { samples = orig.now; width = width; height = height }) other.now depth y x) }
+    ensures out_after { out.new ≡ value_or out.old
+        (distance_outcome (record { samples = orig.now; width = width; height = height }) other.now depth y x) }
 {
     match cdef_blocks::distance::distance(orig, other, width, height, x, y, depth) {
         DistanceAnswer::Distance(d) => {
@@ -44,10 +44,10 @@ pub extern "C" fn quern_squares(
     depth: u8,
     out: &mut i64,
 ) -> u32
-    ensures value { result ≡ number_of (squaresOutcome (record { samples = orig.now; width = width; height = height }) other.now depth
+    ensures value { result ≡ number_of (squares_outcome (record { samples = orig.now; width = width; height = height }) other.now depth
         y x) }
-    ensures out_after { out.new ≡ valueOr out.old
-        (squaresOutcome (record { samples = orig.now; width = width; height = height }) other.now depth y x) }
+    ensures out_after { out.new ≡ value_or out.old
+        (squares_outcome (record { samples = orig.now; width = width; height = height }) other.now depth y x) }
 {
     match cdef_blocks::distance::squares(orig, other, width, height, x, y, depth) {
         DistanceAnswer::Distance(d) => {

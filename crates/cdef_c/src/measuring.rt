@@ -1,8 +1,8 @@
 // The calls for measuring; bare numbers become a visible size, a pair and a damping here alone.
 ghost use Rattle.std.specs.Prelude.{◌≡◌};
 ghost use Rattle.cdef_spec.specs.Answers.{number_of};
-ghost use Rattle.cdef_spec.specs.Picture.{lumaPicture, chromaPicture};
-ghost use Rattle.cdef_spec.specs.FrameCalls.{measuringOutcome};
+ghost use Rattle.cdef_spec.specs.Picture.{luma_picture, chroma_picture};
+ghost use Rattle.cdef_spec.specs.FrameCalls.{measuring_outcome};
 ghost use Rattle.arith_damping.specs.Choice.{choice_of};
 
 use crate::answer;
@@ -28,15 +28,15 @@ pub extern "C" fn quern_measure_luma(
     damping: u8,
     unstated: u8,
 ) -> u32
-    ensures value { result ≡ number_of (measuringOutcome (lumaPicture depth width height skip.now dirs.now vars.now)
+    ensures value { result ≡ number_of (measuring_outcome (luma_picture depth width height skip.now dirs.now vars.now)
         (choice_of damping unstated) (record { width = visible_width; height = visible_height }) plane.now original.now
         (record { primary = primary; secondary = secondary }) totals.old scratch.old).answer }
     ensures totals_after { totals.new ≡
-        (measuringOutcome (lumaPicture depth width height skip.now dirs.now vars.now) (choice_of damping unstated)
+        (measuring_outcome (luma_picture depth width height skip.now dirs.now vars.now) (choice_of damping unstated)
         (record { width = visible_width; height = visible_height }) plane.now original.now
         (record { primary = primary; secondary = secondary }) totals.old scratch.old).totals }
     ensures scratch_after { scratch.new ≡
-        (measuringOutcome (lumaPicture depth width height skip.now dirs.now vars.now) (choice_of damping unstated)
+        (measuring_outcome (luma_picture depth width height skip.now dirs.now vars.now) (choice_of damping unstated)
         (record { width = visible_width; height = visible_height }) plane.now original.now
         (record { primary = primary; secondary = secondary }) totals.old scratch.old).scratch }
 {
@@ -75,15 +75,15 @@ pub extern "C" fn quern_measure_chroma(
     damping: u8,
     unstated: u8,
 ) -> u32
-    ensures value { result ≡ number_of (measuringOutcome (chromaPicture depth width height sx sy skip.now dirs.now)
+    ensures value { result ≡ number_of (measuring_outcome (chroma_picture depth width height sx sy skip.now dirs.now)
         (choice_of damping unstated) (record { width = visible_width; height = visible_height }) plane.now original.now
         (record { primary = primary; secondary = secondary }) totals.old scratch.old).answer }
     ensures totals_after { totals.new ≡
-        (measuringOutcome (chromaPicture depth width height sx sy skip.now dirs.now) (choice_of damping unstated)
+        (measuring_outcome (chroma_picture depth width height sx sy skip.now dirs.now) (choice_of damping unstated)
         (record { width = visible_width; height = visible_height }) plane.now original.now
         (record { primary = primary; secondary = secondary }) totals.old scratch.old).totals }
     ensures scratch_after { scratch.new ≡
-        (measuringOutcome (chromaPicture depth width height sx sy skip.now dirs.now) (choice_of damping unstated)
+        (measuring_outcome (chroma_picture depth width height sx sy skip.now dirs.now) (choice_of damping unstated)
         (record { width = visible_width; height = visible_height }) plane.now original.now
         (record { primary = primary; secondary = secondary }) totals.old scratch.old).scratch }
 {

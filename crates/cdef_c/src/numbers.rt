@@ -1,9 +1,9 @@
 // The calls on single numbers. C passes dampings as plain numbers, which become the types of the calls here.
 ghost use Rattle.std.specs.Prelude.{◌≡◌};
-ghost use Rattle.cdef_spec.specs.Standard.{FloorLog2};
+ghost use Rattle.cdef_spec.specs.Standard.{floor_log2};
 ghost use Rattle.cdef_spec.specs.Answers.{number_of};
-ghost use Rattle.cdef_spec.specs.BlockCalls.{constrainOutcome, adjustOutcome, dampingOutcome, lumaDampingOutcome, chromaDampingOutcome};
-ghost use Rattle.cdef_c.specs.Values.{valueOr};
+ghost use Rattle.cdef_spec.specs.BlockCalls.{constrain_outcome, adjust_outcome, damping_outcome, luma_damping_outcome, chroma_damping_outcome};
+ghost use Rattle.cdef_c.specs.Values.{value_or};
 
 use cdef_spec::{
     DampingAnswer, DifferenceAnswer, SignalledDamping, StrengthAnswer, WorkingAnswer,
@@ -13,8 +13,8 @@ use cdef_spec::{
 // Constrains a difference.
 #[unsafe(no_mangle)]
 pub extern "C" fn quern_constrain(difference: i32, strength: u32, damping: u8, out: &mut i32) -> u32
-    ensures value { result ≡ number_of (constrainOutcome difference strength (record { 0 = damping })) }
-    ensures out_after { out.new ≡ valueOr out.old (constrainOutcome difference strength (record { 0 = damping })) }
+    ensures value { result ≡ number_of (constrain_outcome difference strength (record { 0 = damping })) }
+    ensures out_after { out.new ≡ value_or out.old (constrain_outcome difference strength (record { 0 = damping })) }
 {
     match cdef_blocks::numbers::constrain(difference, strength, WorkingDamping(damping)) {
         DifferenceAnswer::Difference(d) => {
@@ -28,8 +28,8 @@ pub extern "C" fn quern_constrain(difference: i32, strength: u32, damping: u8, o
 // Adjusts a primary strength by a variance.
 #[unsafe(no_mangle)]
 pub extern "C" fn quern_adjust_pri(strength: u32, variance: u32, out: &mut u32) -> u32
-    ensures value { result ≡ number_of (adjustOutcome strength variance) }
-    ensures out_after { out.new ≡ valueOr out.old (adjustOutcome strength variance) }
+    ensures value { result ≡ number_of (adjust_outcome strength variance) }
+    ensures out_after { out.new ≡ value_or out.old (adjust_outcome strength variance) }
 {
     match cdef_blocks::numbers::adjust(strength, variance) {
         StrengthAnswer::Strength(s) => {
@@ -43,8 +43,8 @@ pub extern "C" fn quern_adjust_pri(strength: u32, variance: u32, out: &mut u32) 
 // The signalled damping of a quality index.
 #[unsafe(no_mangle)]
 pub extern "C" fn quern_damping(index: u32, out: &mut u8) -> u32
-    ensures value { result ≡ number_of (dampingOutcome index) }
-    ensures out_after { out.new ≡ (valueOr (record { 0 = out.old }) (dampingOutcome index)).0 }
+    ensures value { result ≡ number_of (damping_outcome index) }
+    ensures out_after { out.new ≡ (value_or (record { 0 = out.old }) (damping_outcome index)).0 }
 {
     match cdef_blocks::numbers::damping(index) {
         DampingAnswer::Damping(d) => {
@@ -58,8 +58,8 @@ pub extern "C" fn quern_damping(index: u32, out: &mut u8) -> u32
 // The working damping of a luma plane.
 #[unsafe(no_mangle)]
 pub extern "C" fn quern_luma_damping(signalled: u8, depth: u8, out: &mut u8) -> u32
-    ensures value { result ≡ number_of (lumaDampingOutcome (record { 0 = signalled }) depth) }
-    ensures out_after { out.new ≡ (valueOr (record { 0 = out.old }) (lumaDampingOutcome (record { 0 = signalled }) depth)).0 }
+    ensures value { result ≡ number_of (luma_damping_outcome (record { 0 = signalled }) depth) }
+    ensures out_after { out.new ≡ (value_or (record { 0 = out.old }) (luma_damping_outcome (record { 0 = signalled }) depth)).0 }
 {
     match cdef_blocks::numbers::luma_damping(SignalledDamping(signalled), depth) {
         WorkingAnswer::Working(d) => {
@@ -73,8 +73,8 @@ pub extern "C" fn quern_luma_damping(signalled: u8, depth: u8, out: &mut u8) -> 
 // The working damping of a chroma plane.
 #[unsafe(no_mangle)]
 pub extern "C" fn quern_chroma_damping(signalled: u8, depth: u8, out: &mut u8) -> u32
-    ensures value { result ≡ number_of (chromaDampingOutcome (record { 0 = signalled }) depth) }
-    ensures out_after { out.new ≡ (valueOr (record { 0 = out.old }) (chromaDampingOutcome (record { 0 = signalled }) depth)).0 }
+    ensures value { result ≡ number_of (chroma_damping_outcome (record { 0 = signalled }) depth) }
+    ensures out_after { out.new ≡ (value_or (record { 0 = out.old }) (chroma_damping_outcome (record { 0 = signalled }) depth)).0 }
 {
     match cdef_blocks::numbers::chroma_damping(SignalledDamping(signalled), depth) {
         WorkingAnswer::Working(d) => {
@@ -88,7 +88,7 @@ pub extern "C" fn quern_chroma_damping(signalled: u8, depth: u8, out: &mut u8) -
 // The place of the highest set bit, 0 for 0: returned itself, since nothing is rejected.
 #[unsafe(no_mangle)]
 pub extern "C" fn quern_log2_floor(v: u32) -> u32
-    ensures { result ≡ FloorLog2 v }
+    ensures { result ≡ floor_log2 v }
 {
     arith_strength::log2_floor(v)
 }

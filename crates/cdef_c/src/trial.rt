@@ -2,7 +2,7 @@
 ghost use Rattle.std.specs.Prelude.{◌≡◌};
 ghost use Rattle.cdef_spec.specs.declared.TrialWay.TheVariants.{Luma, Chroma};
 ghost use Rattle.cdef_spec.specs.Answers.{number_of};
-ghost use Rattle.cdef_spec.specs.BlockCalls.{trialOutcome};
+ghost use Rattle.cdef_spec.specs.BlockCalls.{trial_outcome};
 
 use crate::answer;
 use cdef_spec::{Block, TrialWay, WorkingDamping};
@@ -23,9 +23,9 @@ pub extern "C" fn quern_trial_luma(
     damping: u8,
     depth: u8,
 ) -> u32
-    ensures value { result ≡ number_of (trialOutcome (record { samples = plane.now; width = width; height = height })
+    ensures value { result ≡ number_of (trial_outcome (record { samples = plane.now; width = width; height = height })
         (record { x = x; y = y; width = bw; height = bh }) (Luma variance) dir (record { 0 = damping }) depth out.old).answer }
-    ensures out_after { out.new ≡ (trialOutcome (record { samples = plane.now; width = width; height = height })
+    ensures out_after { out.new ≡ (trial_outcome (record { samples = plane.now; width = width; height = height })
         (record { x = x; y = y; width = bw; height = bh }) (Luma variance) dir (record { 0 = damping }) depth out.old).out }
 {
     let block = Block {
@@ -56,9 +56,9 @@ pub extern "C" fn quern_trial_chroma(
     damping: u8,
     depth: u8,
 ) -> u32
-    ensures value { result ≡ number_of (trialOutcome (record { samples = plane.now; width = width; height = height })
+    ensures value { result ≡ number_of (trial_outcome (record { samples = plane.now; width = width; height = height })
         (record { x = x; y = y; width = bw; height = bh }) Chroma dir (record { 0 = damping }) depth out.old).answer }
-    ensures out_after { out.new ≡ (trialOutcome (record { samples = plane.now; width = width; height = height })
+    ensures out_after { out.new ≡ (trial_outcome (record { samples = plane.now; width = width; height = height })
         (record { x = x; y = y; width = bw; height = bh }) Chroma dir (record { 0 = damping }) depth out.old).out }
 {
     let block = Block {

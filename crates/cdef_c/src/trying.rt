@@ -1,8 +1,8 @@
 // The calls for trying; bare numbers become a visible size and a damping here alone.
 ghost use Rattle.std.specs.Prelude.{◌≡◌};
 ghost use Rattle.cdef_spec.specs.Answers.{number_of};
-ghost use Rattle.cdef_spec.specs.Picture.{lumaPicture, chromaPicture};
-ghost use Rattle.cdef_spec.specs.FrameCalls.{tryingOutcome};
+ghost use Rattle.cdef_spec.specs.Picture.{luma_picture, chroma_picture};
+ghost use Rattle.cdef_spec.specs.FrameCalls.{trying_outcome};
 ghost use Rattle.arith_damping.specs.Choice.{choice_of};
 
 use crate::answer;
@@ -25,10 +25,10 @@ pub extern "C" fn quern_try_luma(
     damping: u8,
     unstated: u8,
 ) -> u32
-    ensures value { result ≡ number_of (tryingOutcome (lumaPicture depth width height skip.now dirs.now vars.now)
+    ensures value { result ≡ number_of (trying_outcome (luma_picture depth width height skip.now dirs.now vars.now)
         (choice_of damping unstated) (record { width = visible_width; height = visible_height }) snapshot.now original.now
         totals.old).answer }
-    ensures totals_after { totals.new ≡ (tryingOutcome (lumaPicture depth width height skip.now dirs.now vars.now)
+    ensures totals_after { totals.new ≡ (trying_outcome (luma_picture depth width height skip.now dirs.now vars.now)
         (choice_of damping unstated) (record { width = visible_width; height = visible_height }) snapshot.now original.now
         totals.old).totals }
 {
@@ -60,11 +60,11 @@ pub extern "C" fn quern_try_chroma(
     damping: u8,
     unstated: u8,
 ) -> u32
-    ensures value { result ≡ number_of (tryingOutcome (chromaPicture depth width height sx sy skip.now dirs.now)
+    ensures value { result ≡ number_of (trying_outcome (chroma_picture depth width height sx sy skip.now dirs.now)
         (choice_of damping unstated) (record { width = visible_width; height = visible_height }) snapshot.now original.now
         totals.old).answer }
     ensures totals_after { totals.new ≡
-        (tryingOutcome (chromaPicture depth width height sx sy skip.now dirs.now) (choice_of damping unstated)
+        (trying_outcome (chroma_picture depth width height sx sy skip.now dirs.now) (choice_of damping unstated)
         (record { width = visible_width; height = visible_height }) snapshot.now original.now
         totals.old).totals }
 {

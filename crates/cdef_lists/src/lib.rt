@@ -1,8 +1,8 @@
 // Applying with the pairs as two plain lists, for C and for code that the borrow checker covers. Validation and promise are those of cdef::applying; no function here requires anything.
 ghost use Rattle.std.specs.Prelude.{◌≡◌};
-ghost use Rattle.cdef_spec.specs.Answers.{readAnswer};
-ghost use Rattle.cdef_spec.specs.Picture.{lumaPicture, chromaPicture};
-ghost use Rattle.cdef_spec.specs.FrameCalls.{applyingListsOutcome};
+ghost use Rattle.cdef_spec.specs.Answers.{read_answer};
+ghost use Rattle.cdef_spec.specs.Picture.{luma_picture, chroma_picture};
+ghost use Rattle.cdef_spec.specs.FrameCalls.{applying_lists_outcome};
 
 use cdef_spec::{Answer, DampingChoice};
 use frame_shape::Frame;
@@ -21,9 +21,9 @@ pub fn apply_luma(
     secs: &[u8],
     damping: DampingChoice,
 ) -> Answer
-    ensures { applyingListsOutcome (lumaPicture depth width height skip.now dirs.now vars.now) damping
+    ensures { applying_lists_outcome (luma_picture depth width height skip.now dirs.now vars.now) damping
         snapshot.now pris.now secs.now dst.old
-        ≡ record { answer = readAnswer result; plane = dst.new } }
+        ≡ record { answer = read_answer result; plane = dst.new } }
 {
     let f = Frame {
         luma: true,
@@ -52,9 +52,9 @@ pub fn apply_chroma(
     secs: &[u8],
     damping: DampingChoice,
 ) -> Answer
-    ensures { applyingListsOutcome (chromaPicture depth width height sx sy skip.now dirs.now) damping
+    ensures { applying_lists_outcome (chroma_picture depth width height sx sy skip.now dirs.now) damping
         snapshot.now pris.now secs.now dst.old
-        ≡ record { answer = readAnswer result; plane = dst.new } }
+        ≡ record { answer = read_answer result; plane = dst.new } }
 {
     let f = Frame {
         luma: false,

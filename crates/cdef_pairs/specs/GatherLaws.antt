@@ -6,7 +6,7 @@ use Rattle.std.proofs.lemmas.List.{length-replicate, get_or-replicate}
 use Rattle.std.proofs.Math.ListN.{get_or-eq_default}
 use Rattle.cdef_spec.specs.declared.UnitPair.{UnitPair}
 use Rattle.cdef_spec.specs.Words.{table}
-use Rattle.cdef_spec.specs.WordsLaws.{length-table, getD-table}
+use Rattle.cdef_spec.specs.WordsLaws.{length-table, get_or-table}
 use Rattle.cdef_spec.specs.Picture.{pair_at}
 use Rattle.cdef_pairs.specs.Gather.{gathered, listed}
 
@@ -16,10 +16,10 @@ none = record { primary = 0; secondary = 0 }
 
 -- a table is any list of its length with its entries
 pub is-table : {A : Type 0} (d : A) (l : List A) (n : ℕ) (f : ℕ → A) → length l ≡ n → ((k : ℕ) → k < n → get_or l k d ≡ f k) → l ≡ table n f
-is-table d l n f e h = ext_get_or d l (table n f) (e ∙ sym (length-table n f)) (λ k b. let g : k < n = omega arith in h k g ∙ sym (getD-table n f d k g))
+is-table d l n f e h = ext_get_or d l (table n f) (e ∙ sym (length-table n f)) (λ k b. let g : k < n = omega arith in h k g ∙ sym (get_or-table n f d k g))
 
 pub table_same : {A : Type 0} (d : A) (n : ℕ) (f g : ℕ → A) → ((k : ℕ) → k < n → f k ≡ g k) → table n f ≡ table n g
-table_same d n f g h = is-table d (table n f) n g (length-table n f) (λ k b. getD-table n f d k b ∙ h k b)
+table_same d n f g h = is-table d (table n f) n g (length-table n f) (λ k b. get_or-table n f d k b ∙ h k b)
 
 -- a table written from the front, entry k stored last
 pub table_more : {A : Type 0} (d : A) (f : ℕ → A) (l : List A) (k : ℕ) → ((i : ℕ) → i < k → get_or l i d ≡ f i) → k < length l → (i : ℕ) → i < k + 1 → get_or (set l k (f k)) i d ≡ f i
@@ -48,7 +48,7 @@ gather-more ps i b = is-table none (set (table 4096 (pair_at (take i ps))) i (pa
 
     at : (k : ℕ) → k < 4096 → Dec (k ≡ i) → get_or (set (table 4096 (pair_at (take i ps))) i (pair_at ps i)) k none ≡ pair_at (take (suc i) ps) k
     at k h (yes e) = rw e (get_or-set_same (table 4096 (pair_at (take i ps))) i (pair_at ps i) none (rw (length-table 4096 (pair_at (take i ps))) b) ∙ sym (get_or-take (suc i) ps i none (omega arith)))
-    at k h (no n) = get_or-set_other (table 4096 (pair_at (take i ps))) i k (pair_at ps i) none n ∙ getD-table 4096 (pair_at (take i ps)) none k h ∙ other
+    at k h (no n) = get_or-set_other (table 4096 (pair_at (take i ps))) i k (pair_at ps i) none n ∙ get_or-table 4096 (pair_at (take i ps)) none k h ∙ other
       where
         other : pair_at (take i ps) k ≡ pair_at (take (suc i) ps) k
         other = side (dec_lt k i)

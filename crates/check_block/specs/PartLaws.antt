@@ -7,13 +7,13 @@ use Rattle.cdef_spec.specs.declared.FilterParams.{FilterParams}
 use Rattle.cdef_spec.specs.WordsLaws.{and_both}
 use Rattle.cdef_spec.specs.Document01.{Plane, filtered}
 use Rattle.cdef_spec.specs.Answers.{taken, refused, nothing, result_of}
-use Rattle.cdef_spec.specs.Questions.{Question, ask, firstNo, depthTaken, sideTaken, full, cornerTaken, blockSideTaken, blockTaken, rowsTaken, workingTaken, paramsTaken, widenedTaken}
+use Rattle.cdef_spec.specs.Questions.{Question, ask, first_no, depth_taken, side_taken, full, corner_taken, block_side_taken, block_taken, rows_taken, working_taken, params_taken, widened_taken}
 use Rattle.cdef_spec.specs.QuestionLaws.{first-yes, first-join, none, more, depth-high}
-use Rattle.cdef_spec.specs.BlockCalls.{filterNo, filterOutcome}
-use Rattle.cdef_spec.specs.LoopForm.{putBlock}
+use Rattle.cdef_spec.specs.BlockCalls.{filter_no, filter_outcome}
+use Rattle.cdef_spec.specs.LoopForm.{put_block}
 use Rattle.filter_block.specs.Store.{Usable}
 use Rattle.filter_block.specs.TableLaws.{block-table}
-use Rattle.check_block.specs.Parts.{planeFirst, filterFirst}
+use Rattle.check_block.specs.Parts.{plane_first, filter_first}
 use Rattle.check_sides.specs.SideLaws.{side-le, full-length, corner-low, block-side-le}
 
 -- ---- 1, 2 and 4
@@ -27,39 +27,39 @@ pub record PlaneFacts (p : Plane) (depth : ℕ) : Type 0 where
   pub high : p.height ≤ 4096
   pub full_is : length p.samples ≡ p.width * p.height
 
-pub plane-facts : (p : Plane) (depth : ℕ) → depthTaken depth ≡ true → sideTaken p.width && sideTaken p.height ≡ true → full p ≡ true → PlaneFacts p depth
+pub plane-facts : (p : Plane) (depth : ℕ) → depth_taken depth ≡ true → side_taken p.width && side_taken p.height ≡ true → full p ≡ true → PlaneFacts p depth
 plane-facts p depth d s f =
     let e = depth-high depth d in
-    let b = and_both (sideTaken p.width) (sideTaken p.height) s in
+    let b = and_both (side_taken p.width) (side_taken p.height) s in
     let w = side-le p.width b.0 in
     let h = side-le p.height b.1 in
     record { deep = e.0; flat = e.1; w-low = w.0; wide = w.1; h-low = h.0; high = h.1; full_is = full-length p f }
 
 -- the three tests, where all pass
 pub record PlaneYes (p : Plane) (depth : ℕ) : Type 0 where
-  pub one : depthTaken depth ≡ true
-  pub two : sideTaken p.width && sideTaken p.height ≡ true
+  pub one : depth_taken depth ≡ true
+  pub two : side_taken p.width && side_taken p.height ≡ true
   pub four : full p ≡ true
 
-pub plane-taken : (p : Plane) (depth : ℕ) → firstNo (planeFirst p depth) ≡ 0 → PlaneYes p depth
+pub plane-taken : (p : Plane) (depth : ℕ) → first_no (plane_first p depth) ≡ 0 → PlaneYes p depth
 plane-taken p depth z =
     let a = first-yes _ _ (λ e. omega arith) z in
     let b = first-yes _ _ (λ e. omega arith) a.1 in
     let c = first-yes _ _ (λ e. omega arith) b.1 in
     record { one = a.0; two = b.0; four = c.0 }
 
-pub plane-yes : (p : Plane) (depth : ℕ) → firstNo (planeFirst p depth) ≡ 0 → PlaneFacts p depth
+pub plane-yes : (p : Plane) (depth : ℕ) → first_no (plane_first p depth) ≡ 0 → PlaneFacts p depth
 plane-yes p depth z = let y = plane-taken p depth z in plane-facts p depth y.one y.two y.four
 
 -- with more questions after these: their error code comes first, and where they pass the others are checked
 module _ (p : Plane) (depth : ℕ) (rest : List Question) where
-  plane-join : firstNo (planeFirst p depth ++ rest) ≡ cond (eqb (firstNo (planeFirst p depth)) 0) (firstNo rest) (firstNo (planeFirst p depth))
-  plane-join = first-join (planeFirst p depth) rest (more (λ e. omega arith) (more (λ e. omega arith) (more (λ e. omega arith) none)))
+  plane-join : first_no (plane_first p depth ++ rest) ≡ cond (eqb (first_no (plane_first p depth)) 0) (first_no rest) (first_no (plane_first p depth))
+  plane-join = first-join (plane_first p depth) rest (more (λ e. omega arith) (more (λ e. omega arith) (more (λ e. omega arith) none)))
 
-  pub plane-stops : (n : ℕ) → n ≡ firstNo (planeFirst p depth) → (n ≡ 0 → ⊥) → n ≡ firstNo (planeFirst p depth ++ rest)
+  pub plane-stops : (n : ℕ) → n ≡ first_no (plane_first p depth) → (n ≡ 0 → ⊥) → n ≡ first_no (plane_first p depth ++ rest)
   plane-stops n e h = sym (plane-join ∙ rw (← e, ne_eqb n 0 h))
 
-  pub plane-passed : firstNo (planeFirst p depth) ≡ 0 → firstNo (planeFirst p depth ++ rest) ≡ firstNo rest
+  pub plane-passed : first_no (plane_first p depth) ≡ 0 → first_no (plane_first p depth ++ rest) ≡ first_no rest
   plane-passed z = plane-join ∙ rw z
 
 -- ---- 5
@@ -70,18 +70,18 @@ pub record BlockFacts (p : Plane) (b : Block) : Type 0 where
   pub bw : b.width ≤ 8
   pub bh : b.height ≤ 8
 
-pub block-facts : (p : Plane) (b : Block) → blockTaken p b ≡ true → BlockFacts p b
-unfolding blockTaken
+pub block-facts : (p : Plane) (b : Block) → block_taken p b ≡ true → BlockFacts p b
+unfolding block_taken
 block-facts p b e =
-    let s = and_both (cornerTaken p b.y b.x) (blockSideTaken b.width && blockSideTaken b.height) e in
+    let s = and_both (corner_taken p b.y b.x) (block_side_taken b.width && block_side_taken b.height) e in
     let c = corner-low p b.y b.x s.0 in
-    let d = and_both (blockSideTaken b.width) (blockSideTaken b.height) s.1 in
+    let d = and_both (block_side_taken b.width) (block_side_taken b.height) s.1 in
     record { x-in = c.0; y-in = c.1; bw = block-side-le b.width d.0; bh = block-side-le b.height d.1 }
 
 -- ---- 6 and 8
 
-pub rows-facts : (p : Plane) (b : Block) (y0 : ℕ) (dst : List ℕ) → b.y < p.height → rowsTaken p b y0 dst ≡ true → (y0 ≤ b.y) × ((b.y - y0 + min b.height (p.height - b.y)) * p.width ≤ length dst)
-unfolding rowsTaken
+pub rows-facts : (p : Plane) (b : Block) (y0 : ℕ) (dst : List ℕ) → b.y < p.height → rows_taken p b y0 dst ≡ true → (y0 ≤ b.y) × ((b.y - y0 + min b.height (p.height - b.y)) * p.width ≤ length dst)
+unfolding rows_taken
 rows-facts p b y0 dst hy e =
     let s = and_both (eqb (length dst % p.width) 0) (leb y0 b.y && leb (min (b.y + b.height) p.height) (y0 + length dst / p.width)) e in
     let t = and_both (leb y0 b.y) (leb (min (b.y + b.height) p.height) (y0 + length dst / p.width)) s.1 in
@@ -90,8 +90,8 @@ rows-facts p b y0 dst hy e =
     let m : b.y - y0 + min b.height (p.height - b.y) ≤ length dst / p.width = omega arith in
     (a, omega (arith, mul-le-mul_right p.width m, div-add-mod' (length dst) p.width))
 
-pub params-facts : (q : FilterParams) → 8 ≤ q.depth → q.depth ≤ 12 → paramsTaken q ≡ true → Usable q
-unfolding paramsTaken workingTaken
+pub params-facts : (q : FilterParams) → 8 ≤ q.depth → q.depth ≤ 12 → params_taken q ≡ true → Usable q
+unfolding params_taken working_taken
 params-facts q lo hi e =
     let s = and_both (leb q.pri (15 * 2 ^ (q.depth - 8)) && leb q.sec (4 * 2 ^ (q.depth - 8))) (ltb q.dir 8 && leb q.damping.0 31) e in
     let t = and_both (leb q.pri (15 * 2 ^ (q.depth - 8))) (leb q.sec (4 * 2 ^ (q.depth - 8))) s.0 in
@@ -121,7 +121,7 @@ pub record FilterFacts (p : Plane) (b : Block) (q : FilterParams) (y0 : ℕ) (ds
   pub usable : Usable q
 
 module _ (p : Plane) (b : Block) (q : FilterParams) (y0 : ℕ) (dst : List ℕ) where
-  pub filter-facts : firstNo (filterFirst p b q y0 dst) ≡ 0 → FilterFacts p b q y0 dst
+  pub filter-facts : first_no (filter_first p b q y0 dst) ≡ 0 → FilterFacts p b q y0 dst
   filter-facts z =
       let a = first-yes _ _ (λ e. omega arith) z in
       let c = first-yes _ _ (λ e. omega arith) a.1 in
@@ -135,22 +135,22 @@ module _ (p : Plane) (b : Block) (q : FilterParams) (y0 : ℕ) (dst : List ℕ) 
       record { plane = k; block = l; start = m.0; room = m.1; usable = params-facts q k.deep k.flat h.0 }
 
   -- all seven, by the first six
-  filter-no : filterNo p b q y0 dst ≡ cond (eqb (firstNo (filterFirst p b q y0 dst)) 0) (firstNo (ask 9 (widenedTaken p q.depth b) ∷ [])) (firstNo (filterFirst p b q y0 dst))
-  unfolding filterNo
-  filter-no = first-join (filterFirst p b q y0 dst) (ask 9 (widenedTaken p q.depth b) ∷ []) (more (λ e. omega arith) (more (λ e. omega arith) (more (λ e. omega arith) (more (λ e. omega arith) (more (λ e. omega arith) (more (λ e. omega arith) none))))))
+  filter-no : filter_no p b q y0 dst ≡ cond (eqb (first_no (filter_first p b q y0 dst)) 0) (first_no (ask 9 (widened_taken p q.depth b) ∷ [])) (first_no (filter_first p b q y0 dst))
+  unfolding filter_no
+  filter-no = first-join (filter_first p b q y0 dst) (ask 9 (widened_taken p q.depth b) ∷ []) (more (λ e. omega arith) (more (λ e. omega arith) (more (λ e. omega arith) (more (λ e. omega arith) (more (λ e. omega arith) (more (λ e. omega arith) none))))))
 
-  pub filter-refused : (n : ℕ) → n ≡ firstNo (filterFirst p b q y0 dst) → (n ≡ 0 → ⊥) → (refused n ≡ (filterOutcome p b q y0 dst).answer) × (dst ≡ (filterOutcome p b q y0 dst).dst)
-  unfolding filterOutcome result_of
+  pub filter-refused : (n : ℕ) → n ≡ first_no (filter_first p b q y0 dst) → (n ≡ 0 → ⊥) → (refused n ≡ (filter_outcome p b q y0 dst).answer) × (dst ≡ (filter_outcome p b q y0 dst).dst)
+  unfolding filter_outcome result_of
   filter-refused n e h = rw (filter-no, ← e, ne_eqb n 0 h) (rw (ne_eqb n 0 h), rw (ne_eqb n 0 h))
 
-  pub filter-samples : firstNo (filterFirst p b q y0 dst) ≡ 0 → (n : ℕ) → n ≡ firstNo (ask 9 (widenedTaken p q.depth b) ∷ []) → (n ≡ 0 → ⊥) → (refused n ≡ (filterOutcome p b q y0 dst).answer) × (dst ≡ (filterOutcome p b q y0 dst).dst)
-  unfolding filterOutcome result_of
+  pub filter-samples : first_no (filter_first p b q y0 dst) ≡ 0 → (n : ℕ) → n ≡ first_no (ask 9 (widened_taken p q.depth b) ∷ []) → (n ≡ 0 → ⊥) → (refused n ≡ (filter_outcome p b q y0 dst).answer) × (dst ≡ (filter_outcome p b q y0 dst).dst)
+  unfolding filter_outcome result_of
   filter-samples z n e h = rw (filter-no, z, ← e, ne_eqb n 0 h) (refl, refl)
 
-  pub filter-done : firstNo (filterFirst p b q y0 dst) ≡ 0 → widenedTaken p q.depth b ≡ true → (last : List ℕ)
-      → last ≡ putBlock dst p.width (λ r c. filtered p q (y0 + r) c) (b.y - y0) b.x (min b.width (p.width - b.x)) (min b.height (p.height - b.y))
-      → (taken nothing ≡ (filterOutcome p b q y0 dst).answer) × (last ≡ (filterOutcome p b q y0 dst).dst)
-  unfolding filterOutcome result_of firstNo
+  pub filter-done : first_no (filter_first p b q y0 dst) ≡ 0 → widened_taken p q.depth b ≡ true → (last : List ℕ)
+      → last ≡ put_block dst p.width (λ r c. filtered p q (y0 + r) c) (b.y - y0) b.x (min b.width (p.width - b.x)) (min b.height (p.height - b.y))
+      → (taken nothing ≡ (filter_outcome p b q y0 dst).answer) × (last ≡ (filter_outcome p b q y0 dst).dst)
+  unfolding filter_outcome result_of first_no
   filter-done z e last l =
       let f = filter-facts z in
       rw (filter-no, z, e) (refl, l ∙ block-table p b q y0 dst f.block.x-in f.start)
@@ -159,23 +159,23 @@ module _ (p : Plane) (b : Block) (q : FilterParams) (y0 : ℕ) (dst : List ℕ) 
 
 module _ (p : Plane) (b : Block) (q : FilterParams) (y0 : ℕ) (dst : List ℕ) where
   abbrev later : List Question
-  later = ask 5 (blockTaken p b) ∷ ask 6 (rowsTaken p b y0 dst) ∷ ask 8 (paramsTaken q) ∷ []
+  later = ask 5 (block_taken p b) ∷ ask 6 (rows_taken p b y0 dst) ∷ ask 8 (params_taken q) ∷ []
 
-  pub six-plane : (n : ℕ) → n ≡ firstNo (planeFirst p q.depth) → (n ≡ 0 → ⊥) → n ≡ firstNo (filterFirst p b q y0 dst)
+  pub six-plane : (n : ℕ) → n ≡ first_no (plane_first p q.depth) → (n ≡ 0 → ⊥) → n ≡ first_no (filter_first p b q y0 dst)
   six-plane = plane-stops p q.depth later
 
-  module _ (z : firstNo (planeFirst p q.depth) ≡ 0) where
-    rest : firstNo (filterFirst p b q y0 dst) ≡ firstNo later
+  module _ (z : first_no (plane_first p q.depth) ≡ 0) where
+    rest : first_no (filter_first p b q y0 dst) ≡ first_no later
     rest = plane-passed p q.depth later z
 
-    pub six-block : blockTaken p b ≡ false → 5 ≡ firstNo (filterFirst p b q y0 dst)
-    six-block e = sym (rest ∙ (unfold firstNo in rw e))
+    pub six-block : block_taken p b ≡ false → 5 ≡ first_no (filter_first p b q y0 dst)
+    six-block e = sym (rest ∙ (unfold first_no in rw e))
 
-    pub six-rows : blockTaken p b ≡ true → rowsTaken p b y0 dst ≡ false → 6 ≡ firstNo (filterFirst p b q y0 dst)
-    six-rows e f = sym (rest ∙ (unfold firstNo in rw (e, f)))
+    pub six-rows : block_taken p b ≡ true → rows_taken p b y0 dst ≡ false → 6 ≡ first_no (filter_first p b q y0 dst)
+    six-rows e f = sym (rest ∙ (unfold first_no in rw (e, f)))
 
-    pub six-params : blockTaken p b ≡ true → rowsTaken p b y0 dst ≡ true → paramsTaken q ≡ false → 8 ≡ firstNo (filterFirst p b q y0 dst)
-    six-params e f g = sym (rest ∙ (unfold firstNo in rw (e, f, g)))
+    pub six-params : block_taken p b ≡ true → rows_taken p b y0 dst ≡ true → params_taken q ≡ false → 8 ≡ first_no (filter_first p b q y0 dst)
+    six-params e f g = sym (rest ∙ (unfold first_no in rw (e, f, g)))
 
-    pub six-yes : blockTaken p b ≡ true → rowsTaken p b y0 dst ≡ true → paramsTaken q ≡ true → 0 ≡ firstNo (filterFirst p b q y0 dst)
-    six-yes e f g = sym (rest ∙ (unfold firstNo in rw (e, f, g)))
+    pub six-yes : block_taken p b ≡ true → rows_taken p b y0 dst ≡ true → params_taken q ≡ true → 0 ≡ first_no (filter_first p b q y0 dst)
+    six-yes e f g = sym (rest ∙ (unfold first_no in rw (e, f, g)))

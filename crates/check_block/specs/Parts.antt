@@ -3,19 +3,19 @@ use Rattle.std.specs.Prelude.{◌&&◌, List, [], ◌∷◌, ℕ}
 use Rattle.cdef_spec.specs.declared.Block.{Block}
 use Rattle.cdef_spec.specs.declared.FilterParams.{FilterParams}
 use Rattle.cdef_spec.specs.Document01.{Plane}
-use Rattle.cdef_spec.specs.Questions.{Question, ask, depthTaken, sideTaken, full, blockTaken, rowsTaken, paramsTaken}
+use Rattle.cdef_spec.specs.Questions.{Question, ask, depth_taken, side_taken, full, block_taken, rows_taken, params_taken}
 
 -- 1, 2 and 4
-abbrev pub planeFirst : Plane → ℕ → List Question
-planeFirst p depth = ask 1 (depthTaken depth) ∷ ask 2 (sideTaken p.width && sideTaken p.height) ∷ ask 4 (full p) ∷ []
+abbrev pub plane_first : Plane → ℕ → List Question
+plane_first p depth = ask 1 (depth_taken depth) ∷ ask 2 (side_taken p.width && side_taken p.height) ∷ ask 4 (full p) ∷ []
 
 -- the block filter, all but 9
-abbrev pub filterFirst : Plane → Block → FilterParams → ℕ → List ℕ → List Question
-filterFirst p b q y0 dst =
-    ask 1 (depthTaken q.depth)
-    ∷ ask 2 (sideTaken p.width && sideTaken p.height)
+abbrev pub filter_first : Plane → Block → FilterParams → ℕ → List ℕ → List Question
+filter_first p b q y0 dst =
+    ask 1 (depth_taken q.depth)
+    ∷ ask 2 (side_taken p.width && side_taken p.height)
     ∷ ask 4 (full p)
-    ∷ ask 5 (blockTaken p b)
-    ∷ ask 6 (rowsTaken p b y0 dst)
-    ∷ ask 8 (paramsTaken q)
+    ∷ ask 5 (block_taken p b)
+    ∷ ask 6 (rows_taken p b y0 dst)
+    ∷ ask 8 (params_taken q)
     ∷ []

@@ -4,15 +4,15 @@ use Rattle.cdef_spec.specs.declared.Block.{Block}
 use Rattle.cdef_spec.specs.declared.TrialWay.{TrialWay}
 use Rattle.cdef_spec.specs.declared.WorkingDamping.{WorkingDamping}
 use Rattle.cdef_spec.specs.Document01.{Plane}
-use Rattle.cdef_spec.specs.Questions.{Question, ask, depthTaken, sideTaken, full, blockTaken, wayTaken, workingTaken}
+use Rattle.cdef_spec.specs.Questions.{Question, ask, depth_taken, side_taken, full, block_taken, way_taken, working_taken}
 
 -- the trial, all but 9
-abbrev pub trialFirst : Plane → Block → TrialWay → ℕ → WorkingDamping → ℕ → List ℕ → List Question
-trialFirst p b way dir damping depth out =
-    ask 1 (depthTaken depth)
-    ∷ ask 2 (sideTaken p.width && sideTaken p.height)
+abbrev pub trial_first : Plane → Block → TrialWay → ℕ → WorkingDamping → ℕ → List ℕ → List Question
+trial_first p b way dir damping depth out =
+    ask 1 (depth_taken depth)
+    ∷ ask 2 (side_taken p.width && side_taken p.height)
     ∷ ask 4 (full p)
-    ∷ ask 5 (blockTaken p b)
+    ∷ ask 5 (block_taken p b)
     ∷ ask 7 (eqb (length out) 768)
-    ∷ ask 8 (ltb dir 8 && (wayTaken way && workingTaken damping))
+    ∷ ask 8 (ltb dir 8 && (way_taken way && working_taken damping))
     ∷ []

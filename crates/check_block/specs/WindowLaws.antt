@@ -4,12 +4,12 @@ use Rattle.std.proofs.Common.{sym, ◌∙◌, arith}
 use Rattle.cdef_spec.specs.declared.Block.{Block}
 use Rattle.cdef_spec.specs.Words.{every}
 use Rattle.cdef_spec.specs.Document01.{Plane}
-use Rattle.cdef_spec.specs.Questions.{ask, firstNo, sampleOrMark, widenedTaken}
+use Rattle.cdef_spec.specs.Questions.{ask, first_no, sample_or_mark, widened_taken}
 use Rattle.cdef_spec.specs.QuestionLaws.{first-yes}
 use Rattle.arith_sample.specs.Bounds.{Held, Marked}
 use Rattle.arith_sample.specs.BoundLaws.{marked-held}
 use Rattle.arith_sample.specs.Upto.{upto}
-use Rattle.filter_window.specs.Window.{windowAt}
+use Rattle.filter_window.specs.Window.{window_at}
 use Rattle.filter_window.specs.Spans.{InPlane}
 use Rattle.filter_block.specs.TakenLaws.{window-taken-is, window-marked}
 use Rattle.check_block.specs.PartLaws.{PlaneFacts, BlockFacts}
@@ -19,15 +19,15 @@ module _ (p : Plane) (b : Block) (depth : ℕ) (f : PlaneFacts p depth) (g : Blo
   in-plane = record { full = f.full_is; wide = f.wide; high = f.high; x-in = g.x-in; y-in = g.y-in; bw = g.bw; bh = g.bh }
 
   -- the window's code is question 9's
-  pub window-asked : (n : ℕ) (w : List ℕ) → w ≡ upto (windowAt p b) 144 → n ≡ firstNo (ask 9 (every 144 (λ k. sampleOrMark depth (get_or w k 0))) ∷ []) → n ≡ firstNo (ask 9 (widenedTaken p depth b) ∷ [])
+  pub window-asked : (n : ℕ) (w : List ℕ) → w ≡ upto (window_at p b) 144 → n ≡ first_no (ask 9 (every 144 (λ k. sample_or_mark depth (get_or w k 0))) ∷ []) → n ≡ first_no (ask 9 (widened_taken p depth b) ∷ [])
   window-asked n w e h = rw (← window-taken-is p b depth g.x-in g.y-in g.bw g.bh, ← e) h
 
   -- where it passes, the samples are in range, and the window's entries are bounded
-  pub widened-so : (n : ℕ) → n ≡ firstNo (ask 9 (widenedTaken p depth b) ∷ []) → n ≡ 0 → widenedTaken p depth b ≡ true
+  pub widened-so : (n : ℕ) → n ≡ first_no (ask 9 (widened_taken p depth b) ∷ []) → n ≡ 0 → widened_taken p depth b ≡ true
   widened-so n e z = (first-yes _ _ (λ e. omega arith) (sym e ∙ z)).0
 
-  pub marked-so : widenedTaken p depth b ≡ true → Marked (upto (windowAt p b) 144)
+  pub marked-so : widened_taken p depth b ≡ true → Marked (upto (window_at p b) 144)
   marked-so t = window-marked p b depth g.x-in g.y-in g.bw g.bh f.flat (window-taken-is p b depth g.x-in g.y-in g.bw g.bh ∙ t)
 
-  pub held-so : widenedTaken p depth b ≡ true → Held (upto (windowAt p b) 144)
+  pub held-so : widened_taken p depth b ≡ true → Held (upto (window_at p b) 144)
   held-so t = marked-held (marked-so t)

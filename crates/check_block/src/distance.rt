@@ -1,6 +1,6 @@
 // The checks of the distances.
 ghost use Rattle.std.specs.Prelude.{◌≡◌};
-ghost use Rattle.cdef_spec.specs.BlockCalls.{distanceNo};
+ghost use Rattle.cdef_spec.specs.BlockCalls.{distance_no};
 
 // 1, 2, 4, 5 and 9 of an original and another plane: the error code of the first that fails, or 0.
 pub fn distance_no(
@@ -12,7 +12,7 @@ pub fn distance_no(
     y: usize,
     depth: u8,
 ) -> u8
-    ensures { result ≡ distanceNo (record { samples = orig.now; width = width; height = height }) other.now depth y x }
+    ensures { result ≡ distance_no (record { samples = orig.now; width = width; height = height }) other.now depth y x }
 {
     let no = crate::plane_no(orig, width, height, depth);
     if no != 0 {

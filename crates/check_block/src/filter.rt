@@ -1,15 +1,15 @@
 // The checks of the block filter.
 ghost use Rattle.std.specs.Prelude.{◌≡◌, List, ℕ, ◌≤◌, ◌<◌};
 ghost use Rattle.cdef_spec.specs.Document01.{Plane};
-ghost use Rattle.cdef_spec.specs.Questions.{firstNo, rowsTaken};
-ghost use Rattle.check_block.specs.Parts.{filterFirst};
+ghost use Rattle.cdef_spec.specs.Questions.{first_no, rows_taken};
+ghost use Rattle.check_block.specs.Parts.{filter_first};
 
 use cdef_spec::{Block, FilterParams};
 
 // 6: a destination of whole rows that starts at or above the block and reaches its end, or the plane's.
 fn rows_taken(dst: &[u16], y0: usize, width: usize, height: usize, b: Block) -> bool
     requires { (0 < width) × (b.y < height) × (height ≤ 4096) × (b.height ≤ 8) }
-    ensures { (s : List ℕ) → result ≡ rowsTaken (record { samples = s; width = width; height = height }) b y0 dst.now }
+    ensures { (s : List ℕ) → result ≡ rows_taken (record { samples = s; width = width; height = height }) b y0 dst.now }
 {
     if dst.len() % width != 0 {
         return false;
@@ -32,7 +32,7 @@ pub fn filter_no(
     b: Block,
     q: FilterParams,
 ) -> u8
-    ensures { result ≡ firstNo (filterFirst (record { samples = plane.now; width = width; height = height }) b q y0 dst.now) }
+    ensures { result ≡ first_no (filter_first (record { samples = plane.now; width = width; height = height }) b q y0 dst.now) }
 {
     let no = crate::plane_no(plane, width, height, q.depth);
     if no != 0 {

@@ -1,8 +1,8 @@
 // The checks of the calls on one block, in order: each returns the error code of the first that fails, or 0. No public function of the crate requires anything.
 ghost use Rattle.std.specs.Prelude.{◌≡◌, ◌&&◌, List, [], ◌∷◌, ℕ};
 ghost use Rattle.cdef_spec.specs.Document01.{Plane};
-ghost use Rattle.cdef_spec.specs.Questions.{ask, firstNo, depthTaken, sideTaken, full as fullPlane, blockTaken};
-ghost use Rattle.cdef_spec.specs.BlockCalls.{directionNo};
+ghost use Rattle.cdef_spec.specs.Questions.{ask, first_no, depth_taken, side_taken, full as full_plane, block_taken};
+ghost use Rattle.cdef_spec.specs.BlockCalls.{direction_no};
 
 use cdef_spec::Block;
 
@@ -12,8 +12,8 @@ pub mod trial; // trial.rt: the checks of the trial
 
 // 1, 2 and 4: the depth, the sides, the plane's length.
 pub fn plane_no(plane: &[u16], width: usize, height: usize, depth: u8) -> u8
-    ensures { result ≡ firstNo (ask 1 (depthTaken depth) ∷ ask 2 (sideTaken width && sideTaken height) ∷ ask 4
-        (fullPlane (record { samples = plane.now; width = width; height = height })) ∷ []) }
+    ensures { result ≡ first_no (ask 1 (depth_taken depth) ∷ ask 2 (side_taken width && side_taken height) ∷ ask 4
+        (full_plane (record { samples = plane.now; width = width; height = height })) ∷ []) }
 {
     if !check_sides::depth_taken(depth) {
         return 1;
@@ -32,7 +32,7 @@ pub fn plane_no(plane: &[u16], width: usize, height: usize, depth: u8) -> u8
 
 // 5: a block that begins in the plane.
 pub fn block_taken(width: usize, height: usize, b: Block) -> bool
-    ensures { (s : List ℕ) → result ≡ blockTaken (record { samples = s; width = width; height = height }) b }
+    ensures { (s : List ℕ) → result ≡ block_taken (record { samples = s; width = width; height = height }) b }
 {
     if !check_sides::corner_taken(width, height, b.x, b.y) {
         return false;
@@ -45,7 +45,7 @@ pub fn block_taken(width: usize, height: usize, b: Block) -> bool
 
 // 1, 2, 4, 5 and 9 of the direction of a block.
 pub fn direction_no(plane: &[u16], width: usize, height: usize, x: usize, y: usize, depth: u8) -> u8
-    ensures { result ≡ directionNo (record { samples = plane.now; width = width; height = height }) depth y x }
+    ensures { result ≡ direction_no (record { samples = plane.now; width = width; height = height }) depth y x }
 {
     let no = plane_no(plane, width, height, depth);
     if no != 0 {

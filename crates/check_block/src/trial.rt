@@ -1,14 +1,14 @@
 // The checks of the trial: the error code of the first that fails, or 0.
 ghost use Rattle.std.specs.Prelude.{◌≡◌, ◌&&◌, ltb};
 ghost use Rattle.cdef_spec.specs.Document01.{Plane};
-ghost use Rattle.cdef_spec.specs.Questions.{firstNo, wayTaken, workingTaken};
-ghost use Rattle.check_block.specs.TrialParts.{trialFirst};
+ghost use Rattle.cdef_spec.specs.Questions.{first_no, way_taken, working_taken};
+ghost use Rattle.check_block.specs.TrialParts.{trial_first};
 
 use cdef_spec::{Block, TrialWay, WorkingDamping};
 
 // 8: direction, variance and damping.
 fn trial_taken(way: TrialWay, dir: u8, damping: WorkingDamping) -> bool
-    ensures { result ≡ ltb dir 8 && (wayTaken way && workingTaken damping) }
+    ensures { result ≡ ltb dir 8 && (way_taken way && working_taken damping) }
 {
     if 7 < dir {
         return false;
@@ -31,7 +31,7 @@ pub fn trial_no(
     damping: WorkingDamping,
     depth: u8,
 ) -> u8
-    ensures { result ≡ firstNo (trialFirst (record { samples = plane.now; width = width; height = height }) b way dir damping depth
+    ensures { result ≡ first_no (trial_first (record { samples = plane.now; width = width; height = height }) b way dir damping depth
         out.now) }
 {
     let no = crate::plane_no(plane, width, height, depth);

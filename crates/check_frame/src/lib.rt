@@ -2,9 +2,9 @@
 // and no list is walked before the questions that come first have passed.
 ghost use Rattle.std.specs.Prelude.{◌≡◌, true, ◌&&◌, List, ℕ, ◌*◌, eqb, length};
 ghost use Rattle.cdef_spec.specs.Picture.{units};
-ghost use Rattle.cdef_spec.specs.Questions.{visibleTaken, allTaken, primaryTaken, secondaryTaken};
-ghost use Rattle.cdef_spec.specs.FrameCalls.{tryingNo, measuringNo, applyingListsNo, scratchLength};
-ghost use Rattle.frame_shape.specs.Frame.{Shaped, pictureOf};
+ghost use Rattle.cdef_spec.specs.Questions.{visible_taken, all_taken, primary_taken, secondary_taken};
+ghost use Rattle.cdef_spec.specs.FrameCalls.{trying_no, measuring_no, applying_lists_no, scratch_length};
+ghost use Rattle.frame_shape.specs.Frame.{Shaped, picture_of};
 
 use cdef_spec::{DampingChoice, UnitPair, Visible};
 use frame_shape::Frame;
@@ -12,8 +12,8 @@ use frame_shape::Frame;
 // Trying, 7: twelve totals per unit, and the visible size.
 fn trying_listed(f: Frame, v: Visible, totals: &[i64]) -> bool
     requires { Shaped f }
-    ensures { (s d vs : List ℕ) → result ≡ eqb (length totals.now) (12 * units (pictureOf f s d vs)) && visibleTaken
-        (pictureOf f s d vs) v }
+    ensures { (s d vs : List ℕ) → result ≡ eqb (length totals.now) (12 * units (picture_of f s d vs)) && visible_taken
+        (picture_of f s d vs) v }
 {
     if totals.len() != 12 * check_picture::units(f) {
         return false;
@@ -34,7 +34,7 @@ pub fn trying_no(
     totals: &[i64],
 ) -> u8
     requires { f.luma ≡ true → (f.sx ≡ 0) × (f.sy ≡ 0) }
-    ensures { result ≡ tryingNo (pictureOf f skip.now dirs.now vars.now) damping v snapshot.now
+    ensures { result ≡ trying_no (picture_of f skip.now dirs.now vars.now) damping v snapshot.now
         original.now totals.now }
 {
     let no = check_picture::shape_no(f);
@@ -58,8 +58,8 @@ pub fn trying_no(
 fn measuring_listed(f: Frame, v: Visible, totals: &[i64], scratch: &[u16]) -> bool
     requires { Shaped f }
     ensures { (s d vs : List ℕ) → result
-        ≡ (eqb (length totals.now) (units (pictureOf f s d vs)) && eqb (length scratch.now)
-        (scratchLength (pictureOf f s d vs))) && visibleTaken (pictureOf f s d vs) v }
+        ≡ (eqb (length totals.now) (units (picture_of f s d vs)) && eqb (length scratch.now)
+        (scratch_length (picture_of f s d vs))) && visible_taken (picture_of f s d vs) v }
 {
     if totals.len() != check_picture::units(f) {
         return false;
@@ -86,7 +86,7 @@ pub fn measuring_no(
     scratch: &[u16],
 ) -> u8
     requires { f.luma ≡ true → (f.sx ≡ 0) × (f.sy ≡ 0) }
-    ensures { result ≡ measuringNo (pictureOf f skip.now dirs.now vars.now) damping v plane.now
+    ensures { result ≡ measuring_no (picture_of f skip.now dirs.now vars.now) damping v plane.now
         original.now p totals.now scratch.now }
 {
     let no = check_picture::shape_no(f);
@@ -110,8 +110,8 @@ pub fn measuring_no(
 // Applying, 7: a primary and a secondary strength per unit.
 fn applying_listed(f: Frame, pris: &[u8], secs: &[u8]) -> bool
     requires { Shaped f }
-    ensures { (s d vs : List ℕ) → result ≡ eqb (length pris.now) (units (pictureOf f s d vs)) && eqb (length secs.now)
-        (units (pictureOf f s d vs)) }
+    ensures { (s d vs : List ℕ) → result ≡ eqb (length pris.now) (units (picture_of f s d vs)) && eqb (length secs.now)
+        (units (picture_of f s d vs)) }
 {
     let n = check_picture::units(f);
     if pris.len() != n {
@@ -122,7 +122,7 @@ fn applying_listed(f: Frame, pris: &[u8], secs: &[u8]) -> bool
 
 // Applying, 8: the strengths of all units.
 fn applying_taken(pris: &[u8], secs: &[u8]) -> bool
-    ensures { result ≡ allTaken primaryTaken pris.now && allTaken secondaryTaken secs.now }
+    ensures { result ≡ all_taken primary_taken pris.now && all_taken secondary_taken secs.now }
 {
     if !check_lists::all_primary(pris) {
         return false;
@@ -143,7 +143,7 @@ pub fn applying_no(
     secs: &[u8],
 ) -> u8
     requires { f.luma ≡ true → (f.sx ≡ 0) × (f.sy ≡ 0) }
-    ensures { result ≡ applyingListsNo (pictureOf f skip.now dirs.now vars.now) damping snapshot.now
+    ensures { result ≡ applying_lists_no (picture_of f skip.now dirs.now vars.now) damping snapshot.now
         pris.now secs.now dst.now }
 {
     let no = check_picture::shape_no(f);

@@ -11,8 +11,8 @@ use Rattle.std.specs.Int.Bits.{bit_or}
 use Rattle.std.proofs.Math.Dec.{ltb}
 use Rattle.cdef_spec.specs.Words.{every}
 use Rattle.cdef_spec.specs.WordsLaws.{and-make}
-use Rattle.cdef_spec.specs.Questions.{all_below, allTaken}
-use Rattle.check_lists.specs.Quarters.{inFour}
+use Rattle.cdef_spec.specs.Questions.{all_below, all_taken}
+use Rattle.check_lists.specs.Quarters.{in_four}
 use Rattle.check_samples.specs.LookedLaws.{or-below, shifted_none}
 
 and_one : (a : Bool) → true && a ≡ a && true
@@ -57,8 +57,8 @@ every-four n f =
 
 module _ (f : ℕ → Bool) where
   -- every entry passes, by its index
-  pub all-every : (l : List ℕ) → every (length l) (λ k. f (get_or l k 0)) ≡ allTaken f l
-  unfolding every allTaken
+  pub all-every : (l : List ℕ) → every (length l) (λ k. f (get_or l k 0)) ≡ all_taken f l
+  unfolding every all_taken
   all-every [] = refl
   all-every (x ∷ xs) = every_front (length xs) (λ k. f (get_or (x ∷ xs) k 0)) ∙ rw (all-every xs)
 
@@ -71,22 +71,22 @@ module _ (f : ℕ → Bool) where
   unfolding every
   every_more k e h = rw (add-one k) (and-make e h)
 
-  pub no-at : (l : List ℕ) (k : ℕ) → k < length l → f (get_or l k 0) ≡ false → false ≡ allTaken f l
-  unfolding allTaken
+  pub no-at : (l : List ℕ) (k : ℕ) → k < length l → f (get_or l k 0) ≡ false → false ≡ all_taken f l
+  unfolding all_taken
   no-at [] k h e = absurd (omega arith)
   no-at (x ∷ xs) zero h e = rw e
   no-at (x ∷ xs) (suc k) h e = go (f x) (no-at xs k (omega arith) e)
     where
-      go : (b : Bool) → false ≡ allTaken f xs → false ≡ b && allTaken f xs
+      go : (b : Bool) → false ≡ all_taken f xs → false ≡ b && all_taken f xs
       go true e = e
       go false e = refl
 
   -- at the end of the loop
-  pub yes-all : (l : List ℕ) (k : ℕ) → every k (λ j. f (get_or l j 0)) ≡ true → k ≡ length l → true ≡ allTaken f l
+  pub yes-all : (l : List ℕ) (k : ℕ) → every k (λ j. f (get_or l j 0)) ≡ true → k ≡ length l → true ≡ all_taken f l
   yes-all l k e h = sym e ∙ rw h (all-every l)
 
-pub below-taken : (m : ℕ) (l : List ℕ) → allTaken (λ x. ltb x m) l ≡ all_below m l
-unfolding all_below allTaken
+pub below-taken : (m : ℕ) (l : List ℕ) → all_taken (λ x. ltb x m) l ≡ all_below m l
+unfolding all_below all_taken
 below-taken m [] = refl
 below-taken m (x ∷ xs) = rw (below-taken m xs)
 
@@ -110,12 +110,12 @@ module _ (d : ℕ) (l : List ℕ) where
 
   -- four streams: the bits of the first k samples of each quarter
   module _ (n : ℕ) where
-    pub four-none : ltb 0 (2 ^ d) ≡ every 0 (inFour d l n)
+    pub four-none : ltb 0 (2 ^ d) ≡ every 0 (in_four d l n)
     unfolding every
     four-none = lt-ltb 0 (2 ^ d) (pow_pos d)
 
-    pub four-more : (bits k : ℕ) → ltb bits (2 ^ d) ≡ every k (inFour d l n) → ltb (bit_or bits (bit_or (bit_or (bit_or (get_or l k 0) (get_or l (n + k) 0)) (get_or l (2 * n + k) 0)) (get_or l (3 * n + k) 0))) (2 ^ d) ≡ every (k + 1) (inFour d l n)
-    unfolding every inFour
+    pub four-more : (bits k : ℕ) → ltb bits (2 ^ d) ≡ every k (in_four d l n) → ltb (bit_or bits (bit_or (bit_or (bit_or (get_or l k 0) (get_or l (n + k) 0)) (get_or l (2 * n + k) 0)) (get_or l (3 * n + k) 0))) (2 ^ d) ≡ every (k + 1) (in_four d l n)
+    unfolding every in_four
     four-more bits k e =
         rw (
           or-below d bits (bit_or (bit_or (bit_or (get_or l k 0) (get_or l (n + k) 0)) (get_or l (2 * n + k) 0)) (get_or l (3 * n + k) 0)),
@@ -127,6 +127,6 @@ module _ (d : ℕ) (l : List ℕ) where
         )
 
     -- all four quarters
-    pub four-all : (bits k : ℕ) → ltb bits (2 ^ d) ≡ every k (inFour d l n) → k ≡ n → ltb bits (2 ^ d) ≡ every (4 * n) (λ k. ltb (get_or l k 0) (2 ^ d))
-    unfolding inFour
+    pub four-all : (bits k : ℕ) → ltb bits (2 ^ d) ≡ every k (in_four d l n) → k ≡ n → ltb bits (2 ^ d) ≡ every (4 * n) (λ k. ltb (get_or l k 0) (2 ^ d))
+    unfolding in_four
     four-all bits k e h = e ∙ rw h (every-four n (λ k. ltb (get_or l k 0) (2 ^ d)))

@@ -2,7 +2,7 @@
 use Rattle.std.specs.Prelude.{Bool, ◌&&◌, List, ℕ, ◌+◌, ◌*◌, ◌^◌, ltb, get_or}
 
 -- sample k of each quarter is below 2^d; a quarter is n samples long
-unfoldable pub inFour : ℕ → List ℕ → ℕ → ℕ → Bool
-inFour d l n k =
+unfoldable pub in_four : ℕ → List ℕ → ℕ → ℕ → Bool
+in_four d l n k =
     ((ltb (get_or l k 0) (2 ^ d) && ltb (get_or l (n + k) 0) (2 ^ d)) && ltb (get_or l (2 * n + k) 0) (2 ^ d))
     && ltb (get_or l (3 * n + k) 0) (2 ^ d)

@@ -1,6 +1,6 @@
 // Questions 8 and 9 of whole lists, each test with its definition's name.
 ghost use Rattle.std.specs.Prelude.{◌≡◌, ◌^◌, ◌≤◌};
-ghost use Rattle.cdef_spec.specs.Questions.{all_below, allTaken, primaryTaken, secondaryTaken};
+ghost use Rattle.cdef_spec.specs.Questions.{all_below, all_taken, primary_taken, secondary_taken};
 
 // Every entry is below m.
 pub fn all_below_u8(list: &[u8], m: u8) -> bool
@@ -44,7 +44,7 @@ pub fn samples_below(list: &[u16], depth: u8) -> bool
 
 // 8: every primary strength is 0 to 15.
 pub fn all_primary(list: &[u8]) -> bool
-    ensures { result ≡ allTaken primaryTaken list.now }
+    ensures { result ≡ all_taken primary_taken list.now }
 {
     for k in 0..list.len() {
         if 15 < list[k] {
@@ -56,7 +56,7 @@ pub fn all_primary(list: &[u8]) -> bool
 
 // 8: every secondary strength is 0, 1, 2 or 4.
 pub fn all_secondary(list: &[u8]) -> bool
-    ensures { result ≡ allTaken secondaryTaken list.now }
+    ensures { result ≡ all_taken secondary_taken list.now }
 {
     for k in 0..list.len() {
         if !check_values::secondary_taken(list[k]) {

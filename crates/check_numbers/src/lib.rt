@@ -1,12 +1,12 @@
 // The checks of the calls on single numbers, in order: each returns the error code of the first that fails, or 0. No function here requires anything.
 ghost use Rattle.std.specs.Prelude.{◌≡◌};
-ghost use Rattle.cdef_spec.specs.BlockCalls.{constrainNo, adjustNo, dampingNo, workingDampingNo};
+ghost use Rattle.cdef_spec.specs.BlockCalls.{constrain_no, adjust_no, damping_no, working_damping_no};
 
 use cdef_spec::{SignalledDamping, WorkingDamping};
 
 // Constrain: 8 and 9.
 pub fn constrain_no(difference: i32, strength: u32, damping: WorkingDamping) -> u8
-    ensures { result ≡ constrainNo difference strength damping }
+    ensures { result ≡ constrain_no difference strength damping }
 {
     if !check_values::strength_taken(strength) {
         return 8;
@@ -22,7 +22,7 @@ pub fn constrain_no(difference: i32, strength: u32, damping: WorkingDamping) -> 
 
 // Adjust: 8.
 pub fn adjust_no(strength: u32, variance: u32) -> u8
-    ensures { result ≡ adjustNo strength variance }
+    ensures { result ≡ adjust_no strength variance }
 {
     if !check_values::strength_taken(strength) {
         return 8;
@@ -35,7 +35,7 @@ pub fn adjust_no(strength: u32, variance: u32) -> u8
 
 // The damping of a quality index: 8.
 pub fn damping_no(index: u32) -> u8
-    ensures { result ≡ dampingNo index }
+    ensures { result ≡ damping_no index }
 {
     if !check_values::index_taken(index) {
         return 8;
@@ -45,7 +45,7 @@ pub fn damping_no(index: u32) -> u8
 
 // The working damping of a plane: 1 and 8.
 pub fn working_damping_no(signalled: SignalledDamping, depth: u8) -> u8
-    ensures { result ≡ workingDampingNo signalled depth }
+    ensures { result ≡ working_damping_no signalled depth }
 {
     if !check_sides::depth_taken(depth) {
         return 1;

@@ -4,11 +4,11 @@ use Rattle.std.proofs.Common.{sym, ◌∙◌, mul-le-mul, arith, pow_pos}
 use borrow.Author.Tests.{eqb-true, ne_eqb, eq-eqb}
 use Rattle.cdef_spec.specs.WordsLaws.{and_both}
 use Rattle.cdef_spec.specs.Document01.{Plane}
-use Rattle.cdef_spec.specs.Questions.{Question, ask, firstNo, all_below, lumaSideTaken, full}
+use Rattle.cdef_spec.specs.Questions.{Question, ask, first_no, all_below, luma_side_taken, full}
 use Rattle.cdef_spec.specs.QuestionLaws.{below_get, first-yes, depth-high}
-use Rattle.cdef_spec.specs.FrameCalls.{directionPassNo}
+use Rattle.cdef_spec.specs.FrameCalls.{direction_pass_no}
 use Rattle.frame_shape.specs.FrameLaws.{side-facts}
-use Rattle.check_picture.specs.Parts.{sidesFirst}
+use Rattle.check_picture.specs.Parts.{sides_first}
 use Rattle.check_picture.specs.PartLaws.{sides-stop, sides-passed}
 
 -- what the direction pass requires
@@ -34,12 +34,12 @@ pub record SidesFacts (depth width height : ℕ) : Type 0 where
   pub high : (1 ≤ height) × (height ≤ 4096) × (height % 8 ≡ 0)
 
 module _ (depth width height : ℕ) where
-  pub sides-facts : firstNo (sidesFirst depth width height) ≡ 0 → SidesFacts depth width height
+  pub sides-facts : first_no (sides_first depth width height) ≡ 0 → SidesFacts depth width height
   sides-facts z =
       let a = first-yes _ _ (λ e. omega arith) z in
       let b = first-yes _ _ (λ e. omega arith) a.1 in
       let h = depth-high depth a.0 in
-      let k = and_both (lumaSideTaken width) (lumaSideTaken height) b.0 in
+      let k = and_both (luma_side_taken width) (luma_side_taken height) b.0 in
       record { deep = h.0; flat = h.1; wide = side-facts width k.0; high = side-facts height k.1 }
 
   module _ (s : SidesFacts depth width height) where
@@ -59,39 +59,39 @@ module _ (p : Plane) (depth : ℕ) (dirs vars : List ℕ) where
   abbrev later : List Question
   later = ask 4 (full p) ∷ ask 7 (eqb (length dirs) n && eqb (length vars) n) ∷ ask 9 (all_below (2 ^ depth) p.samples) ∷ []
 
-  pub pass-sides : (k : ℕ) → k ≡ firstNo (sidesFirst depth p.width p.height) → (k ≡ 0 → ⊥) → k ≡ directionPassNo p depth dirs vars
-  unfolding directionPassNo
+  pub pass-sides : (k : ℕ) → k ≡ first_no (sides_first depth p.width p.height) → (k ≡ 0 → ⊥) → k ≡ direction_pass_no p depth dirs vars
+  unfolding direction_pass_no
   pass-sides k = sides-stop depth p.width p.height later k
 
-  module _ (z : firstNo (sidesFirst depth p.width p.height) ≡ 0) where
-    rest : directionPassNo p depth dirs vars ≡ firstNo later
-    unfolding directionPassNo
+  module _ (z : first_no (sides_first depth p.width p.height) ≡ 0) where
+    rest : direction_pass_no p depth dirs vars ≡ first_no later
+    unfolding direction_pass_no
     rest = sides-passed depth p.width p.height later z
 
-    pub pass-full : (length p.samples ≡ p.width * p.height → ⊥) → 4 ≡ directionPassNo p depth dirs vars
-    pass-full e = sym (rest ∙ (unfold firstNo full in rw (ne_eqb _ _ e)))
+    pub pass-full : (length p.samples ≡ p.width * p.height → ⊥) → 4 ≡ direction_pass_no p depth dirs vars
+    pass-full e = sym (rest ∙ (unfold first_no full in rw (ne_eqb _ _ e)))
 
     module _ (a : length p.samples ≡ p.width * p.height) where
       full-yes : full p ≡ true
       unfolding full
       full-yes = eq-eqb _ _ a
 
-      pub pass-dirs : (length dirs ≡ n → ⊥) → 7 ≡ directionPassNo p depth dirs vars
-      pass-dirs e = sym (rest ∙ (unfold firstNo in rw (full-yes, ne_eqb _ _ e)))
+      pub pass-dirs : (length dirs ≡ n → ⊥) → 7 ≡ direction_pass_no p depth dirs vars
+      pass-dirs e = sym (rest ∙ (unfold first_no in rw (full-yes, ne_eqb _ _ e)))
 
       module _ (b : length dirs ≡ n) where
-        pub pass-vars : (length vars ≡ n → ⊥) → 7 ≡ directionPassNo p depth dirs vars
-        pass-vars e = sym (rest ∙ (unfold firstNo in rw (full-yes, eq-eqb _ _ b, ne_eqb _ _ e)))
+        pub pass-vars : (length vars ≡ n → ⊥) → 7 ≡ direction_pass_no p depth dirs vars
+        pass-vars e = sym (rest ∙ (unfold first_no in rw (full-yes, eq-eqb _ _ b, ne_eqb _ _ e)))
 
         module _ (c : length vars ≡ n) where
-          pub pass-samples : all_below (2 ^ depth) p.samples ≡ false → 9 ≡ directionPassNo p depth dirs vars
-          pass-samples e = sym (rest ∙ (unfold firstNo in rw (full-yes, eq-eqb _ _ b, eq-eqb _ _ c, e)))
+          pub pass-samples : all_below (2 ^ depth) p.samples ≡ false → 9 ≡ direction_pass_no p depth dirs vars
+          pass-samples e = sym (rest ∙ (unfold first_no in rw (full-yes, eq-eqb _ _ b, eq-eqb _ _ c, e)))
 
-          pub pass-yes : all_below (2 ^ depth) p.samples ≡ true → 0 ≡ directionPassNo p depth dirs vars
-          pass-yes e = sym (rest ∙ (unfold firstNo in rw (full-yes, eq-eqb _ _ b, eq-eqb _ _ c, e)))
+          pub pass-yes : all_below (2 ^ depth) p.samples ≡ true → 0 ≡ direction_pass_no p depth dirs vars
+          pass-yes e = sym (rest ∙ (unfold first_no in rw (full-yes, eq-eqb _ _ b, eq-eqb _ _ c, e)))
 
-  pub pass-facts : directionPassNo p depth dirs vars ≡ 0 → PassFacts p depth dirs vars
-  unfolding directionPassNo full
+  pub pass-facts : direction_pass_no p depth dirs vars ≡ 0 → PassFacts p depth dirs vars
+  unfolding direction_pass_no full
   pass-facts z =
       let a = first-yes _ _ (λ e. omega arith) z in
       let b = first-yes _ _ (λ e. omega arith) a.1 in
@@ -99,7 +99,7 @@ module _ (p : Plane) (depth : ℕ) (dirs vars : List ℕ) where
       let d = first-yes _ _ (λ e. omega arith) c.1 in
       let f = first-yes _ _ (λ e. omega arith) d.1 in
       let h = depth-high depth a.0 in
-      let k = and_both (lumaSideTaken p.width) (lumaSideTaken p.height) b.0 in
+      let k = and_both (luma_side_taken p.width) (luma_side_taken p.height) b.0 in
       let w = side-facts p.width k.0 in
       let g = side-facts p.height k.1 in
       let l = and_both (eqb (length dirs) n) (eqb (length vars) n) d.0 in

@@ -1,6 +1,6 @@
 // The checks of the direction pass.
 ghost use Rattle.std.specs.Prelude.{◌≡◌};
-ghost use Rattle.cdef_spec.specs.FrameCalls.{directionPassNo};
+ghost use Rattle.cdef_spec.specs.FrameCalls.{direction_pass_no};
 
 // 1, 2, 4, 7 and 9: the error code of the first that fails, or 0.
 pub fn direction_pass_no(
@@ -11,7 +11,7 @@ pub fn direction_pass_no(
     dirs: &[u8],
     vars: &[u32],
 ) -> u8
-    ensures { result ≡ directionPassNo (record { samples = plane.now; width = width; height = height }) depth dirs.now
+    ensures { result ≡ direction_pass_no (record { samples = plane.now; width = width; height = height }) depth dirs.now
         vars.now }
 {
     let no = check_picture::sides_no(depth, width, height);

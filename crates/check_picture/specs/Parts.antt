@@ -2,24 +2,24 @@
 use Rattle.std.specs.Prelude.{Bool, ◌&&◌, List, [], ◌∷◌, ℕ, ◌^◌}
 use Rattle.cdef_spec.specs.declared.SignalledDamping.{SignalledDamping}
 use Rattle.cdef_spec.specs.Picture.{Picture}
-use Rattle.cdef_spec.specs.Questions.{Question, ask, depthTaken, lumaSideTaken, flagsTaken, fullPlanes, pictureListed, pictureTaken, allSamplesBelow}
+use Rattle.cdef_spec.specs.Questions.{Question, ask, depth_taken, luma_side_taken, flags_taken, full_planes, picture_listed, picture_taken, all_samples_below}
 
 -- 1 and 2
-abbrev pub sidesFirst : ℕ → ℕ → ℕ → List Question
-sidesFirst depth width height = ask 1 (depthTaken depth) ∷ ask 2 (lumaSideTaken width && lumaSideTaken height) ∷ []
+abbrev pub sides_first : ℕ → ℕ → ℕ → List Question
+sides_first depth width height = ask 1 (depth_taken depth) ∷ ask 2 (luma_side_taken width && luma_side_taken height) ∷ []
 
 -- 1, 2 and 3
-abbrev pub shapeFirst : Picture → List Question
-shapeFirst q = ask 1 (depthTaken q.depth) ∷ ask 2 (lumaSideTaken q.width && lumaSideTaken q.height) ∷ ask 3 (flagsTaken q.kind) ∷ []
+abbrev pub shape_first : Picture → List Question
+shape_first q = ask 1 (depth_taken q.depth) ∷ ask 2 (luma_side_taken q.width && luma_side_taken q.height) ∷ ask 3 (flags_taken q.kind) ∷ []
 
 -- 4 and 7
-abbrev pub listsNext : Picture → List (List ℕ) → Bool → List Question
-listsNext q planes lists = ask 4 (fullPlanes q planes) ∷ ask 7 (pictureListed q && lists) ∷ []
+abbrev pub lists_next : Picture → List (List ℕ) → Bool → List Question
+lists_next q planes lists = ask 4 (full_planes q planes) ∷ ask 7 (picture_listed q && lists) ∷ []
 
 -- 8
-abbrev pub valuesNext : Picture → SignalledDamping → Bool → List Question
-valuesNext q signalled values = ask 8 (pictureTaken q signalled && values) ∷ []
+abbrev pub values_next : Picture → SignalledDamping → Bool → List Question
+values_next q signalled values = ask 8 (picture_taken q signalled && values) ∷ []
 
 -- 9
-abbrev pub samplesLast : ℕ → List (List ℕ) → List Question
-samplesLast depth looked = ask 9 (allSamplesBelow (2 ^ depth) looked) ∷ []
+abbrev pub samples_last : ℕ → List (List ℕ) → List Question
+samples_last depth looked = ask 9 (all_samples_below (2 ^ depth) looked) ∷ []

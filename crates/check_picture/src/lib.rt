@@ -1,16 +1,16 @@
 // The checks that the frame calls share. 1, 2 and 3 come first; what follows them requires that these passed. A list is walked (8, 9) only once its length has passed (4, 7).
 ghost use Rattle.std.specs.Prelude.{◌≡◌, List, [], ◌∷◌, ℕ, ◌*◌, ◌≤◌, eqb, length};
-ghost use Rattle.cdef_spec.specs.Picture.{planeWidth, planeHeight, units as unitsIn};
-ghost use Rattle.cdef_spec.specs.Questions.{firstNo, flagsTaken, pictureListed, visibleTaken, variancesTaken, pictureTaken};
-ghost use Rattle.frame_shape.specs.Frame.{Shaped, kind_of, pictureOf};
-ghost use Rattle.check_picture.specs.Parts.{sidesFirst, shapeFirst, listsNext, valuesNext, samplesLast};
+ghost use Rattle.cdef_spec.specs.Picture.{plane_width, plane_height, units as units_in};
+ghost use Rattle.cdef_spec.specs.Questions.{first_no, flags_taken, picture_listed, visible_taken, variances_taken, picture_taken};
+ghost use Rattle.frame_shape.specs.Frame.{Shaped, kind_of, picture_of};
+ghost use Rattle.check_picture.specs.Parts.{sides_first, shape_first, lists_next, values_next, samples_last};
 
 use cdef_spec::{SignalledDamping, Visible};
 use frame_shape::Frame;
 
 // 1 and 2: the depth and the sides.
 pub fn sides_no(depth: u8, width: usize, height: usize) -> u8
-    ensures { result ≡ firstNo (sidesFirst depth width height) }
+    ensures { result ≡ first_no (sides_first depth width height) }
 {
     if !check_sides::depth_taken(depth) {
         return 1;
@@ -26,7 +26,7 @@ pub fn sides_no(depth: u8, width: usize, height: usize) -> u8
 
 // 3: the subsampling flags of chroma.
 fn flags_taken(f: Frame) -> bool
-    ensures { (vs : List ℕ) → result ≡ flagsTaken (kind_of f vs) }
+    ensures { (vs : List ℕ) → result ≡ flags_taken (kind_of f vs) }
 {
     if f.luma {
         return true;
@@ -39,7 +39,7 @@ fn flags_taken(f: Frame) -> bool
 
 // 1, 2 and 3.
 pub fn shape_no(f: Frame) -> u8
-    ensures { (s d vs : List ℕ) → result ≡ firstNo (shapeFirst (pictureOf f s d vs)) }
+    ensures { (s d vs : List ℕ) → result ≡ first_no (shape_first (picture_of f s d vs)) }
 {
     let no = sides_no(f.depth, f.width, f.height);
     if no != 0 {
@@ -54,7 +54,7 @@ pub fn shape_no(f: Frame) -> u8
 // 4: a plane holds exactly as many samples as its own sides multiply to.
 fn full(f: Frame, plane: &[u16]) -> bool
     requires { Shaped f }
-    ensures { (s d vs : List ℕ) → result ≡ eqb (length plane.now) (planeWidth (pictureOf f s d vs) * planeHeight (pictureOf f s d vs)) }
+    ensures { (s d vs : List ℕ) → result ≡ eqb (length plane.now) (plane_width (picture_of f s d vs) * plane_height (picture_of f s d vs)) }
 {
     plane.len() == frame_shape::geometry::plane_width(f) * frame_shape::geometry::plane_height(f)
 }
@@ -62,7 +62,7 @@ fn full(f: Frame, plane: &[u16]) -> bool
 // 7: per block a flag, a direction and, in luma, a variance.
 fn picture_listed(f: Frame, skip: &[u8], dirs: &[u8], vars: &[u32]) -> bool
     requires { Shaped f }
-    ensures { result ≡ pictureListed (pictureOf f skip.now dirs.now vars.now) }
+    ensures { result ≡ picture_listed (picture_of f skip.now dirs.now vars.now) }
 {
     let n = f.height / 8 * (f.width / 8);
     if skip.len() != n {
@@ -80,14 +80,14 @@ fn picture_listed(f: Frame, skip: &[u8], dirs: &[u8], vars: &[u32]) -> bool
 // 7: the number of units, for the lists that have one entry per unit.
 pub fn units(f: Frame) -> usize
     requires { Shaped f }
-    ensures { ((s d vs : List ℕ) → result ≡ unitsIn (pictureOf f s d vs)) × (result ≤ 4096) }
+    ensures { ((s d vs : List ℕ) → result ≡ units_in (picture_of f s d vs)) × (result ≤ 4096) }
 {
     (f.height + 63) / 64 * ((f.width + 63) / 64)
 }
 
 // 7: the visible size is 1 to the luma sides.
 pub fn visible_taken(f: Frame, v: Visible) -> bool
-    ensures { (s d vs : List ℕ) → result ≡ visibleTaken (pictureOf f s d vs) v }
+    ensures { (s d vs : List ℕ) → result ≡ visible_taken (picture_of f s d vs) v }
 {
     if v.width == 0 {
         return false;
@@ -112,7 +112,7 @@ pub fn lists_no(
     own: bool,
 ) -> u8
     requires { Shaped f }
-    ensures { result ≡ firstNo (listsNext (pictureOf f skip.now dirs.now vars.now)
+    ensures { result ≡ first_no (lists_next (picture_of f skip.now dirs.now vars.now)
         (a.now ∷ b.now ∷ []) own) }
 {
     if !full(f, a) {
@@ -132,7 +132,7 @@ pub fn lists_no(
 
 // 8: the variances, which only luma has.
 fn variances_taken(f: Frame, vars: &[u32]) -> bool
-    ensures { result ≡ variancesTaken (kind_of f vars.now) }
+    ensures { result ≡ variances_taken (kind_of f vars.now) }
 {
     if f.luma {
         return check_lists::all_below_u32(vars, check_values::VARIANCE_LIMIT + 1);
@@ -142,7 +142,7 @@ fn variances_taken(f: Frame, vars: &[u32]) -> bool
 
 // 8: flags, directions, variances and the figure in force.
 fn picture_taken(f: Frame, skip: &[u8], dirs: &[u8], vars: &[u32], d: SignalledDamping) -> bool
-    ensures { result ≡ pictureTaken (pictureOf f skip.now dirs.now vars.now) d }
+    ensures { result ≡ picture_taken (picture_of f skip.now dirs.now vars.now) d }
 {
     if !check_lists::all_below_u8(skip, 2) {
         return false;
@@ -165,7 +165,7 @@ pub fn values_no(
     vars: &[u32],
     vals: bool,
 ) -> u8
-    ensures { result ≡ firstNo (valuesNext (pictureOf f skip.now dirs.now vars.now) d vals) }
+    ensures { result ≡ first_no (values_next (picture_of f skip.now dirs.now vars.now) d vals) }
 {
     if !picture_taken(f, skip, dirs, vars, d) {
         return 8;
@@ -179,7 +179,7 @@ pub fn values_no(
 // 9: all samples of one plane, and of two.
 pub fn plane_no(a: &[u16], depth: u8) -> u8
     requires { depth ≤ 12 }
-    ensures { result ≡ firstNo (samplesLast depth (a.now ∷ [])) }
+    ensures { result ≡ first_no (samples_last depth (a.now ∷ [])) }
 {
     if !check_lists::samples_below(a, depth) {
         return 9;
@@ -189,7 +189,7 @@ pub fn plane_no(a: &[u16], depth: u8) -> u8
 
 pub fn planes_no(a: &[u16], b: &[u16], depth: u8) -> u8
     requires { depth ≤ 12 }
-    ensures { result ≡ firstNo (samplesLast depth (a.now ∷ b.now ∷ [])) }
+    ensures { result ≡ first_no (samples_last depth (a.now ∷ b.now ∷ [])) }
 {
     if !check_lists::samples_below(a, depth) {
         return 9;

@@ -10,9 +10,9 @@ use Rattle.std.specs.Int.Bits.{bit_or, or_add_and}
 use Rattle.std.proofs.lemmas.Nat.{or_lt, and_le_l, and_le_r}
 use Rattle.cdef_spec.specs.Words.{every}
 use Rattle.cdef_spec.specs.WordsLaws.{every-at}
-use Rattle.cdef_spec.specs.Document01.{Plane, edgeSample}
-use Rattle.cdef_spec.specs.Questions.{sampleTaken, lookedAt, cutTaken}
-use Rattle.check_samples.specs.Looked.{orRow, orRows}
+use Rattle.cdef_spec.specs.Document01.{Plane, edge_sample}
+use Rattle.cdef_spec.specs.Questions.{sample_taken, looked_at, cut_taken}
+use Rattle.check_samples.specs.Looked.{or_row, or_rows}
 
 -- ---- bits
 
@@ -50,32 +50,32 @@ shifted_none a k = go (dec_lt a (2 ^ k))
         back z = let l : a < 1 * 2 ^ k = (div-lt_iff_lt-mul {y = 1} (pow_pos k)).0 (omega arith) in omega arith
 
 module _ (s : List ℕ) where
-  pub row-none : (at : ℕ) → 0 ≡ orRow s at 0
-  unfolding orRow
+  pub row-none : (at : ℕ) → 0 ≡ or_row s at 0
+  unfolding or_row
   row-none at = refl
 
-  pub row_more : (at n : ℕ) → bit_or (orRow s at n) (get_or s (at + n) 0) ≡ orRow s at (n + 1)
-  unfolding orRow
+  pub row_more : (at n : ℕ) → bit_or (or_row s at n) (get_or s (at + n) 0) ≡ or_row s at (n + 1)
+  unfolding or_row
   row_more at n = rw (add-one n)
 
-  pub rows_none : (w y x cols : ℕ) → 0 ≡ orRows s w y x cols 0
-  unfolding orRows
+  pub rows_none : (w y x cols : ℕ) → 0 ≡ or_rows s w y x cols 0
+  unfolding or_rows
   rows_none w y x cols = refl
 
-  pub rows_more : (w y x cols n : ℕ) → bit_or (orRows s w y x cols n) (orRow s ((y + n) * w + x) cols) ≡ orRows s w y x cols (n + 1)
-  unfolding orRows
+  pub rows_more : (w y x cols n : ℕ) → bit_or (or_rows s w y x cols n) (or_row s ((y + n) * w + x) cols) ≡ or_rows s w y x cols (n + 1)
+  unfolding or_rows
   rows_more w y x cols n = rw (add-one n)
 
   module _ (d : ℕ) where
-    row_below : (at n : ℕ) → ltb (orRow s at n) (2 ^ d) ≡ every n (λ j. sampleTaken d (get_or s (at + j) 0))
-    unfolding orRow every sampleTaken
+    row_below : (at n : ℕ) → ltb (or_row s at n) (2 ^ d) ≡ every n (λ j. sample_taken d (get_or s (at + j) 0))
+    unfolding or_row every sample_taken
     row_below at zero = lt-ltb 0 (2 ^ d) (pow_pos d)
-    row_below at (suc n) = or-below d (orRow s at n) (get_or s (at + n) 0) ∙ rw (row_below at n)
+    row_below at (suc n) = or-below d (or_row s at n) (get_or s (at + n) 0) ∙ rw (row_below at n)
 
-    rows-below : (w y x cols n : ℕ) → ltb (orRows s w y x cols n) (2 ^ d) ≡ every n (λ i. every cols (λ j. sampleTaken d (get_or s ((y + i) * w + x + j) 0)))
-    unfolding orRows every
+    rows-below : (w y x cols n : ℕ) → ltb (or_rows s w y x cols n) (2 ^ d) ≡ every n (λ i. every cols (λ j. sample_taken d (get_or s ((y + i) * w + x + j) 0)))
+    unfolding or_rows every
     rows-below w y x cols zero = lt-ltb 0 (2 ^ d) (pow_pos d)
-    rows-below w y x cols (suc n) = or-below d (orRows s w y x cols n) (orRow s ((y + n) * w + x) cols) ∙ rw (rows-below w y x cols n, row_below ((y + n) * w + x) cols)
+    rows-below w y x cols (suc n) = or-below d (or_rows s w y x cols n) (or_row s ((y + n) * w + x) cols) ∙ rw (rows-below w y x cols n, row_below ((y + n) * w + x) cols)
 
 every-same : (n : ℕ) (f g : ℕ → Bool) → ((k : ℕ) → f k ≡ g k) → every n f ≡ every n g
 unfolding every
@@ -88,21 +88,21 @@ abbrev sized : List ℕ → ℕ → ℕ → Plane
 sized s w h = record { samples = s; width = w; height = h }
 
 module _ (s : List ℕ) (w h d y x : ℕ) (hy : y < h) (hx : x < w) where
-  pub cut-bits : ltb (orRows s w y x (min 8 (w - x)) (min 8 (h - y))) (2 ^ d) ≡ cutTaken (sized s w h) d y x
-  unfolding cutTaken lookedAt
+  pub cut-bits : ltb (or_rows s w y x (min 8 (w - x)) (min 8 (h - y))) (2 ^ d) ≡ cut_taken (sized s w h) d y x
+  unfolding cut_taken looked_at
   cut-bits =
       let r : min (y + 8) h - y ≡ min 8 (h - y) = omega arith in
       let c : min (x + 8) w - x ≡ min 8 (w - x) = omega arith in
-      rw (r, c) (rows-below s d w y x (min 8 (w - x)) (min 8 (h - y)) ∙ every-same (min 8 (h - y)) _ _ (λ i. every-same (min 8 (w - x)) _ _ (λ j. ap (λ (k : ℕ). sampleTaken d (get_or s k 0)) (omega arith))))
+      rw (r, c) (rows-below s d w y x (min 8 (w - x)) (min 8 (h - y)) ∙ every-same (min 8 (h - y)) _ _ (λ i. every-same (min 8 (w - x)) _ _ (λ j. ap (λ (k : ℕ). sample_taken d (get_or s k 0)) (omega arith))))
 
-  module _ (cut : cutTaken (sized s w h) d y x ≡ true) where
+  module _ (cut : cut_taken (sized s w h) d y x ≡ true) where
     looked : (i j : ℕ) → i < min (y + 8) h - y → j < min (x + 8) w - x → get_or s ((y + i) * w + (x + j)) 0 < 2 ^ d
-    unfolding cutTaken lookedAt sampleTaken
+    unfolding cut_taken looked_at sample_taken
     looked i j hi hj = ltb-true _ (2 ^ d) (every-at _ _ (every-at _ _ cut i hi) j hj)
 
     -- past the right or bottom edge too: the nearest sample is examined
-    pub edge-low : (i j : ℕ) → i < 8 → j < 8 → edgeSample (sized s w h) (y + i) (x + j) < 2 ^ d
-    unfolding edgeSample
+    pub edge-low : (i j : ℕ) → i < 8 → j < 8 → edge_sample (sized s w h) (y + i) (x + j) < 2 ^ d
+    unfolding edge_sample
     edge-low i j hi hj =
         let r : min (y + i) (h - 1) ≡ y + (min (y + i) (h - 1) - y) = omega arith in
         let c : min (x + j) (w - 1) ≡ x + (min (x + j) (w - 1) - x) = omega arith in

@@ -1,10 +1,10 @@
 // Questions 1, 2, 4 and 5 of single numbers: the depth, sides, a plane's length, a block's corner and sides. Each test has its definition's name; no function here requires anything.
 ghost use Rattle.std.specs.Prelude.{◌≡◌, ◌&&◌, List, ℕ};
-ghost use Rattle.cdef_spec.specs.Questions.{depthTaken, sideTaken, lumaSideTaken, full, cornerTaken, blockSideTaken};
+ghost use Rattle.cdef_spec.specs.Questions.{depth_taken, side_taken, luma_side_taken, full, corner_taken, block_side_taken};
 
 // 1: a bit depth, 8 to 12.
 pub fn depth_taken(depth: u8) -> bool
-    ensures { result ≡ depthTaken depth }
+    ensures { result ≡ depth_taken depth }
 {
     if depth < 8 {
         return false;
@@ -14,7 +14,7 @@ pub fn depth_taken(depth: u8) -> bool
 
 // 2: a side, 1 to 4,096.
 pub fn side_taken(n: usize) -> bool
-    ensures { result ≡ sideTaken n }
+    ensures { result ≡ side_taken n }
 {
     if n == 0 {
         return false;
@@ -24,7 +24,7 @@ pub fn side_taken(n: usize) -> bool
 
 // 2: a side of luma in a frame call, 1 to 4,096 and a multiple of 8.
 pub fn luma_side_taken(n: usize) -> bool
-    ensures { result ≡ lumaSideTaken n }
+    ensures { result ≡ luma_side_taken n }
 {
     if !side_taken(n) {
         return false;
@@ -34,7 +34,7 @@ pub fn luma_side_taken(n: usize) -> bool
 
 // 4: a plane holds exactly width * height samples. The sides are tested first, so that the product fits.
 pub fn full(plane: &[u16], width: usize, height: usize) -> bool
-    ensures { result ≡ (sideTaken width && sideTaken height) && full (record { samples = plane.now; width = width; height = height }) }
+    ensures { result ≡ (side_taken width && side_taken height) && full (record { samples = plane.now; width = width; height = height }) }
 {
     if !side_taken(width) {
         return false;
@@ -47,7 +47,7 @@ pub fn full(plane: &[u16], width: usize, height: usize) -> bool
 
 // 5: a corner in the plane, whatever the plane's contents.
 pub fn corner_taken(width: usize, height: usize, x: usize, y: usize) -> bool
-    ensures { (s : List ℕ) → result ≡ cornerTaken (record { samples = s; width = width; height = height }) y x }
+    ensures { (s : List ℕ) → result ≡ corner_taken (record { samples = s; width = width; height = height }) y x }
 {
     if width <= x {
         return false;
@@ -57,7 +57,7 @@ pub fn corner_taken(width: usize, height: usize, x: usize, y: usize) -> bool
 
 // 5: a block side, 1 to 8.
 pub fn block_side_taken(n: usize) -> bool
-    ensures { result ≡ blockSideTaken n }
+    ensures { result ≡ block_side_taken n }
 {
     if n == 0 {
         return false;

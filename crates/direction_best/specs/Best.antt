@@ -5,13 +5,13 @@ use Rattle.cdef_spec.specs.Standard.{Best, better, best}
 use Rattle.direction_best.specs.declared.Found.{Found}
 
 -- the best of the first n costs
-unfoldable pub bestTo : (ℕ → ℕ) → ℕ → Best
-bestTo c zero = record { bestCost = 0; yDir = 0 }
-bestTo c (suc n) = better c n (bestTo c n)
+unfoldable pub best_to : (ℕ → ℕ) → ℕ → Best
+best_to c zero = record { best_cost = 0; y_dir = 0 }
+best_to c (suc n) = better c n (best_to c n)
 
 -- the best of eight
-unfoldable pub bestOf : List ℕ → Found
-bestOf c =
+unfoldable pub best_of : List ℕ → Found
+best_of c =
     let cost : ℕ → ℕ = λ d. get_or c d 0 in
     let b = best cost in
-    record { direction = b.yDir; variance = (b.bestCost - cost ((b.yDir + 4) % 8)) >> 10 }
+    record { direction = b.y_dir; variance = (b.best_cost - cost ((b.y_dir + 4) % 8)) >> 10 }

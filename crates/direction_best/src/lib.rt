@@ -1,6 +1,6 @@
 // The best of the eight directions, by their costs.
 ghost use Rattle.std.specs.Prelude.{◌≡◌};
-ghost use Rattle.direction_best.specs.Best.{bestOf};
+ghost use Rattle.direction_best.specs.Best.{best_of};
 
 // The direction of a block, 0 to 7, and its variance.
 #[derive(Drop)]
@@ -11,7 +11,7 @@ pub struct Found {
 
 // The largest cost, and the lowest direction on a tie; the variance is its excess over the cost of the direction four further, shifted right by 10.
 pub fn best(cost: &[u32; 8]) -> Found
-    ensures { result ≡ bestOf cost.now }
+    ensures { result ≡ best_of cost.now }
 {
     let mut direction = 0usize;
     let mut most = 0u32;

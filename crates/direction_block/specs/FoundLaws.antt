@@ -6,23 +6,23 @@ use Rattle.std.proofs.Math.Bool.{cond}
 use Prim.Native.Nat.{ℕ, zero, suc, ◌+◌, ◌%◌, ◌≤◌, ◌<◌, min}
 use native.Mathlib.Omega.{arith}
 use Rattle.cdef_spec.specs.DirectionLaws.{cost-high, direction-low, variance-high}
-use Rattle.cdef_spec.specs.DirectionLocal.{sumℤ-same, direction-same, variance-same}
-use Rattle.cdef_spec.specs.Standard.{line_of, partial, costStraight, costDiagonal, costBetween, cost, best, direction, variance}
-use Rattle.arith_sample.specs.Upto.{upto, getD-upto, upto-ext}
-use Rattle.direction_lines.specs.Lines.{partialsOf}
+use Rattle.cdef_spec.specs.DirectionLocal.{sum_ℤ-same, direction-same, variance-same}
+use Rattle.cdef_spec.specs.Standard.{line_of, partial, cost_straight, cost_diagonal, cost_between, cost, best, direction, variance}
+use Rattle.arith_sample.specs.Upto.{upto, get_or-upto, upto-ext}
+use Rattle.direction_lines.specs.Lines.{partials_of}
 use Rattle.direction_costs.specs.Costs.{entry}
-use Rattle.direction_block.specs.Found.{costList, CostsFit, foundOf}
-use Rattle.direction_best.specs.Best.{bestOf}
+use Rattle.direction_block.specs.Found.{cost_list, CostsFit, found_of}
+use Rattle.direction_best.specs.Best.{best_of}
 use Rattle.direction_costs.specs.CostsLaws.{straight-is, diagonal-is, between_is}
 use Rattle.direction_best.specs.BestLaws.{best-same}
 
 -- ---- a cost reads its first lines only
 
 module _ (p r : ℕ → ℤ) (h : (n : ℕ) → n < 16 → p n ≡ r n) where
-  straight-same : costStraight p ≡ costStraight r
+  straight-same : cost_straight p ≡ cost_straight r
   straight-same = straight-is p ∙ rw (h 0 (omega arith), h 1 (omega arith), h 2 (omega arith), h 3 (omega arith), h 4 (omega arith), h 5 (omega arith), h 6 (omega arith), h 7 (omega arith)) (sym (straight-is r))
 
-  diagonal-same : costDiagonal p ≡ costDiagonal r
+  diagonal-same : cost_diagonal p ≡ cost_diagonal r
   diagonal-same = diagonal-is p ∙ rw (
     h 0 (omega arith),
     h 1 (omega arith),
@@ -41,7 +41,7 @@ module _ (p r : ℕ → ℤ) (h : (n : ℕ) → n < 16 → p n ≡ r n) where
     h 14 (omega arith),
   ) (sym (diagonal-is r))
 
-  between-same : costBetween p ≡ costBetween r
+  between-same : cost_between p ≡ cost_between r
   between-same = between_is p ∙ rw (
     h 0 (omega arith),
     h 1 (omega arith),
@@ -61,10 +61,10 @@ module _ (p r : ℕ → ℤ) (h : (n : ℕ) → n < 16 → p n ≡ r n) where
 module _ (x : ℕ → ℕ → ℤ) where
   line_at : (d n : ℕ) → n < 16 → entry (upto (partial x d) 16) n ≡ partial x d n
   unfolding entry
-  line_at d n h = getD-upto (partial x d) 16 n (pos 0) h
+  line_at d n h = get_or-upto (partial x d) 16 n (pos 0) h
 
-  pub costs-are : (d : ℕ) → d < 8 → get_or (costList (partialsOf x)) d 0 ≡ cost x d
-  unfolding costList partialsOf cost
+  pub costs-are : (d : ℕ) → d < 8 → get_or (cost_list (partials_of x)) d 0 ≡ cost x d
+  unfolding cost_list partials_of cost
   costs-are zero h = diagonal-same (entry (upto (partial x 0) 16)) (partial x 0) (line_at 0)
   costs-are (suc zero) h = between-same (entry (upto (partial x 1) 16)) (partial x 1) (line_at 1)
   costs-are (suc (suc zero)) h = straight-same (entry (upto (partial x 2) 16)) (partial x 2) (line_at 2)
@@ -91,10 +91,10 @@ module _ (x : ℕ → ℕ → ℤ) (small : (i j : ℕ) → i < 8 → j < 8 → 
 
   partial-near : (d n : ℕ) → partial x d n ≡ partial near d n
   unfolding partial
-  partial-near d n = sumℤ-same 8 _ _ (λ i hi. sumℤ-same 8 _ _ (λ j hj. ap (λ (z : ℤ). cond (eqb (line_of d i j) n) z (pos 0)) (near_same i j hi hj)))
+  partial-near d n = sum_ℤ-same 8 _ _ (λ i hi. sum_ℤ-same 8 _ _ (λ j hj. ap (λ (z : ℤ). cond (eqb (line_of d i j) n) z (pos 0)) (near_same i j hi hj)))
 
-  partials-near : partialsOf x ≡ partialsOf near
-  unfolding partialsOf
+  partials-near : partials_of x ≡ partials_of near
+  unfolding partials_of
   partials-near =
       let e : (d : ℕ) → upto (partial x d) 16 ≡ upto (partial near d) 16 = λ d. upto-ext _ _ 16 (λ n h. partial-near d n) in
       rw (e 0, e 1, e 2, e 3, e 4, e 5, e 6, e 7)
@@ -103,7 +103,7 @@ module _ (x : ℕ → ℕ → ℤ) (small : (i j : ℕ) → i < 8 → j < 8 → 
   unfolding near
   near-small i j = small (min i 7) (min j 7) (omega arith) (omega arith)
 
-  pub costs-fit : CostsFit (partialsOf x)
+  pub costs-fit : CostsFit (partials_of x)
   costs-fit = record { all = λ d h. rw (partials-near, costs-are near d h) (cost-high near near-small d h) }
 
   pub direction-below : direction x < 8
@@ -113,8 +113,8 @@ module _ (x : ℕ → ℕ → ℤ) (small : (i j : ℕ) → i < 8 → j < 8 → 
   variance-below = rw (variance-same x near near_same) (variance-high near near-small)
 
 -- THE DIRECTION AND THE VARIANCE from a block's line sums are the standard's
-pub found-are : (x : ℕ → ℕ → ℤ) → foundOf (partialsOf x) ≡ record { direction = direction x; variance = variance x }
-unfolding foundOf bestOf direction variance
+pub found-are : (x : ℕ → ℕ → ℤ) → found_of (partials_of x) ≡ record { direction = direction x; variance = variance x }
+unfolding found_of best_of direction variance
 found-are x =
-    let e : best (λ d. get_or (costList (partialsOf x)) d 0) ≡ best (cost x) = best-same _ _ (costs-are x) in
-    rw (e, costs-are x (((best (cost x)).yDir + 4) % 8) (omega arith))
+    let e : best (λ d. get_or (cost_list (partials_of x)) d 0) ≡ best (cost x) = best-same _ _ (costs-are x) in
+    rw (e, costs-are x (((best (cost x)).y_dir + 4) % 8) (omega arith))

@@ -1,9 +1,9 @@
 // The direction of an 8 by 8 block and its variance: line sums, costs, the best of them.
 ghost use Rattle.std.specs.Prelude.{◌≡◌, true, ◌*◌, ◌≤◌, ◌<◌, length};
-ghost use Rattle.cdef_spec.specs.Document01.{directionInput, blockDirection, blockVariance};
-ghost use Rattle.cdef_spec.specs.Questions.{cutTaken};
-ghost use Rattle.direction_block.specs.Found.{costList, CostsFit, foundOf};
-ghost use Rattle.direction_lines.specs.Lines.{partialsOf};
+ghost use Rattle.cdef_spec.specs.Document01.{direction_input, block_direction, block_variance};
+ghost use Rattle.cdef_spec.specs.Questions.{cut_taken};
+ghost use Rattle.direction_block.specs.Found.{cost_list, CostsFit, found_of};
+ghost use Rattle.direction_lines.specs.Lines.{partials_of};
 
 use direction_best::Found;
 use direction_lines::Partials;
@@ -23,8 +23,8 @@ pub fn cdef_direction_partials(
 ) -> Partials
     requires plane_len { length plane.now ≡ width * height }
     requires width_bound { (width ≤ 4096) × (height ≤ 4096) × (x < width) × (y < height) × (8 ≤ depth) × (depth ≤ 12) }
-    requires x_value { cutTaken (record { samples = plane.now; width = width; height = height }) depth y x ≡ true }
-    ensures { result ≡ partialsOf (directionInput (record { samples = plane.now; width = width; height = height }) depth y x) }
+    requires x_value { cut_taken (record { samples = plane.now; width = width; height = height }) depth y x ≡ true }
+    ensures { result ≡ partials_of (direction_input (record { samples = plane.now; width = width; height = height }) depth y x) }
 {
     let b = direction_levels::levels(plane, width, height, x, y, depth);
     let t = direction_lines::turned(&b);
@@ -45,7 +45,7 @@ pub fn cdef_direction_partials(
 // The costs of the eight directions.
 pub fn costs(p: Partials) -> [u32; 8]
     requires { CostsFit p }
-    ensures { result ≡ costList p }
+    ensures { result ≡ cost_list p }
 {
     let l0 = p.d0;
     let l1 = p.d1;
@@ -70,7 +70,7 @@ pub fn costs(p: Partials) -> [u32; 8]
 // The best direction and its variance, by the line sums.
 pub fn cdef_direction_cost(p: Partials) -> Found
     requires { CostsFit p }
-    ensures { result ≡ foundOf p }
+    ensures { result ≡ found_of p }
 {
     direction_best::best(&costs(p))
 }
@@ -86,9 +86,9 @@ pub fn cdef_direction(
 ) -> Found
     requires plane_len { length plane.now ≡ width * height }
     requires width_bound { (width ≤ 4096) × (height ≤ 4096) × (x < width) × (y < height) × (8 ≤ depth) × (depth ≤ 12) }
-    requires x_value { cutTaken (record { samples = plane.now; width = width; height = height }) depth y x ≡ true }
-    ensures direction_value { result.direction ≡ blockDirection (record { samples = plane.now; width = width; height = height }) depth y x }
-    ensures variance_value { result.variance ≡ blockVariance (record { samples = plane.now; width = width; height = height }) depth y x }
+    requires x_value { cut_taken (record { samples = plane.now; width = width; height = height }) depth y x ≡ true }
+    ensures direction_value { result.direction ≡ block_direction (record { samples = plane.now; width = width; height = height }) depth y x }
+    ensures variance_value { result.variance ≡ block_variance (record { samples = plane.now; width = width; height = height }) depth y x }
 {
     cdef_direction_cost(cdef_direction_partials(plane, width, height, x, y, depth))
 }

@@ -1,6 +1,6 @@
 // The best direction of each of eight blocks, and its variance.
 ghost use Rattle.std.specs.Prelude.{◌≡◌, cond, ◌+◌, ◌≤◌, ◌<◌, ltb};
-ghost use Rattle.direction_eight.specs.Best.{CostListFits, bestsOf, foundByCosts};
+ghost use Rattle.direction_eight.specs.Best.{CostListFits, bests_of, found_by_costs};
 
 use crate::Found8;
 
@@ -27,8 +27,8 @@ fn choose(t: bool, a: u32, b: u32) -> u32
 
 // One more direction.
 fn better(b: Best8, c: &[u32; 64], d: usize) -> Best8
-    requires { (d < 8) × CostListFits c.now × (b ≡ bestsOf c.now d) }
-    ensures { result ≡ bestsOf c.now (d + 1) }
+    requires { (d < 8) × CostListFits c.now × (b ≡ bests_of c.now d) }
+    ensures { result ≡ bests_of c.now (d + 1) }
 {
     let from = b.directions;
     let top = b.most;
@@ -47,7 +47,7 @@ fn better(b: Best8, c: &[u32; 64], d: usize) -> Best8
 // All eight directions.
 fn best(c: &[u32; 64]) -> Best8
     requires { CostListFits c.now }
-    ensures { result ≡ bestsOf c.now 8 }
+    ensures { result ≡ bests_of c.now 8 }
 {
     let mut b = Best8 {
         directions: [0u32; 8],
@@ -62,7 +62,7 @@ fn best(c: &[u32; 64]) -> Best8
 // The best directions, with their costs' excess over those of the directions four further, shifted right by 10.
 pub fn found(c: &[u32; 64]) -> Found8
     requires { CostListFits c.now }
-    ensures { result ≡ foundByCosts c.now }
+    ensures { result ≡ found_by_costs c.now }
 {
     let b = best(c);
     let from = b.directions;

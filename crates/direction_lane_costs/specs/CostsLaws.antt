@@ -7,15 +7,15 @@ use Rattle.std.proofs.Math.Numerals.{add-one}
 use native.Mathlib.Omega.{arith}
 use borrow.Author.Tests.{ne_eqb}
 use Rattle.std.proofs.Math.ListN.{length-set}
-use Rattle.cdef_spec.specs.Standard.{partial, square, Div-Table, costStraight, costDiagonal, costBetween, cost}
+use Rattle.cdef_spec.specs.Standard.{partial, square, div_table, cost_straight, cost_diagonal, cost_between, cost}
 use Rattle.arith_sample.specs.Bounds.{Within}
-use Rattle.arith_sample.specs.Upto.{upto, getD-upto, upto-more, upto-at}
+use Rattle.arith_sample.specs.Upto.{upto, get_or-upto, upto-more, upto-at}
 use Rattle.direction_costs.specs.CostsLaws.{straight-is, diagonal-is, between_is}
 use Rattle.direction_block.specs.FoundLaws.{costs-are, costs-fit}
-use Rattle.direction_lane_sums.specs.Lines.{lane_of, neighbourSums, lane_lines, lane_line}
+use Rattle.direction_lane_sums.specs.Lines.{lane_of, neighbour_sums, lane_lines, lane_line}
 use Rattle.direction_lane_sums.specs.LinesLaws.{lines-within}
 use Rattle.direction_lane_sums.specs.PartialLaws.{lines-0, lines-1, lines-2, lines-3, lines-4, lines-5, lines-6, lines-7, straight_none}
-use Rattle.direction_lane_costs.specs.Costs.{end_at, endsOf, endSquares, squaresOf, straightOf, betweenOf, diagonalOf, weigh, weighedOf, costOf, LaneCostsFit, written, costAt, CostsTo}
+use Rattle.direction_lane_costs.specs.Costs.{end_at, ends_of, end_squares, squares_of, straight_of, between_of, diagonal_of, weigh, weighed_of, cost_of, LaneCostsFit, written, cost_at, CostsTo}
 
 -- ---- lines n and 14 - n side by side
 
@@ -36,11 +36,11 @@ module _ (p : List ℤ) (n l k : ℕ) (hn : n < 8) (hl : l < 8) where
       let c : k % 2 ≡ 1 = omega arith in
       rw (a, b, c)
 
-pub end-squares : (p : List ℤ) (k : ℕ) → k < 64 → square (get_or (endsOf p) (2 * k) (pos 0)) + square (get_or (endsOf p) (2 * k + 1) (pos 0)) ≡ endSquares p (k % 8) (k / 8)
-unfolding endsOf endSquares lane_line
+pub end-squares : (p : List ℤ) (k : ℕ) → k < 64 → square (get_or (ends_of p) (2 * k) (pos 0)) + square (get_or (ends_of p) (2 * k + 1) (pos 0)) ≡ end_squares p (k % 8) (k / 8)
+unfolding ends_of end_squares lane_line
 end-squares p k h =
-    let a : get_or (upto (end_at p) 128) (2 * k) (pos 0) ≡ end_at p (2 * k) = getD-upto (end_at p) 128 (2 * k) (pos 0) (omega arith) in
-    let b : get_or (upto (end_at p) 128) (2 * k + 1) (pos 0) ≡ end_at p (2 * k + 1) = getD-upto (end_at p) 128 (2 * k + 1) (pos 0) (omega arith) in
+    let a : get_or (upto (end_at p) 128) (2 * k) (pos 0) ≡ end_at p (2 * k) = get_or-upto (end_at p) 128 (2 * k) (pos 0) (omega arith) in
+    let b : get_or (upto (end_at p) 128) (2 * k + 1) (pos 0) ≡ end_at p (2 * k + 1) = get_or-upto (end_at p) 128 (2 * k + 1) (pos 0) (omega arith) in
     let c : end_at p (2 * k) ≡ get_or p (k / 8 * 8 + k % 8) (pos 0) = end-even p (k / 8) (k % 8) (2 * k) (omega arith) (omega arith) (omega arith) in
     let d : end_at p (2 * k + 1) ≡ get_or p ((14 - k / 8) * 8 + k % 8) (pos 0) = end-odd p (k / 8) (k % 8) (2 * k + 1) (omega arith) (omega arith) (omega arith) in
     rw (a, b, c, d)
@@ -48,15 +48,15 @@ end-squares p k h =
 -- ---- weights
 
 module _ (kind : ℕ) (e : ℕ → ℕ) where
-  pub weigh-straight : kind ≡ 0 → weigh kind e ≡ straightOf (e 0) (e 1) (e 2) (e 3) (e 4) (e 5) (e 6) (e 7 / 2)
+  pub weigh-straight : kind ≡ 0 → weigh kind e ≡ straight_of (e 0) (e 1) (e 2) (e 3) (e 4) (e 5) (e 6) (e 7 / 2)
   unfolding weigh
   weigh-straight h = rw h
 
-  pub weigh-between : kind ≡ 1 → weigh kind e ≡ betweenOf (e 2) (e 3) (e 4) (e 5) (e 6) (e 7 / 2)
+  pub weigh-between : kind ≡ 1 → weigh kind e ≡ between_of (e 2) (e 3) (e 4) (e 5) (e 6) (e 7 / 2)
   unfolding weigh
   weigh-between h = rw h
 
-  pub weigh-diagonal : (kind ≡ 0 → ⊥) → (kind ≡ 1 → ⊥) → weigh kind e ≡ diagonalOf (e 0) (e 1) (e 2) (e 3) (e 4) (e 5) (e 6) (e 7 / 2)
+  pub weigh-diagonal : (kind ≡ 0 → ⊥) → (kind ≡ 1 → ⊥) → weigh kind e ≡ diagonal_of (e 0) (e 1) (e 2) (e 3) (e 4) (e 5) (e 6) (e 7 / 2)
   unfolding weigh
   weigh-diagonal h g = rw (ne_eqb kind 0 h, ne_eqb kind 1 g)
 
@@ -65,21 +65,21 @@ unfolding weigh
 weigh-same kind e g h = rw (h 0 (omega arith), h 1 (omega arith), h 2 (omega arith), h 3 (omega arith), h 4 (omega arith), h 5 (omega arith), h 6 (omega arith), h 7 (omega arith))
 
 -- a lane of the squares
-pub lane-cost : (p : List ℤ) (kind l : ℕ) → l < 8 → weighedOf kind (squaresOf p) l ≡ costOf p kind l
-unfolding weighedOf squaresOf costOf
+pub lane-cost : (p : List ℤ) (kind l : ℕ) → l < 8 → weighed_of kind (squares_of p) l ≡ cost_of p kind l
+unfolding weighed_of squares_of cost_of
 lane-cost p kind l hl = weigh-same kind _ _ (λ n h. at n h)
   where
-    at : (n : ℕ) → n < 8 → get_or (upto (λ k. endSquares p (k % 8) (k / 8)) 64) (n * 8 + l) 0 ≡ endSquares p l n
+    at : (n : ℕ) → n < 8 → get_or (upto (λ k. end_squares p (k % 8) (k / 8)) 64) (n * 8 + l) 0 ≡ end_squares p l n
     at n h =
         let a : (n * 8 + l) % 8 ≡ l = omega arith in
         let b : (n * 8 + l) / 8 ≡ n = omega arith in
-        getD-upto _ 64 (n * 8 + l) 0 (omega arith) ∙ rw (a, b)
+        get_or-upto _ 64 (n * 8 + l) 0 (omega arith) ∙ rw (a, b)
 
 -- ---- the costs of lines p
 
 module _ (q : List ℤ) (p : ℕ → ℤ) (l : ℕ) where
-  straight-cost : ((n : ℕ) → n < 8 → lane_line q l n ≡ p n) → ((n : ℕ) → 8 ≤ n → n < 16 → lane_line q l n ≡ pos 0) → costOf q 0 l ≡ costStraight p
-  unfolding costOf weigh endSquares Div-Table square
+  straight-cost : ((n : ℕ) → n < 8 → lane_line q l n ≡ p n) → ((n : ℕ) → 8 ≤ n → n < 16 → lane_line q l n ≡ pos 0) → cost_of q 0 l ≡ cost_straight p
+  unfolding cost_of weigh end_squares div_table square
   straight-cost h g =
       rw (
         h 0 (omega arith),
@@ -100,8 +100,8 @@ module _ (q : List ℤ) (p : ℕ → ℤ) (l : ℕ) where
       )
       (omega (arith, straight-is p))
 
-  between-cost : ((n : ℕ) → n < 14 → lane_line q l (n + 2) ≡ p n) → costOf q 1 l ≡ costBetween p
-  unfolding costOf weigh endSquares Div-Table
+  between-cost : ((n : ℕ) → n < 14 → lane_line q l (n + 2) ≡ p n) → cost_of q 1 l ≡ cost_between p
+  unfolding cost_of weigh end_squares div_table
   between-cost h =
       rw (
         h 0 (omega arith),
@@ -118,8 +118,8 @@ module _ (q : List ℤ) (p : ℕ → ℤ) (l : ℕ) where
       )
       (omega (arith, between_is p))
 
-  diagonal-cost : ((n : ℕ) → n < 15 → lane_line q l n ≡ p n) → costOf q 2 l ≡ costDiagonal p
-  unfolding costOf weigh endSquares Div-Table
+  diagonal-cost : ((n : ℕ) → n < 15 → lane_line q l n ≡ p n) → cost_of q 2 l ≡ cost_diagonal p
+  unfolding cost_of weigh end_squares div_table
   diagonal-cost h =
       rw (
         h 0 (omega arith),
@@ -141,41 +141,41 @@ module _ (q : List ℤ) (p : ℕ → ℤ) (l : ℕ) where
       (omega (arith, diagonal-is p))
 
 -- in the opposite order
-diagonal-back : (p : ℕ → ℤ) → costDiagonal (λ n. p (14 - n)) ≡ costDiagonal p
-unfolding Div-Table
+diagonal-back : (p : ℕ → ℤ) → cost_diagonal (λ n. p (14 - n)) ≡ cost_diagonal p
+unfolding div_table
 diagonal-back p = omega (arith, diagonal-is p, diagonal-is (λ n. p (14 - n)))
 
 -- THE COSTS of a lane are the standard's
 module _ (s : List ℤ) (l : ℕ) (hl : l < 8) where
-  pub cost-0 : costOf (lane_lines s 8 0 1) 2 l ≡ cost (lane_of s l) 0
+  pub cost-0 : cost_of (lane_lines s 8 0 1) 2 l ≡ cost (lane_of s l) 0
   unfolding cost
   cost-0 = diagonal-cost _ (partial (lane_of s l) 0) l (λ n h. lines-0 s l hl n (omega arith))
 
-  pub cost-1 : costOf (lane_lines (neighbourSums s 16 64 8) 4 2 1) 1 l ≡ cost (lane_of s l) 1
+  pub cost-1 : cost_of (lane_lines (neighbour_sums s 16 64 8) 4 2 1) 1 l ≡ cost (lane_of s l) 1
   unfolding cost
   cost-1 = between-cost _ (partial (lane_of s l) 1) l (lines-1 s l hl)
 
-  pub cost-2 : costOf (lane_lines (neighbourSums s 16 64 8) 4 0 0) 0 l ≡ cost (lane_of s l) 2
+  pub cost-2 : cost_of (lane_lines (neighbour_sums s 16 64 8) 4 0 0) 0 l ≡ cost (lane_of s l) 2
   unfolding cost
   cost-2 = straight-cost _ (partial (lane_of s l) 2) l (λ n h. lines-2 s l hl n (omega arith)) (λ n a b. straight_none _ l n hl a b)
 
-  pub cost-3 : costOf (lane_lines (neighbourSums s 16 64 8) 4 2 2) 1 l ≡ cost (lane_of s l) 3
+  pub cost-3 : cost_of (lane_lines (neighbour_sums s 16 64 8) 4 2 2) 1 l ≡ cost (lane_of s l) 3
   unfolding cost
   cost-3 = between-cost _ (partial (lane_of s l) 3) l (lines-3 s l hl)
 
-  pub cost-4 : costOf (lane_lines s 8 0 2) 2 l ≡ cost (lane_of s l) 4
+  pub cost-4 : cost_of (lane_lines s 8 0 2) 2 l ≡ cost (lane_of s l) 4
   unfolding cost
   cost-4 = diagonal-cost _ (λ n. partial (lane_of s l) 4 (14 - n)) l (lines-4 s l hl) ∙ diagonal-back (partial (lane_of s l) 4)
 
-  pub cost-5 : costOf (lane_lines (neighbourSums s 128 8 64) 4 2 2) 1 l ≡ cost (lane_of s l) 5
+  pub cost-5 : cost_of (lane_lines (neighbour_sums s 128 8 64) 4 2 2) 1 l ≡ cost (lane_of s l) 5
   unfolding cost
   cost-5 = between-cost _ (partial (lane_of s l) 5) l (lines-5 s l hl)
 
-  pub cost-6 : costOf (lane_lines (neighbourSums s 128 8 64) 4 0 0) 0 l ≡ cost (lane_of s l) 6
+  pub cost-6 : cost_of (lane_lines (neighbour_sums s 128 8 64) 4 0 0) 0 l ≡ cost (lane_of s l) 6
   unfolding cost
   cost-6 = straight-cost _ (partial (lane_of s l) 6) l (λ n h. lines-6 s l hl n (omega arith)) (λ n a b. straight_none _ l n hl a b)
 
-  pub cost-7 : costOf (lane_lines (neighbourSums s 128 8 64) 4 2 1) 1 l ≡ cost (lane_of s l) 7
+  pub cost-7 : cost_of (lane_lines (neighbour_sums s 128 8 64) 4 2 1) 1 l ≡ cost (lane_of s l) 7
   unfolding cost
   cost-7 = between-cost _ (partial (lane_of s l) 7) l (lines-7 s l hl)
 
@@ -186,7 +186,7 @@ cost-fits s w l d h = rw (costs-are (lane_of s l) d h) at ((costs-fit (lane_of s
 
 -- what `cost` asks of the lines p of direction d
 pub cost-ready : (s z p : List ℤ) (rows first way kind d : ℕ) → Within s 128 → Within z 256 → rows ≤ 8 → d < 8 → p ≡ lane_lines z rows first way
-    → ((l : ℕ) → l < 8 → costOf (lane_lines z rows first way) kind l ≡ cost (lane_of s l) d) → Within p 2048 × LaneCostsFit p kind
+    → ((l : ℕ) → l < 8 → cost_of (lane_lines z rows first way) kind l ≡ cost (lane_of s l) d) → Within p 2048 × LaneCostsFit p kind
 cost-ready s z p rows first way kind d ws wz hr hd e law = (rw e (lines-within z rows first way wz hr), record { all = λ l hl. rw (e, law l hl) (cost-fits s ws l d hd) })
 
 -- ---- entries written
@@ -216,15 +216,15 @@ module _ (c : List ℕ) (at : ℕ) (q : List ℕ) where
 
 -- the costs q of one more direction, from its lines p
 pub costs-more : (s z p : List ℤ) (c q r : List ℕ) (rows first way kind d : ℕ) → d < 8 → CostsTo s c (d * 8) → p ≡ lane_lines z rows first way
-    → q ≡ upto (costOf p kind) 8 → r ≡ written c (d * 8) q 8 → ((l : ℕ) → l < 8 → costOf (lane_lines z rows first way) kind l ≡ cost (lane_of s l) d)
+    → q ≡ upto (cost_of p kind) 8 → r ≡ written c (d * 8) q 8 → ((l : ℕ) → l < 8 → cost_of (lane_lines z rows first way) kind l ≡ cost (lane_of s l) d)
     → CostsTo s r (d * 8 + 8)
 costs-more s z p c q r rows first way kind d hd t ep eq er law = record {
   size = ap length er ∙ length-written c (d * 8) q 8 ∙ t.size;
-  first = rw er (written-upto c (d * 8) q (costAt s) t.first 8 (omega (arith, t.size)) (λ l hl. at l hl));
+  first = rw er (written-upto c (d * 8) q (cost_at s) t.first 8 (omega (arith, t.size)) (λ l hl. at l hl));
 }
   where
     at : (l : ℕ) → l < 8 → get_or q l 0 ≡ cost (lane_of s ((d * 8 + l) % 8)) ((d * 8 + l) / 8)
     at l hl =
         let a : (d * 8 + l) % 8 ≡ l = omega arith in
         let b : (d * 8 + l) / 8 ≡ d = omega arith in
-        rw (a, b, eq, ep) (getD-upto (costOf (lane_lines z rows first way) kind) 8 l 0 hl ∙ law l hl)
+        rw (a, b, eq, ep) (get_or-upto (cost_of (lane_lines z rows first way) kind) 8 l 0 hl ∙ law l hl)

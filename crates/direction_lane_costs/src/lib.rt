@@ -2,12 +2,12 @@
 ghost use Rattle.std.specs.Prelude.{◌≡◌, ◌+◌, ◌*◌, ◌/◌, ◌≤◌, ◌<◌, length};
 ghost use Rattle.arith_sample.specs.Bounds.{Within};
 ghost use Rattle.arith_sample.specs.Upto.{upto};
-ghost use Rattle.direction_lane_costs.specs.Costs.{endsOf, squaresOf, straightOf, betweenOf, diagonalOf, weighedOf, LaneCostsFit, costOf, written, CostsTo, costsOf};
+ghost use Rattle.direction_lane_costs.specs.Costs.{ends_of, squares_of, straight_of, between_of, diagonal_of, weighed_of, LaneCostsFit, cost_of, written, CostsTo, costs_of};
 
 // Lines n and 14 - n of each lane side by side, for n below 8, so that one instruction squares and adds both.
 fn ends(p: &[i16; 128]) -> [i16; 128]
     requires { Within p.now 2048 }
-    ensures { result ≡ endsOf p.now }
+    ensures { result ≡ ends_of p.now }
 {
     let mut z = [0i16; 128];
     for n in 0..8usize {
@@ -25,7 +25,7 @@ fn ends(p: &[i16; 128]) -> [i16; 128]
 // The squares of both, added.
 fn squares(p: &[i16; 128]) -> [u32; 64]
     requires { Within p.now 2048 }
-    ensures { result ≡ squaresOf p.now }
+    ensures { result ≡ squares_of p.now }
 {
     let z = ends(p);
     let mut q = [0u32; 64];
@@ -47,32 +47,32 @@ fn times(x: u32, n: u32) -> u32
 
 // The cost of eight lines of 8 samples.
 fn straight(a: u32, b: u32, c: u32, d: u32, e: u32, f: u32, g: u32, h: u32) -> u32
-    requires { straightOf a b c d e f g h ≤ 880803840 }
-    ensures { result ≡ straightOf a b c d e f g h }
+    requires { straight_of a b c d e f g h ≤ 880803840 }
+    ensures { result ≡ straight_of a b c d e f g h }
 {
     times(a + b + c + d + (e + f + g + h), 8)
 }
 
 // The cost of eleven lines, of 2, 4 and 6 samples at either end and of 8 between. The divisors of 2 and 4 are 4 and 2 times that of 8.
 fn between(c: u32, d: u32, e: u32, f: u32, g: u32, h: u32) -> u32
-    requires { betweenOf c d e f g h ≤ 880803840 }
-    ensures { result ≡ betweenOf c d e f g h }
+    requires { between_of c d e f g h ≤ 880803840 }
+    ensures { result ≡ between_of c d e f g h }
 {
     times(c * 4 + d * 2 + (f + g + h), 8) + times(e, 6)
 }
 
 // The cost of fifteen lines, of 1 to 8 and back to 1 samples. The divisors of 1, 2 and 4 are 8, 4 and 2 times that of 8, the divisor of 3 twice that of 6.
 fn diagonal(a: u32, b: u32, c: u32, d: u32, e: u32, f: u32, g: u32, h: u32) -> u32
-    requires { diagonalOf a b c d e f g h ≤ 880803840 }
-    ensures { result ≡ diagonalOf a b c d e f g h }
+    requires { diagonal_of a b c d e f g h ≤ 880803840 }
+    ensures { result ≡ diagonal_of a b c d e f g h }
 {
     times(a * 8 + b * 4 + d * 2 + h, 8) + times(c * 2 + f, 6) + times(e, 5) + times(g, 7)
 }
 
 // The cost of lane l. Line 7 is its own counterpart, and counted twice.
 fn weighed(q: &[u32; 64], l: usize, kind: usize) -> u32
-    requires { (l < 8) × (weighedOf kind q.now l ≤ 880803840) }
-    ensures { result ≡ weighedOf kind q.now l }
+    requires { (l < 8) × (weighed_of kind q.now l ≤ 880803840) }
+    ensures { result ≡ weighed_of kind q.now l }
 {
     let a = q[l];
     let b = q[8 + l];
@@ -94,7 +94,7 @@ fn weighed(q: &[u32; 64], l: usize, kind: usize) -> u32
 // The costs of the eight lanes: kind 0 for straight lines, 1 for those between, 2 for diagonal ones.
 fn cost(p: &[i16; 128], kind: usize) -> [u32; 8]
     requires { Within p.now 2048 × LaneCostsFit p.now kind }
-    ensures { result ≡ upto (costOf p.now kind) 8 }
+    ensures { result ≡ upto (cost_of p.now kind) 8 }
 {
     let q = squares(p);
     let mut c = [0u32; 8];
@@ -144,7 +144,7 @@ fn last_costs(c: &mut [u32; 64], s: &[i16; 512])
 // The costs: direction d of lane l at 8 d + l.
 pub fn costs(s: &[i16; 512]) -> [u32; 64]
     requires { (length s.now ≡ 512) × Within s.now 128 }
-    ensures { result ≡ costsOf s.now }
+    ensures { result ≡ costs_of s.now }
 {
     let mut c = [0u32; 64];
     first_costs(&mut c, s);

@@ -8,17 +8,17 @@ use native.Mathlib.Omega.{arith}
 use Rattle.std.proofs.lemmas.Bool.{lt-leb}
 use Rattle.std.proofs.Math.Dec.{ltb}
 use Rattle.std.proofs.Math.IntN.{+ℤ_assoc, +ℤ_idl}
-use Rattle.cdef_spec.specs.Words.{sumℤ}
-use Rattle.cdef_spec.specs.DirectionLocal.{sumℤ-same}
+use Rattle.cdef_spec.specs.Words.{sum_ℤ}
+use Rattle.cdef_spec.specs.DirectionLocal.{sum_ℤ-same}
 use Rattle.cdef_spec.specs.Standard.{line_of, partial}
-use Rattle.arith_sample.specs.Upto.{getD-upto}
+use Rattle.arith_sample.specs.Upto.{get_or-upto}
 use Rattle.direction_lines.specs.LinesLaws.{row_is, turned-is}
-use Rattle.direction_lane_sums.specs.Lines.{lane_of, neighbourSum, neighbourSums, addedAt, place_of, lane_lines, lane_line}
+use Rattle.direction_lane_sums.specs.Lines.{lane_of, neighbour_sum, neighbour_sums, added_at, place_of, lane_lines, lane_line}
 use Rattle.direction_lane_sums.specs.LinesLaws.{place-high}
 
 -- the entry of a row on line n, where the row starts at line s
-unfoldable onLine : (ℕ → ℤ) → ℕ → ℕ → ℤ
-onLine f s n = cond (leb s n && ltb n (s + 8)) (f (n - s)) (pos 0)
+unfoldable on_line : (ℕ → ℤ) → ℕ → ℕ → ℤ
+on_line f s n = cond (leb s n && ltb n (s + 8)) (f (n - s)) (pos 0)
 
 -- ---- a row of lanes
 
@@ -43,8 +43,8 @@ module _ (s n l : ℕ) (hl : l < 8) where
           let k : s * 8 + 64 ≤ n * 8 + l = omega arith in
           le-ltb (n * 8 + l) (s * 8 + 64) k ∙ sym (le-ltb n (s + 8) a)
 
-  row-lane : (z : List ℤ) (i : ℕ) → addedAt z (s * 8) (i * 64) 64 (n * 8 + l) ≡ onLine (lane_of z l i) s n
-  unfolding addedAt onLine lane_of
+  row-lane : (z : List ℤ) (i : ℕ) → added_at z (s * 8) (i * 64) 64 (n * 8 + l) ≡ on_line (lane_of z l i) s n
+  unfolding added_at on_line lane_of
   row-lane z i = rw (low_same, high_same) (go (dec_le s n))
     where
       go : Dec (s ≤ n)
@@ -53,14 +53,14 @@ module _ (s n l : ℕ) (hl : l < 8) where
       go (no h) = let a : n < s = omega arith in rw (lt-leb s n a)
 
 -- the lines of a lane
-line-sum : (z : List ℤ) (rows first way l n : ℕ) → l < 8 → n < 16 → lane_line (lane_lines z rows first way) l n ≡ sumℤ rows (λ i. onLine (lane_of z l i) (place_of i rows first way) n)
+line-sum : (z : List ℤ) (rows first way l n : ℕ) → l < 8 → n < 16 → lane_line (lane_lines z rows first way) l n ≡ sum_ℤ rows (λ i. on_line (lane_of z l i) (place_of i rows first way) n)
 unfolding lane_line lane_lines
-line-sum z rows first way l n hl hn = getD-upto _ 128 (n * 8 + l) (pos 0) (omega arith) ∙ sumℤ-same rows _ _ (λ i hi. row-lane (place_of i rows first way) n l hl z i)
+line-sum z rows first way l n hl hn = get_or-upto _ 128 (n * 8 + l) (pos 0) (omega arith) ∙ sum_ℤ-same rows _ _ (λ i hi. row-lane (place_of i rows first way) n l hl z i)
 
 -- ---- a row of the standard
 
-line-from : (f : ℕ → ℤ) (s n : ℕ) → s ≤ 8 → sumℤ 8 (λ j. cond (eqb (j + s) n) (f j) (pos 0)) ≡ onLine f s n
-unfolding onLine
+line-from : (f : ℕ → ℤ) (s n : ℕ) → s ≤ 8 → sum_ℤ 8 (λ j. cond (eqb (j + s) n) (f j) (pos 0)) ≡ on_line f s n
+unfolding on_line
 line-from f s n hs = row_is f (λ j. j + s) n (8 - s) 8 (λ j h. omega arith) ∙ go (dec_le s n) (dec_lt n (s + 8))
   where
     go : Dec (s ≤ n) → Dec (n < s + 8)
@@ -91,16 +91,16 @@ eqb_same a b c d f g = go (ℕ_discrete a b)
 module _ (x : ℕ → ℕ → ℤ) (L : ℕ → ℕ → ℕ) (S : ℕ → ℕ) (n N : ℕ)
     (low : (i : ℕ) → i < 8 → S i ≤ 8)
     (line : (i j : ℕ) → i < 8 → j < 8 → (L i j ≡ n → j + S i ≡ N) × (j + S i ≡ N → L i j ≡ n)) where
-  rows_are : sumℤ 8 (λ i. sumℤ 8 (λ j. cond (eqb (L i j) n) (x i j) (pos 0))) ≡ sumℤ 8 (λ i. onLine (x i) (S i) N)
-  rows_are = sumℤ-same 8 _ _ (λ i hi. sumℤ-same 8 _ _ (λ j hj. ap (λ (t : Bool). cond t (x i j) (pos 0)) (same i j hi hj)) ∙ line-from (x i) (S i) N (low i hi))
+  rows_are : sum_ℤ 8 (λ i. sum_ℤ 8 (λ j. cond (eqb (L i j) n) (x i j) (pos 0))) ≡ sum_ℤ 8 (λ i. on_line (x i) (S i) N)
+  rows_are = sum_ℤ-same 8 _ _ (λ i hi. sum_ℤ-same 8 _ _ (λ j hj. ap (λ (t : Bool). cond t (x i j) (pos 0)) (same i j hi hj)) ∙ line-from (x i) (S i) N (low i hi))
     where
       same : (i j : ℕ) → i < 8 → j < 8 → eqb (L i j) n ≡ eqb (j + S i) N
       same i j hi hj = eqb_same (L i j) n (j + S i) N (line i j hi hj).0 (line i j hi hj).1
 
 -- ---- pairs of rows
 
-on_same : (f g : ℕ → ℤ) (s n : ℕ) → ((j : ℕ) → j < 8 → f j ≡ g j) → onLine f s n ≡ onLine g s n
-unfolding onLine
+on_same : (f g : ℕ → ℤ) (s n : ℕ) → ((j : ℕ) → j < 8 → f j ≡ g j) → on_line f s n ≡ on_line g s n
+unfolding on_line
 on_same f g s n h = go (dec_le s n) (dec_lt n (s + 8))
   where
     go : Dec (s ≤ n) → Dec (n < s + 8) → cond (leb s n && ltb n (s + 8)) (f (n - s)) (pos 0) ≡ cond (leb s n && ltb n (s + 8)) (g (n - s)) (pos 0)
@@ -108,52 +108,52 @@ on_same f g s n h = go (dec_le s n) (dec_lt n (s + 8))
     go (yes a) (no b) = let c : s + 8 ≤ n = omega arith in rw (le-leb s n a, le-ltb n (s + 8) c)
     go (no a) b = let c : n < s = omega arith in rw (lt-leb s n c)
 
-on-add : (f g : ℕ → ℤ) (s n : ℕ) → onLine f s n +ℤ onLine g s n ≡ onLine (λ j. f j +ℤ g j) s n
-unfolding onLine
+on-add : (f g : ℕ → ℤ) (s n : ℕ) → on_line f s n +ℤ on_line g s n ≡ on_line (λ j. f j +ℤ g j) s n
+unfolding on_line
 on-add f g s n = go (leb s n && ltb n (s + 8))
   where
     go : (t : Bool) → cond t (f (n - s)) (pos 0) +ℤ cond t (g (n - s)) (pos 0) ≡ cond t (f (n - s) +ℤ g (n - s)) (pos 0)
     go true = refl
     go false = refl
 
-by-pairs : (f : ℕ → ℤ) → sumℤ 8 f ≡ sumℤ 4 (λ m. f (2 * m) +ℤ f (2 * m + 1))
-unfolding sumℤ
+by-pairs : (f : ℕ → ℤ) → sum_ℤ 8 f ≡ sum_ℤ 4 (λ m. f (2 * m) +ℤ f (2 * m + 1))
+unfolding sum_ℤ
 by-pairs f = simp (+ℤ_assoc, +ℤ_idl)
 
 module _ (z : List ℤ) (x : ℕ → ℕ → ℤ) (first way l : ℕ) (hl : l < 8) (hf : first ≤ 2)
     (pairs : (m j : ℕ) → m < 4 → j < 8 → lane_of z l m j ≡ x (2 * m) j +ℤ x (2 * m + 1) j) where
-  pair-lines : (n : ℕ) → n < 16 → lane_line (lane_lines z 4 first way) l n ≡ sumℤ 8 (λ i. onLine (x i) (place_of (i / 2) 4 first way) n)
-  pair-lines n hn = line-sum z 4 first way l n hl hn ∙ sumℤ-same 4 _ _ (λ m hm. one m hm) ∙ sym (by-pairs (λ i. onLine (x i) (place_of (i / 2) 4 first way) n))
+  pair-lines : (n : ℕ) → n < 16 → lane_line (lane_lines z 4 first way) l n ≡ sum_ℤ 8 (λ i. on_line (x i) (place_of (i / 2) 4 first way) n)
+  pair-lines n hn = line-sum z 4 first way l n hl hn ∙ sum_ℤ-same 4 _ _ (λ m hm. one m hm) ∙ sym (by-pairs (λ i. on_line (x i) (place_of (i / 2) 4 first way) n))
     where
       one : (m : ℕ) → m < 4
-          → onLine (lane_of z l m) (place_of m 4 first way) n ≡ onLine (x (2 * m)) (place_of (2 * m / 2) 4 first way) n +ℤ onLine (x (2 * m + 1)) (place_of ((2 * m + 1) / 2) 4 first way) n
+          → on_line (lane_of z l m) (place_of m 4 first way) n ≡ on_line (x (2 * m)) (place_of (2 * m / 2) 4 first way) n +ℤ on_line (x (2 * m + 1)) (place_of ((2 * m + 1) / 2) 4 first way) n
       one m hm =
           let a : 2 * m / 2 ≡ m = omega arith in
           let b : (2 * m + 1) / 2 ≡ m = omega arith in
           rw (a, b, on-add (x (2 * m)) (x (2 * m + 1)) (place_of m 4 first way) n) (on_same _ _ (place_of m 4 first way) n (λ j hj. pairs m j hm hj))
 
 -- the sums of neighbours in a column, and in a row
-pair-at : (s : List ℤ) (down on next m j l : ℕ) → m < 4 → j < 8 → l < 8 → lane_of (neighbourSums s down on next) l m j ≡ neighbourSum s (m * down + j * on) next l
-unfolding lane_of neighbourSums
+pair-at : (s : List ℤ) (down on next m j l : ℕ) → m < 4 → j < 8 → l < 8 → lane_of (neighbour_sums s down on next) l m j ≡ neighbour_sum s (m * down + j * on) next l
+unfolding lane_of neighbour_sums
 pair-at s down on next m j l hm hj hl =
     let a : (m * 64 + j * 8 + l) / 64 ≡ m = omega arith in
     let b : (m * 64 + j * 8 + l) / 8 % 8 ≡ j = omega arith in
     let c : (m * 64 + j * 8 + l) % 8 ≡ l = omega arith in
-    getD-upto _ 256 (m * 64 + j * 8 + l) (pos 0) (omega arith) ∙ rw (a, b, c)
+    get_or-upto _ 256 (m * 64 + j * 8 + l) (pos 0) (omega arith) ∙ rw (a, b, c)
 
 half-low : (i first way : ℕ) → i < 8 → first ≤ 2 → place_of (i / 2) 4 first way ≤ 8
 half-low i first way hi hf = omega (arith, place-high (i / 2) 4 first way (omega arith))
 
 module _ (s : List ℤ) (l : ℕ) (hl : l < 8) where
-  column-pairs : (m j : ℕ) → m < 4 → j < 8 → lane_of (neighbourSums s 128 8 64) l m j ≡ lane_of s l (2 * m) j +ℤ lane_of s l (2 * m + 1) j
-  unfolding neighbourSum lane_of
+  column-pairs : (m j : ℕ) → m < 4 → j < 8 → lane_of (neighbour_sums s 128 8 64) l m j ≡ lane_of s l (2 * m) j +ℤ lane_of s l (2 * m + 1) j
+  unfolding neighbour_sum lane_of
   column-pairs m j hm hj =
       let a : 2 * m * 64 + j * 8 + l ≡ m * 128 + j * 8 + l = omega arith in
       let b : (2 * m + 1) * 64 + j * 8 + l ≡ m * 128 + j * 8 + 64 + l = omega arith in
       pair-at s 128 8 64 m j l hm hj hl ∙ rw (a, b)
 
-  row-pairs : (m j : ℕ) → m < 4 → j < 8 → lane_of (neighbourSums s 16 64 8) l m j ≡ lane_of s l j (2 * m) +ℤ lane_of s l j (2 * m + 1)
-  unfolding neighbourSum lane_of
+  row-pairs : (m j : ℕ) → m < 4 → j < 8 → lane_of (neighbour_sums s 16 64 8) l m j ≡ lane_of s l j (2 * m) +ℤ lane_of s l j (2 * m + 1)
+  unfolding neighbour_sum lane_of
   row-pairs m j hm hj =
       let a : j * 64 + 2 * m * 8 + l ≡ m * 16 + j * 64 + l = omega arith in
       let b : j * 64 + (2 * m + 1) * 8 + l ≡ m * 16 + j * 64 + 8 + l = omega arith in
@@ -169,7 +169,7 @@ module _ (s : List ℤ) (l : ℕ) (hl : l < 8) where
 
   column-pair-line : (d way first n m : ℕ) → first ≤ 2 → m < 16
       → ((i j : ℕ) → i < 8 → j < 8 → (line_of d i j ≡ n → j + place_of (i / 2) 4 first way ≡ m) × (j + place_of (i / 2) 4 first way ≡ m → line_of d i j ≡ n))
-      → lane_line (lane_lines (neighbourSums s 128 8 64) 4 first way) l m ≡ partial (lane_of s l) d n
+      → lane_line (lane_lines (neighbour_sums s 128 8 64) 4 first way) l m ≡ partial (lane_of s l) d n
   unfolding partial
   column-pair-line d way first n m hf hm line =
       pair-lines _ (lane_of s l) first way l hl hf column-pairs m hm
@@ -177,7 +177,7 @@ module _ (s : List ℤ) (l : ℕ) (hl : l < 8) where
 
   row-pair-line : (d way first n m : ℕ) → first ≤ 2 → m < 16
       → ((i j : ℕ) → i < 8 → j < 8 → (line_of d j i ≡ n → j + place_of (i / 2) 4 first way ≡ m) × (j + place_of (i / 2) 4 first way ≡ m → line_of d j i ≡ n))
-      → lane_line (lane_lines (neighbourSums s 16 64 8) 4 first way) l m ≡ partial (lane_of s l) d n
+      → lane_line (lane_lines (neighbour_sums s 16 64 8) 4 first way) l m ≡ partial (lane_of s l) d n
   row-pair-line d way first n m hf hm line =
       pair-lines _ (λ i j. lane_of s l j i) first way l hl hf row-pairs m hm
       ∙ sym (rows_are (λ i j. lane_of s l j i) (λ i j. line_of d j i) (λ i. place_of (i / 2) 4 first way) n m (λ i hi. half-low i first way hi hf) line) ∙ turned-is (lane_of s l) d n
@@ -186,15 +186,15 @@ module _ (s : List ℤ) (l : ℕ) (hl : l < 8) where
   unfolding line_of place_of
   lines-0 n h = row_line 0 1 n n h (λ i j hi hj. (λ e. omega arith, λ e. omega arith))
 
-  pub lines-1 : (n : ℕ) → n < 14 → lane_line (lane_lines (neighbourSums s 16 64 8) 4 2 1) l (n + 2) ≡ partial (lane_of s l) 1 n
+  pub lines-1 : (n : ℕ) → n < 14 → lane_line (lane_lines (neighbour_sums s 16 64 8) 4 2 1) l (n + 2) ≡ partial (lane_of s l) 1 n
   unfolding line_of place_of
   lines-1 n h = row-pair-line 1 1 2 n (n + 2) (omega arith) (omega arith) (λ i j hi hj. (λ e. omega arith, λ e. omega arith))
 
-  pub lines-2 : (n : ℕ) → n < 16 → lane_line (lane_lines (neighbourSums s 16 64 8) 4 0 0) l n ≡ partial (lane_of s l) 2 n
+  pub lines-2 : (n : ℕ) → n < 16 → lane_line (lane_lines (neighbour_sums s 16 64 8) 4 0 0) l n ≡ partial (lane_of s l) 2 n
   unfolding line_of place_of
   lines-2 n h = row-pair-line 2 0 0 n n (omega arith) h (λ i j hi hj. (λ e. omega arith, λ e. omega arith))
 
-  pub lines-3 : (n : ℕ) → n < 14 → lane_line (lane_lines (neighbourSums s 16 64 8) 4 2 2) l (n + 2) ≡ partial (lane_of s l) 3 n
+  pub lines-3 : (n : ℕ) → n < 14 → lane_line (lane_lines (neighbour_sums s 16 64 8) 4 2 2) l (n + 2) ≡ partial (lane_of s l) 3 n
   unfolding line_of place_of
   lines-3 n h = row-pair-line 3 2 2 n (n + 2) (omega arith) (omega arith) (λ i j hi hj. (λ e. omega arith, λ e. omega arith))
 
@@ -202,19 +202,19 @@ module _ (s : List ℤ) (l : ℕ) (hl : l < 8) where
   unfolding line_of place_of
   lines-4 n h = row_line 4 2 (14 - n) n (omega arith) (λ i j hi hj. (λ e. omega arith, λ e. omega arith))
 
-  pub lines-5 : (n : ℕ) → n < 14 → lane_line (lane_lines (neighbourSums s 128 8 64) 4 2 2) l (n + 2) ≡ partial (lane_of s l) 5 n
+  pub lines-5 : (n : ℕ) → n < 14 → lane_line (lane_lines (neighbour_sums s 128 8 64) 4 2 2) l (n + 2) ≡ partial (lane_of s l) 5 n
   unfolding line_of place_of
   lines-5 n h = column-pair-line 5 2 2 n (n + 2) (omega arith) (omega arith) (λ i j hi hj. (λ e. omega arith, λ e. omega arith))
 
-  pub lines-6 : (n : ℕ) → n < 16 → lane_line (lane_lines (neighbourSums s 128 8 64) 4 0 0) l n ≡ partial (lane_of s l) 6 n
+  pub lines-6 : (n : ℕ) → n < 16 → lane_line (lane_lines (neighbour_sums s 128 8 64) 4 0 0) l n ≡ partial (lane_of s l) 6 n
   unfolding line_of place_of
   lines-6 n h = column-pair-line 6 0 0 n n (omega arith) h (λ i j hi hj. (λ e. omega arith, λ e. omega arith))
 
-  pub lines-7 : (n : ℕ) → n < 14 → lane_line (lane_lines (neighbourSums s 128 8 64) 4 2 1) l (n + 2) ≡ partial (lane_of s l) 7 n
+  pub lines-7 : (n : ℕ) → n < 14 → lane_line (lane_lines (neighbour_sums s 128 8 64) 4 2 1) l (n + 2) ≡ partial (lane_of s l) 7 n
   unfolding line_of place_of
   lines-7 n h = column-pair-line 7 1 2 n (n + 2) (omega arith) (omega arith) (λ i j hi hj. (λ e. omega arith, λ e. omega arith))
 
 -- past the eighth, straight lines have no samples
 pub straight_none : (z : List ℤ) (l n : ℕ) → l < 8 → 8 ≤ n → n < 16 → lane_line (lane_lines z 4 0 0) l n ≡ pos 0
-unfolding sumℤ onLine place_of
+unfolding sum_ℤ on_line place_of
 straight_none z l n hl hn hm = line-sum z 4 0 0 l n hl hm ∙ rw (le-leb 0 n (omega arith), le-ltb n 8 hn)

@@ -1,12 +1,12 @@
 // Line sums of eight blocks in lanes. A line sum is a group of lanes; the rows, of eight groups each, are added up, each from the line of its first sample on.
 ghost use Rattle.std.specs.Prelude.{◌≡◌, ◌+◌, ◌-◌, ◌*◌, ◌≤◌, ◌<◌, length};
 ghost use Rattle.arith_sample.specs.Bounds.{Within};
-ghost use Rattle.direction_lane_sums.specs.Lines.{neighbourSums, addedOf, place_of, lane_lines};
+ghost use Rattle.direction_lane_sums.specs.Lines.{neighbour_sums, added_of, place_of, lane_lines};
 
 // Sums of neighbours, in four rows: groups of lanes `on` apart, in rows `down` apart, each with the group `next` further on.
 pub fn pairs(s: &[i16; 512], down: usize, on: usize, next: usize) -> [i16; 256]
     requires { (3 * down + 7 * on + next + 8 ≤ 512) × Within s.now 128 }
-    ensures { result ≡ neighbourSums s.now down on next }
+    ensures { result ≡ neighbour_sums s.now down on next }
 {
     let mut v = [0i16; 256];
     for m in 0..4usize {
@@ -26,7 +26,7 @@ pub fn pairs(s: &[i16; 512], down: usize, on: usize, next: usize) -> [i16; 256]
 fn added(p: &mut [i16; 128], z: &[i16], to: usize, from: usize)
     requires p_len { (length p.old ≡ 128) × (to ≤ 64) × (from ≤ 448) × (from + 64 ≤ length z.now) }
     requires within { Within p.old 2048 × Within z.now 256 }
-    ensures { p.new ≡ addedOf p.old z.now to from }
+    ensures { p.new ≡ added_of p.old z.now to from }
 {
     for k in 0..64usize {
         let a = to + k;

@@ -1,7 +1,7 @@
 // The samples of eight blocks side by side, interleaved into groups of eight lanes: in each group, lane l is of block l.
 ghost use Rattle.std.specs.Prelude.{◌≡◌, ◌+◌, ◌*◌, ◌≤◌, length};
 ghost use Rattle.arith_sample.specs.Bounds.{Within};
-ghost use Rattle.direction_lanes.specs.Lanes.{EightIn, rows_of, interleavedOf, lanes_of};
+ghost use Rattle.direction_lanes.specs.Lanes.{EightIn, rows_of, interleaved_of, lanes_of};
 
 // The rows of the eight blocks at (x, y): 64 samples each, shifted, less 128.
 fn rows(
@@ -29,7 +29,7 @@ fn rows(
 // Each run of eight entries interleaved with the run `half` further on. The runs are `on` apart, and groups of eight runs `row` apart.
 fn interleaved(out: &mut [i16; 512], a: &[i16; 512], row: usize, on: usize, half: usize)
     requires { (length out.old ≡ 512) × (3 * row + 7 * on + half + 8 ≤ 512) × Within a.now 128 }
-    ensures { out.new ≡ interleavedOf a.now row on half }
+    ensures { out.new ≡ interleaved_of a.now row on half }
 {
     for m in 0..4usize {
         for i in 0..8usize {

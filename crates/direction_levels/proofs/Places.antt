@@ -10,8 +10,8 @@ use lib.IntN.{ℤ, pos, ◌-ℤ◌}
 use lib.ListN.{get_or}
 use mir.Syntax.{w16}
 use mir.Val.{to_z, of_z}
-use Rattle.cdef_spec.specs.Document01.{Plane, edgeSample, directionInput}
-use Rattle.cdef_spec.specs.Questions.{cutTaken}
+use Rattle.cdef_spec.specs.Document01.{Plane, edge_sample, direction_input}
+use Rattle.cdef_spec.specs.Questions.{cut_taken}
 use Rattle.arith_sample.proofs.Sums16.{back}
 use Rattle.direction_levels.specs.LevelLaws.{less-128, shifted-low}
 
@@ -26,8 +26,8 @@ sized s w h = record { samples = s; width = w; height = h }
 
 module _ (s : List ℕ) (w h d y x : ℕ) where
   -- a block wholly inside reads its own samples
-  pub inside_is : x + 8 ≤ w → y + 8 ≤ h → (i j : ℕ) → i < 8 → j < 8 → get_or s ((y + i) * w + x + j) 0 ≡ edgeSample (sized s w h) (y + i) (x + j)
-  unfolding edgeSample
+  pub inside_is : x + 8 ≤ w → y + 8 ≤ h → (i j : ℕ) → i < 8 → j < 8 → get_or s ((y + i) * w + x + j) 0 ≡ edge_sample (sized s w h) (y + i) (x + j)
+  unfolding edge_sample
   inside_is hx hy i j hi hj =
       let r : min (y + i) (h - 1) ≡ y + i = omega arith in
       let c : min (x + j) (w - 1) ≡ x + j = omega arith in
@@ -35,16 +35,16 @@ module _ (s : List ℕ) (w h d y x : ℕ) where
       rw (r, c, e)
 
   -- any block reads the nearest sample of the plane
-  pub edge-is : (i j k : ℕ) → k ≡ min (y + i) (h - 1) * w + min (x + j) (w - 1) → get_or s k 0 ≡ edgeSample (sized s w h) (y + i) (x + j)
-  unfolding edgeSample
+  pub edge-is : (i j k : ℕ) → k ≡ min (y + i) (h - 1) * w + min (x + j) (w - 1) → get_or s k 0 ≡ edge_sample (sized s w h) (y + i) (x + j)
+  unfolding edge_sample
   edge-is i j k e = rw e
 
-  module _ (hy : y < h) (hx : x < w) (cut : cutTaken (sized s w h) d y x ≡ true) (hd : 8 ≤ d) (i j : ℕ) (hi : i < 8) (hj : j < 8) (v : ℕ) (e : v ≡ edgeSample (sized s w h) (y + i) (x + j)) where
+  module _ (hy : y < h) (hx : x < w) (cut : cut_taken (sized s w h) d y x ≡ true) (hd : 8 ≤ d) (i j : ℕ) (hi : i < 8) (hj : j < 8) (v : ℕ) (e : v ≡ edge_sample (sized s w h) (y + i) (x + j)) where
     pub read_low : v / 2 ^ (d - 8) < 256
     read_low = rw e (shifted-low s w h d y x hy hx cut hd i j hi hj)
 
-    pub stored_is : {r : ℤ} → r ≡ pos (v / 2 ^ (d - 8)) -ℤ pos 128 → to_z w16 (of_z w16 r) ≡ directionInput (sized s w h) d y x ((i * 8 + j) / 8) ((i * 8 + j) % 8)
-    unfolding directionInput
+    pub stored_is : {r : ℤ} → r ≡ pos (v / 2 ^ (d - 8)) -ℤ pos 128 → to_z w16 (of_z w16 r) ≡ direction_input (sized s w h) d y x ((i * 8 + j) / 8) ((i * 8 + j) % 8)
+    unfolding direction_input
     stored_is {r} q =
         let a : (i * 8 + j) / 8 ≡ i = omega arith in
         let b : (i * 8 + j) % 8 ≡ j = omega arith in

@@ -1,7 +1,7 @@
 // The samples of a block, each shifted right by depth - 8, less 128.
 ghost use Rattle.std.specs.Prelude.{◌≡◌, true, ◌+◌, ◌*◌, ◌/◌, ◌^◌, ◌≤◌, ◌<◌, pos, ◌-ℤ◌, length};
-ghost use Rattle.cdef_spec.specs.Document01.{directionInput};
-ghost use Rattle.cdef_spec.specs.Questions.{cutTaken};
+ghost use Rattle.cdef_spec.specs.Document01.{direction_input};
+ghost use Rattle.cdef_spec.specs.Questions.{cut_taken};
 ghost use Rattle.direction_levels.specs.Levels.{block_of};
 
 // A sample, shifted, less 128.
@@ -23,8 +23,8 @@ fn levels_inside(
 ) -> [i16; 64]
     requires plane_len { length plane.now ≡ width * height }
     requires width_bound { (width ≤ 4096) × (height ≤ 4096) × (x + 8 ≤ width) × (y + 8 ≤ height) × (8 ≤ depth) × (depth ≤ 12) }
-    requires x_value { cutTaken (record { samples = plane.now; width = width; height = height }) depth y x ≡ true }
-    ensures { result ≡ block_of (directionInput (record { samples = plane.now; width = width; height = height }) depth y x) }
+    requires x_value { cut_taken (record { samples = plane.now; width = width; height = height }) depth y x ≡ true }
+    ensures { result ≡ block_of (direction_input (record { samples = plane.now; width = width; height = height }) depth y x) }
 {
     let shift = (depth - 8) as u32;
     let mut b = [0i16; 64];
@@ -49,8 +49,8 @@ fn levels_edge(
 ) -> [i16; 64]
     requires plane_len { length plane.now ≡ width * height }
     requires width_bound { (width ≤ 4096) × (height ≤ 4096) × (x < width) × (y < height) × (8 ≤ depth) × (depth ≤ 12) }
-    requires x_value { cutTaken (record { samples = plane.now; width = width; height = height }) depth y x ≡ true }
-    ensures { result ≡ block_of (directionInput (record { samples = plane.now; width = width; height = height }) depth y x) }
+    requires x_value { cut_taken (record { samples = plane.now; width = width; height = height }) depth y x ≡ true }
+    ensures { result ≡ block_of (direction_input (record { samples = plane.now; width = width; height = height }) depth y x) }
 {
     let shift = (depth - 8) as u32;
     let mut b = [0i16; 64];
@@ -76,8 +76,8 @@ pub fn levels(
 ) -> [i16; 64]
     requires plane_len { length plane.now ≡ width * height }
     requires width_bound { (width ≤ 4096) × (height ≤ 4096) × (x < width) × (y < height) × (8 ≤ depth) × (depth ≤ 12) }
-    requires x_value { cutTaken (record { samples = plane.now; width = width; height = height }) depth y x ≡ true }
-    ensures { result ≡ block_of (directionInput (record { samples = plane.now; width = width; height = height }) depth y x) }
+    requires x_value { cut_taken (record { samples = plane.now; width = width; height = height }) depth y x ≡ true }
+    ensures { result ≡ block_of (direction_input (record { samples = plane.now; width = width; height = height }) depth y x) }
 {
     if width < x + 8 {
         return levels_edge(plane, width, height, x, y, depth);

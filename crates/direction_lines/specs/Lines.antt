@@ -5,15 +5,15 @@ use Rattle.arith_sample.specs.Upto.{upto}
 use Rattle.direction_lines.specs.declared.Partials.{Partials}
 
 -- a block, transposed
-unfoldable pub turnedOf : List ℤ → List ℤ
-turnedOf b = upto (λ k. get_or b (k % 8 * 8 + k / 8) (pos 0)) 64
+unfoldable pub turned_of : List ℤ → List ℤ
+turned_of b = upto (λ k. get_or b (k % 8 * 8 + k / 8) (pos 0)) 64
 
 -- row i of a block with eight zeros on each side
-unfoldable pub padAt : List ℤ → ℕ → ℕ → ℤ
-padAt b i j = cond (leb 8 j && ltb j 16) (get_or b (i * 8 + (j - 8)) (pos 0)) (pos 0)
+unfoldable pub pad_at : List ℤ → ℕ → ℕ → ℤ
+pad_at b i j = cond (leb 8 j && ltb j 16) (get_or b (i * 8 + (j - 8)) (pos 0)) (pos 0)
 
-unfoldable pub paddedOf : List ℤ → List ℤ
-paddedOf b = upto (λ k. padAt b (k / 24) (k % 24)) 192
+unfoldable pub padded_of : List ℤ → List ℤ
+padded_of b = upto (λ k. pad_at b (k / 24) (k % 24)) 192
 
 -- the sum of two rows, and of eight
 unfoldable pub pair_at : List ℤ → ℕ → ℕ → ℤ
@@ -26,8 +26,8 @@ unfoldable pub lines_of : List ℤ → ℕ → ℕ → ℕ → List ℤ
 lines_of z first one two = upto (λ n. line_at z (first + n) one two) 16
 
 -- the standard's line sums of a block
-unfoldable pub partialsOf : (ℕ → ℕ → ℤ) → Partials
-partialsOf x = record {
+unfoldable pub partials_of : (ℕ → ℕ → ℤ) → Partials
+partials_of x = record {
   d0 = upto (partial x 0) 16;
   d1 = upto (partial x 1) 16;
   d2 = upto (partial x 2) 16;

@@ -1,7 +1,7 @@
 // Line sums: the rows of a block are padded with zeros, and each line is the sum of eight shifted rows.
 ghost use Rattle.std.specs.Prelude.{◌≡◌, ◌+◌, ◌*◌, ◌≤◌, ◌<◌};
 ghost use Rattle.arith_sample.specs.Bounds.{Within};
-ghost use Rattle.direction_lines.specs.Lines.{turnedOf, padAt, paddedOf, pair_at, line_at, lines_of};
+ghost use Rattle.direction_lines.specs.Lines.{turned_of, pad_at, padded_of, pair_at, line_at, lines_of};
 
 // The line sums of the eight directions; past a direction's last line they are 0.
 #[derive(Drop)]
@@ -19,7 +19,7 @@ pub struct Partials {
 // The transposed block.
 pub fn turned(b: &[i16; 64]) -> [i16; 64]
     requires { Within b.now 128 }
-    ensures { result ≡ turnedOf b.now }
+    ensures { result ≡ turned_of b.now }
 {
     let mut t = [0i16; 64];
     for i in 0..8usize {
@@ -35,7 +35,7 @@ pub fn turned(b: &[i16; 64]) -> [i16; 64]
 // Row i with eight zeros on each side, at j.
 fn pad(b: &[i16; 64], i: usize, j: usize) -> i16
     requires { (i < 8) × (j < 24) × Within b.now 128 }
-    ensures { result ≡ padAt b.now i j }
+    ensures { result ≡ pad_at b.now i j }
 {
     if j < 8 {
         return 0;
@@ -50,7 +50,7 @@ fn pad(b: &[i16; 64], i: usize, j: usize) -> i16
 // All eight rows.
 pub fn padded(b: &[i16; 64]) -> [i16; 192]
     requires { Within b.now 128 }
-    ensures { result ≡ paddedOf b.now }
+    ensures { result ≡ padded_of b.now }
 {
     let mut z = [0i16; 192];
     for i in 0..8usize {

@@ -7,12 +7,12 @@ use borrow.Author.Tests.{ltb-true, le-leb, lt-leb}
 use Rattle.std.proofs.Math.Arith.{digits_lt}
 use Rattle.cdef_spec.specs.WordsLaws.{every-at}
 use Rattle.cdef_spec.specs.Document01.{Plane}
-use Rattle.cdef_spec.specs.Questions.{sampleTaken, lookedAt, cutTaken}
+use Rattle.cdef_spec.specs.Questions.{sample_taken, looked_at, cut_taken}
 use Rattle.cdef_spec.specs.Words.{sum}
-use Rattle.cdef_spec.specs.Distance.{squaredDifference, squares, constantsOf, weightedDistance}
-use Rattle.cdef_spec.specs.BlockCalls.{inPlane, planeSquares, planeDistance}
+use Rattle.cdef_spec.specs.Distance.{squared_difference, squares, constants_of, weighted_distance}
+use Rattle.cdef_spec.specs.BlockCalls.{in_plane, plane_squares, plane_distance}
 use Rattle.arith_root.specs.NewtonLaws.{below_or_not}
-use Rattle.distance_sums.specs.Blocks.{at, cell, block_of, Within, weightedBy}
+use Rattle.distance_sums.specs.Blocks.{at, cell, block_of, Within, weighted_by}
 use Rattle.distance_sums.specs.BlockLaws.{block-cell, block-below, squares-64, squares-same, squares-high}
 use Rattle.distance_block.specs.WeightedLaws.{weighted-same, weighted-64-low}
 
@@ -28,13 +28,13 @@ row-held w h n y x i cols e hi hx =
     let a : y + i + 1 ≤ h = omega arith in
     omega (arith, mul-le-mul_right w a, mul_comm w h)
 
-pub at-plane : (s : List ℕ) (w h y x i j : ℕ) → at s (y * w + x) w i j ≡ inPlane (sized s w h) y x i j
+pub at-plane : (s : List ℕ) (w h y x i j : ℕ) → at s (y * w + x) w i j ≡ in_plane (sized s w h) y x i j
 unfolding at
 at-plane s w h y x i j = ap (λ (k : ℕ). get_or s k 0) (omega arith)
 
-module _ (s : List ℕ) (w h depth y x : ℕ) (full : length s ≡ w * h) (hx : x < w) (hy : y < h) (cut : cutTaken (sized s w h) depth y x ≡ true) where
+module _ (s : List ℕ) (w h depth y x : ℕ) (full : length s ≡ w * h) (hx : x < w) (hy : y < h) (cut : cut_taken (sized s w h) depth y x ≡ true) where
   looked : (i j : ℕ) → i < min 8 (h - y) → j < min 8 (w - x) → get_or s ((y + i) * w + (x + j)) 0 < 2 ^ depth
-  unfolding cutTaken lookedAt sampleTaken
+  unfolding cut_taken looked_at sample_taken
   looked i j hi hj = ltb-true _ (2 ^ depth) (every-at _ _ (every-at _ _ cut i (omega arith)) j (omega arith))
 
   -- the block cropped to the plane
@@ -50,22 +50,22 @@ lower s start pitch rows cols depth d w = record { held = w.held; low = λ i j h
 -- ---- plain squares
 
 module _ (s t : List ℕ) (w h y x : ℕ) where
-  pub squares-is : (r : ℕ) → r ≡ squares (min 8 (h - y)) (min 8 (w - x)) (at s (y * w + x) w) (at t (y * w + x) w) → r ≡ planeSquares (sized s w h) t y x
-  unfolding planeSquares
+  pub squares-is : (r : ℕ) → r ≡ squares (min 8 (h - y)) (min 8 (w - x)) (at s (y * w + x) w) (at t (y * w + x) w) → r ≡ plane_squares (sized s w h) t y x
+  unfolding plane_squares
   squares-is r e = e ∙ squares-same _ _ _ _ _ _ (λ i j hi hj. at-plane s w h y x i j) (λ i j hi hj. at-plane t w h y x i j)
 
-  cells : (u : List ℕ) (i j : ℕ) → i < 8 → j < 8 → cell (block_of u (y * w + x) w) i j ≡ inPlane (sized u w h) y x i j
+  cells : (u : List ℕ) (i j : ℕ) → i < 8 → j < 8 → cell (block_of u (y * w + x) w) i j ≡ in_plane (sized u w h) y x i j
   cells u i j hi hj = block-cell u (y * w + x) w i j hi hj ∙ at-plane u w h y x i j
 
   -- by the 64 samples of a block wholly inside
-  pub squares-inside : x + 8 ≤ w → y + 8 ≤ h → (r : ℕ) → r ≡ sum 64 (λ k. squaredDifference (get_or (block_of s (y * w + x) w) k 0) (get_or (block_of t (y * w + x) w) k 0)) → r ≡ planeSquares (sized s w h) t y x
-  unfolding planeSquares
+  pub squares-inside : x + 8 ≤ w → y + 8 ≤ h → (r : ℕ) → r ≡ sum 64 (λ k. squared_difference (get_or (block_of s (y * w + x) w) k 0) (get_or (block_of t (y * w + x) w) k 0)) → r ≡ plane_squares (sized s w h) t y x
+  unfolding plane_squares
   squares-inside hx hy r e =
       let a : min 8 (h - y) ≡ 8 = omega arith in
       let b : min 8 (w - x) ≡ 8 = omega arith in
       rw (a, b) (e ∙ squares-64 _ _ ∙ squares-same 8 8 _ _ _ _ (cells s) (cells t))
 
-  pub squares-low : Within s (y * w + x) w (min 8 (h - y)) (min 8 (w - x)) 4096 → Within t (y * w + x) w (min 8 (h - y)) (min 8 (w - x)) 4096 → planeSquares (sized s w h) t y x ≤ 1073217600
+  pub squares-low : Within s (y * w + x) w (min 8 (h - y)) (min 8 (w - x)) 4096 → Within t (y * w + x) w (min 8 (h - y)) (min 8 (w - x)) 4096 → plane_squares (sized s w h) t y x ≤ 1073217600
   squares-low a b = rw (← squares-is _ refl) (squares-high _ _ _ _ (omega arith) (omega arith) (λ i j hi hj. (a.low i j hi hj, b.low i j hi hj)))
 
   -- ---- the weighted distance
@@ -74,17 +74,17 @@ module _ (s t : List ℕ) (w h y x : ℕ) where
   no-right true = refl
   no-right false = refl
 
-  pub past-right : (depth : ℕ) → w < x + 8 → planeDistance (sized s w h) t depth y x ≡ planeSquares (sized s w h) t y x
-  unfolding planeDistance
+  pub past-right : (depth : ℕ) → w < x + 8 → plane_distance (sized s w h) t depth y x ≡ plane_squares (sized s w h) t y x
+  unfolding plane_distance
   past-right depth l = rw (lt-leb (x + 8) w l, no-right (leb (y + 8) h))
 
-  pub past-bottom : (depth : ℕ) → h < y + 8 → planeDistance (sized s w h) t depth y x ≡ planeSquares (sized s w h) t y x
-  unfolding planeDistance
+  pub past-bottom : (depth : ℕ) → h < y + 8 → plane_distance (sized s w h) t depth y x ≡ plane_squares (sized s w h) t y x
+  unfolding plane_distance
   past-bottom depth l = rw (lt-leb (y + 8) h l)
 
-  pub inside_is : (depth : ℕ) → x + 8 ≤ w → y + 8 ≤ h → weightedBy (constantsOf depth) (cell (block_of s (y * w + x) w)) (cell (block_of t (y * w + x) w)) ≡ planeDistance (sized s w h) t depth y x
-  unfolding planeDistance
-  inside_is depth hx hy = rw (le-leb (x + 8) w hx, le-leb (y + 8) h hy) (weighted-same (constantsOf depth) _ _ _ _ (cells s) (cells t) ∙ (unfold weightedBy weightedDistance in refl))
+  pub inside_is : (depth : ℕ) → x + 8 ≤ w → y + 8 ≤ h → weighted_by (constants_of depth) (cell (block_of s (y * w + x) w)) (cell (block_of t (y * w + x) w)) ≡ plane_distance (sized s w h) t depth y x
+  unfolding plane_distance
+  inside_is depth hx hy = rw (le-leb (x + 8) w hx, le-leb (y + 8) h hy) (weighted-same (constants_of depth) _ _ _ _ (cells s) (cells t) ∙ (unfold weighted_by weighted_distance in refl))
 
 -- ---- every distance is far below 2 ^ 63
 
@@ -95,11 +95,11 @@ whole-within s w h m y x hx hy a =
     rw (r, c) at a
 
 module _ (s t : List ℕ) (w h depth y x : ℕ) (fs : length s ≡ w * h) (ft : length t ≡ w * h) (hx : x < w) (hy : y < h) (lo : 8 ≤ depth) (hi : depth ≤ 12)
-    (cs : cutTaken (sized s w h) depth y x ≡ true) (ct : cutTaken (sized t w h) depth y x ≡ true) where
-  pub plain-low : planeSquares (sized s w h) t y x < 2 ^ 53
+    (cs : cut_taken (sized s w h) depth y x ≡ true) (ct : cut_taken (sized t w h) depth y x ≡ true) where
+  pub plain-low : plane_squares (sized s w h) t y x < 2 ^ 53
   plain-low = omega (arith, squares-low s t w h y x (lower _ _ _ _ _ depth hi (cut-within s w h depth y x fs hx hy cs)) (lower _ _ _ _ _ depth hi (cut-within t w h depth y x ft hx hy ct)))
 
-  pub distance-low : planeDistance (sized s w h) t depth y x < 2 ^ 53
+  pub distance-low : plane_distance (sized s w h) t depth y x < 2 ^ 53
   distance-low = elim (below_or_not w (x + 8)) [
     | inl l ↦ rw (past-right s t w h y x depth l) plain-low
     | inr a ↦
@@ -107,7 +107,7 @@ module _ (s t : List ℕ) (w h depth y x : ℕ) (fs : length s ≡ w * h) (ft : 
           | inl l ↦ rw (past-bottom s t w h y x depth l) plain-low
           | inr b ↦
               rw (← inside_is s t w h y x depth a b)
-              (weighted-64-low (constantsOf depth) depth _ _ (record { deep = lo; flat = hi; is = refl })
+              (weighted-64-low (constants_of depth) depth _ _ (record { deep = lo; flat = hi; is = refl })
               (block-below s (y * w + x) w (2 ^ depth) (whole-within s w h (2 ^ depth) y x a b (cut-within s w h depth y x fs hx hy cs)))
               (block-below t (y * w + x) w (2 ^ depth) (whole-within t w h (2 ^ depth) y x a b (cut-within t w h depth y x ft hx hy ct))))
         ]

@@ -1,10 +1,10 @@
 // The distance of two 8 by 8 blocks: plain squares, that is the sum of squared differences (SSE), and the weighted distance.
 ghost use Rattle.std.specs.Prelude.{◌≡◌, true, ℕ, ◌+◌, ◌*◌, ◌^◌, ◌≤◌, ◌<◌, length, replicate};
-ghost use Rattle.cdef_spec.specs.Questions.{cutTaken};
-ghost use Rattle.cdef_spec.specs.Distance.{constantsOf, spread};
-ghost use Rattle.cdef_spec.specs.BlockCalls.{planeSquares, planeDistance};
+ghost use Rattle.cdef_spec.specs.Questions.{cut_taken};
+ghost use Rattle.cdef_spec.specs.Distance.{constants_of, spread};
+ghost use Rattle.cdef_spec.specs.BlockCalls.{plane_squares, plane_distance};
 ghost use Rattle.distance_weight.specs.Weighing.{OfDepth};
-ghost use Rattle.distance_sums.specs.Blocks.{cell, Below, weightedBy};
+ghost use Rattle.distance_sums.specs.Blocks.{cell, Below, weighted_by};
 
 use cdef_spec::DistanceConstants;
 
@@ -21,7 +21,7 @@ pub fn spread_of(a: &[u16; 64], none: &[u16; 64]) -> u64
 // The weighted distance of 64 samples and 64 others.
 pub fn block_distance(a: &[u16; 64], b: &[u16; 64], c: DistanceConstants) -> u64
     requires { (depth : ℕ) × OfDepth c depth × Below a.now (2 ^ depth) × Below b.now (2 ^ depth) }
-    ensures { result ≡ weightedBy c (cell a.now) (cell b.now) }
+    ensures { result ≡ weighted_by c (cell a.now) (cell b.now) }
 {
     let none = [0u16; 64];
     let x = spread_of(a, &none);
@@ -41,9 +41,9 @@ pub fn block_sse_8x8(
 ) -> u64
     requires orig_len { (length orig.now ≡ width * height) × (length other.now ≡ width * height) }
     requires width_bound { (width ≤ 4096) × (height ≤ 4096) × (x < width) × (y < height) }
-    requires by_index { (depth : ℕ) × (depth ≤ 12) × (cutTaken (record { samples = orig.now; width = width; height = height }) depth y x ≡ true)
-        × (cutTaken (record { samples = other.now; width = width; height = height }) depth y x ≡ true) }
-    ensures { result ≡ planeSquares (record { samples = orig.now; width = width; height = height }) other.now y x }
+    requires by_index { (depth : ℕ) × (depth ≤ 12) × (cut_taken (record { samples = orig.now; width = width; height = height }) depth y x ≡ true)
+        × (cut_taken (record { samples = other.now; width = width; height = height }) depth y x ≡ true) }
+    ensures { result ≡ plane_squares (record { samples = orig.now; width = width; height = height }) other.now y x }
 {
     let rows = arith_numbers::lesser(8, height - y);
     let cols = arith_numbers::lesser(8, width - x);
@@ -68,10 +68,10 @@ pub fn cdef_dist_8x8(
 ) -> u64
     requires orig_len { (length orig.now ≡ width * height) × (length other.now ≡ width * height) }
     requires width_bound { (width ≤ 4096) × (height ≤ 4096) × (x < width) × (y < height) }
-    requires by_index { (depth : ℕ) × OfDepth c depth × (cutTaken (record { samples = orig.now; width = width; height = height }) depth y x ≡ true)
-        × (cutTaken (record { samples = other.now; width = width; height = height }) depth y x ≡ true) }
-    ensures { (depth : ℕ) → c ≡ constantsOf depth → result
-        ≡ planeDistance (record { samples = orig.now; width = width; height = height }) other.now depth y x }
+    requires by_index { (depth : ℕ) × OfDepth c depth × (cut_taken (record { samples = orig.now; width = width; height = height }) depth y x ≡ true)
+        × (cut_taken (record { samples = other.now; width = width; height = height }) depth y x ≡ true) }
+    ensures { (depth : ℕ) → c ≡ constants_of depth → result
+        ≡ plane_distance (record { samples = orig.now; width = width; height = height }) other.now depth y x }
 {
     if width < x + 8 {
         return block_sse_8x8(orig, other, width, height, x, y);

@@ -6,17 +6,17 @@ use Rattle.std.proofs.Math.IntN.{pos}
 use Rattle.cdef_spec.specs.Words.{sum, sum2}
 use Rattle.cdef_spec.specs.WordsLaws.{sum2-same}
 use Rattle.cdef_spec.specs.Standard.{square}
-use Rattle.cdef_spec.specs.Distance.{squaredDifference, squares}
-use Rattle.arith_sample.specs.Upto.{getD-upto}
+use Rattle.cdef_spec.specs.Distance.{squared_difference, squares}
+use Rattle.arith_sample.specs.Upto.{get_or-upto}
 use Rattle.distance_sums.specs.SumLaws.{sum-none, sum_more, sum-high, sum_64, difference-square, difference-high}
-use Rattle.distance_sums.specs.Blocks.{at, cell, block_of, differencesOf, Below, Within}
+use Rattle.distance_sums.specs.Blocks.{at, cell, block_of, differences_of, Below, Within}
 
 -- ---- the 64 samples of a block
 
 module _ (s : List ℕ) (start pitch : ℕ) where
   pub block_at : (k : ℕ) → k < 64 → get_or (block_of s start pitch) k 0 ≡ at s start pitch (k / 8) (k % 8)
   unfolding block_of
-  block_at k h = getD-upto (λ k. at s start pitch (k / 8) (k % 8)) 64 k 0 h
+  block_at k h = get_or-upto (λ k. at s start pitch (k / 8) (k % 8)) 64 k 0 h
 
   pub block-cell : (i j : ℕ) → i < 8 → j < 8 → cell (block_of s start pitch) i j ≡ at s start pitch i j
   unfolding cell
@@ -51,16 +51,16 @@ module _ (a b : List ℕ) where
   abbrev B : ℕ → ℕ
   B k = get_or b k 0
 
-  pub squares-64 : sum 64 (λ k. squaredDifference (A k) (B k)) ≡ squares 8 8 (cell a) (cell b)
+  pub squares-64 : sum 64 (λ k. squared_difference (A k) (B k)) ≡ squares 8 8 (cell a) (cell b)
   unfolding squares cell
-  squares-64 = sum_64 (λ k. squaredDifference (A k) (B k))
+  squares-64 = sum_64 (λ k. squared_difference (A k) (B k))
 
   -- a difference squared, by its place
-  pub square-at : (v : List ℤ) (k : ℕ) → v ≡ differencesOf a b → k < 64 → square (get_or v k (pos 0)) ≡ squaredDifference (A k) (B k)
-  unfolding differencesOf
-  square-at v k e h = rw (e, getD-upto (λ n. pos (A n) -ℤ pos (B n)) 64 k (pos 0) h) (difference-square (A k) (B k))
+  pub square-at : (v : List ℤ) (k : ℕ) → v ≡ differences_of a b → k < 64 → square (get_or v k (pos 0)) ≡ squared_difference (A k) (B k)
+  unfolding differences_of
+  square-at v k e h = rw (e, get_or-upto (λ n. pos (A n) -ℤ pos (B n)) 64 k (pos 0) h) (difference-square (A k) (B k))
 
-  pub square-high : (k : ℕ) → Below a 4096 → Below b 4096 → k < 64 → squaredDifference (A k) (B k) ≤ 16769025
+  pub square-high : (k : ℕ) → Below a 4096 → Below b 4096 → k < 64 → squared_difference (A k) (B k) ≤ 16769025
   square-high k x y h = difference-high (A k) (B k) 4095 (omega (arith, x.each k h)) (omega (arith, y.each k h))
 
 -- ---- squares row by row
@@ -70,22 +70,22 @@ module _ (o d : List ℕ) (os op ds dp cols : ℕ) where
   unfolding squares sum2
   rows_none = sum-none _
 
-  pub rows_more : (i t r : ℕ) → t ≡ squares i cols (at o os op) (at d ds dp) → r ≡ sum cols (λ j. squaredDifference (get_or o (os + i * op + j) 0) (get_or d (ds + i * dp + j) 0)) → t + r ≡ squares (i + 1) cols (at o os op) (at d ds dp)
+  pub rows_more : (i t r : ℕ) → t ≡ squares i cols (at o os op) (at d ds dp) → r ≡ sum cols (λ j. squared_difference (get_or o (os + i * op + j) 0) (get_or d (ds + i * dp + j) 0)) → t + r ≡ squares (i + 1) cols (at o os op) (at d ds dp)
   unfolding squares sum2 at
-  rows_more i t r e f = rw (e, f) (sum_more (λ i. sum cols (λ j. squaredDifference (get_or o (os + i * op + j) 0) (get_or d (ds + i * dp + j) 0))) i)
+  rows_more i t r e f = rw (e, f) (sum_more (λ i. sum cols (λ j. squared_difference (get_or o (os + i * op + j) 0) (get_or d (ds + i * dp + j) 0))) i)
 
 -- ---- bounds
 
 pub below-4096 : (a : List ℕ) (depth : ℕ) → depth ≤ 12 → Below a (2 ^ depth) → Below a 4096
 below-4096 a depth d b = record { each = λ k h. lt_of_lt_of_le (b.each k h) (pow_mono {i = depth} {j = 12} d) }
 
-pub row-high : (cols : ℕ) (f g : ℕ → ℕ) → cols ≤ 8 → ((j : ℕ) → j < cols → (f j < 4096) × (g j < 4096)) → sum cols (λ j. squaredDifference (f j) (g j)) ≤ 134152200
+pub row-high : (cols : ℕ) (f g : ℕ → ℕ) → cols ≤ 8 → ((j : ℕ) → j < cols → (f j < 4096) × (g j < 4096)) → sum cols (λ j. squared_difference (f j) (g j)) ≤ 134152200
 row-high cols f g h l =
-    let s : sum cols (λ j. squaredDifference (f j) (g j)) ≤ cols * 16769025 = sum-high cols 16769025 _ (λ j k. difference-high (f j) (g j) 4095 (omega (arith, (l j k).0)) (omega (arith, (l j k).1))) in
+    let s : sum cols (λ j. squared_difference (f j) (g j)) ≤ cols * 16769025 = sum-high cols 16769025 _ (λ j k. difference-high (f j) (g j) 4095 (omega (arith, (l j k).0)) (omega (arith, (l j k).1))) in
     omega arith
 
 pub squares-high : (rows cols : ℕ) (o d : ℕ → ℕ → ℕ) → rows ≤ 8 → cols ≤ 8 → ((i j : ℕ) → i < rows → j < cols → (o i j < 4096) × (d i j < 4096)) → squares rows cols o d ≤ 1073217600
 unfolding squares sum2
 squares-high rows cols o d h k l =
-    let s : sum rows (λ i. sum cols (λ j. squaredDifference (o i j) (d i j))) ≤ rows * 134152200 = sum-high rows 134152200 _ (λ i hi. row-high cols (o i) (d i) k (λ j hj. l i j hi hj)) in
+    let s : sum rows (λ i. sum cols (λ j. squared_difference (o i j) (d i j))) ≤ rows * 134152200 = sum-high rows 134152200 _ (λ i hi. row-high cols (o i) (d i) k (λ j hj. l i j hi hj)) in
     omega arith

@@ -28,8 +28,8 @@ pub record Within (s : List ℕ) (start pitch rows cols m : ℕ) : Type 0 where
   pub low : (i j : ℕ) → i < rows → j < cols → at s start pitch i j < m
 
 -- the weighted distance with given constants
-unfoldable pub weightedBy : DistanceConstants → (ℕ → ℕ → ℕ) → (ℕ → ℕ → ℕ) → ℕ
-weightedBy c o d = weighted c (spread o) (spread d) (squares 8 8 o d)
+unfoldable pub weighted_by : DistanceConstants → (ℕ → ℕ → ℕ) → (ℕ → ℕ → ℕ) → ℕ
+weighted_by c o d = weighted c (spread o) (spread d) (squares 8 8 o d)
 
 -- the sum of column k over n rows of eight
 unfoldable pub column_sum : List ℕ → ℕ → ℕ → ℕ
@@ -42,5 +42,5 @@ pub record Columns (a col : List ℕ) (n j : ℕ) : Type 0 where
   pub left : (k : ℕ) → j ≤ k → k < 8 → get_or col k 0 ≡ column_sum a k n
 
 -- 64 samples less 64 others
-unfoldable pub differencesOf : List ℕ → List ℕ → List ℤ
-differencesOf a b = upto (λ k. pos (get_or a k 0) -ℤ pos (get_or b k 0)) 64
+unfoldable pub differences_of : List ℕ → List ℕ → List ℤ
+differences_of a b = upto (λ k. pos (get_or a k 0) -ℤ pos (get_or b k 0)) 64

@@ -4,7 +4,7 @@ use Rattle.std.proofs.Common.{sym, ap, ◌∙◌, zero-mul, suc-mul, mul-le-mul,
 use Rattle.std.proofs.Math.IntN.{sub_ℕ}
 use Rattle.cdef_spec.specs.Words.{sum, sum2}
 use Rattle.cdef_spec.specs.Standard.{square}
-use Rattle.cdef_spec.specs.Distance.{squaredDifference}
+use Rattle.cdef_spec.specs.Distance.{squared_difference}
 
 pub sum-none : (f : ℕ → ℕ) → 0 ≡ sum 0 f
 unfolding sum
@@ -77,10 +77,10 @@ difference-size : (a b : ℕ) → nat_abs (pos a -ℤ pos b) ≡ max a b - min a
 difference-size a zero = omega arith
 difference-size a (suc b) = apart a (suc b)
 
-pub difference-square : (a b : ℕ) → square (pos a -ℤ pos b) ≡ squaredDifference a b
-unfolding square squaredDifference
+pub difference-square : (a b : ℕ) → square (pos a -ℤ pos b) ≡ squared_difference a b
+unfolding square squared_difference
 difference-square a b = rw (difference-size a b)
 
-pub difference-high : (x y c : ℕ) → x ≤ c → y ≤ c → squaredDifference x y ≤ c * c
-unfolding squaredDifference
+pub difference-high : (x y c : ℕ) → x ≤ c → y ≤ c → squared_difference x y ≤ c * c
+unfolding squared_difference
 difference-high x y c h k = let m : max x y - min x y ≤ c = omega arith in mul-le-mul m m

@@ -1,7 +1,7 @@
 // Sums over blocks: of samples, of squared differences.
 ghost use Rattle.std.specs.Prelude.{◌≡◌, ℕ, ◌+◌, ◌*◌, ◌≤◌, ◌<◌, get_or, length};
 ghost use Rattle.cdef_spec.specs.Words.{sum};
-ghost use Rattle.cdef_spec.specs.Distance.{squaredDifference, squares as squaresOf};
+ghost use Rattle.cdef_spec.specs.Distance.{squared_difference, squares as squares_of};
 ghost use Rattle.distance_sums.specs.Blocks.{at, block_of, Below, Within};
 
 // The 64 samples of the 8 by 8 block at `start`, with a row pitch.
@@ -42,7 +42,7 @@ pub fn total(a: &[u16; 64]) -> u32
 // The sum of squared differences of 64 samples and 64 others: the differences first, then their squares in pairs, each of which is one instruction's.
 pub fn block_squares(a: &[u16; 64], b: &[u16; 64]) -> u32
     requires { Below a.now 4096 × Below b.now 4096 }
-    ensures { result ≡ sum 64 (λ k. squaredDifference (get_or a.now k 0) (get_or b.now k 0)) }
+    ensures { result ≡ sum 64 (λ k. squared_difference (get_or a.now k 0) (get_or b.now k 0)) }
 {
     let mut v = [0i16; 64];
     for k in 0..64usize {
@@ -59,7 +59,7 @@ pub fn block_squares(a: &[u16; 64], b: &[u16; 64]) -> u32
 fn row_squares(o: &[u16], from: usize, d: &[u16], to: usize, n: usize) -> u32
     requires n_in_bounds { (from + n ≤ length o.now) × (to + n ≤ length d.now) × (n ≤ 8) }
     requires by_index { (j : ℕ) → j < n → (get_or o.now (from + j) 0 < 4096) × (get_or d.now (to + j) 0 < 4096) }
-    ensures { result ≡ sum n (λ j. squaredDifference (get_or o.now (from + j) 0) (get_or d.now (to + j) 0)) }
+    ensures { result ≡ sum n (λ j. squared_difference (get_or o.now (from + j) 0) (get_or d.now (to + j) 0)) }
 {
     let mut t = 0u32;
     for j in 0..n {
@@ -80,7 +80,7 @@ pub fn squares(
     cols: usize,
 ) -> u32
     requires { (rows ≤ 8) × (cols ≤ 8) × Within o.now from pitch rows cols 4096 × Within d.now to step rows cols 4096 }
-    ensures { result ≡ squaresOf rows cols (at o.now from pitch) (at d.now to step) }
+    ensures { result ≡ squares_of rows cols (at o.now from pitch) (at d.now to step) }
 {
     let mut t = 0u32;
     for i in 0..rows {

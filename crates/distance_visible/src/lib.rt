@@ -1,8 +1,8 @@
 // The distance of the visible part of a block, as trying and measuring add it up.
 ghost use Rattle.std.specs.Prelude.{ℕ, ◌^◌, ◌≤◌, ◌<◌, ◌≡◌};
 ghost use Rattle.distance_weight.specs.Weighing.{OfDepth};
-ghost use Rattle.distance_sums.specs.Blocks.{at as sampleIn, Within};
-ghost use Rattle.distance_visible.specs.Cut.{cutDistance};
+ghost use Rattle.distance_sums.specs.Blocks.{at as sample_in, Within};
+ghost use Rattle.distance_visible.specs.Cut.{cut_distance};
 
 use cdef_spec::DistanceConstants;
 
@@ -22,7 +22,7 @@ pub fn distance_cut(
     requires rows_bound { (rows ≤ 8) × (cols ≤ 8) }
     requires by_index { (depth : ℕ) × OfDepth c depth × Within original.now at pitch rows cols (2 ^ depth)
         × Within other.now from step rows cols (2 ^ depth) }
-    ensures { (result ≡ cutDistance luma c rows cols (sampleIn original.now at pitch) (sampleIn other.now from step))
+    ensures { (result ≡ cut_distance luma c rows cols (sample_in original.now at pitch) (sample_in other.now from step))
         × (result < 2 ^ 53) }
 {
     if luma {

@@ -9,11 +9,11 @@ use Rattle.std.specs.Float.Ieee.Bits.{of_bits-to_bits}
 use Rattle.std.specs.Float.Ieee.Exact.{HasValue}
 use Rattle.std.specs.Float.Ieee.Order.{le_of_values}
 use Rattle.std.specs.Float.Ieee.Scale.{round_same}
-use Rattle.cdef_spec.specs.Root.{leastNormal, nearestWhole, rootBits, rootOf}
+use Rattle.cdef_spec.specs.Root.{least_normal, nearest_whole, root_bits, root_of}
 use Rattle.arith_root.specs.RootWords.{normal, two53, NearestWhole}
 use Rattle.cdef_spec.specs.Distance.{whole, half}
 use Rattle.distance_weight.specs.Weighing.{most}
-use Rattle.arith_root.specs.PatternLaws.{unitsOf, value_grows, pattern-value, pattern-range}
+use Rattle.arith_root.specs.PatternLaws.{units_of, value_grows, pattern-value, pattern-range}
 use Rattle.arith_root.specs.NewtonLaws.{below_or_not}
 use Rattle.arith_root.specs.RootLaws.{moved-any, nearest-whole, found-range, found, found-normal, wide_low, wide_high, under128}
 use Rattle.arith_root.specs.FloatLaws.{U, U_pos, R, G, Held, held_whole, held-pow, held-half, mul_val, add-val, div-val, AtMost, round-high, round-low, same-value}
@@ -38,8 +38,8 @@ below_inf (fin s m e) a c v = tt
 -- at least 0.5
 pub normal-of : (x : Float) (n : ℕ) → HasValue x false n U → U ≤ n * 2 → T (normal x)
 normal-of x n v h =
-    and_i (le leastNormal x) (lt x (inf false))
-    (le_of_values leastNormal x 1 (2 ^ 1022) n U (pow_pos 1022) U_pos (refl, refl) v (le_trans (le_of_eq (one-mul U)) (le_trans h (mul-le-mul_left n (lit≤ {m = 2} {n = 2 ^ 1022} tt)))))
+    and_i (le least_normal x) (lt x (inf false))
+    (le_of_values least_normal x 1 (2 ^ 1022) n U (pow_pos 1022) U_pos (refl, refl) v (le_trans (le_of_eq (one-mul U)) (le_trans h (mul-le-mul_left n (lit≤ {m = 2} {n = 2 ^ 1022} tt)))))
     (below_inf x n U v)
 
 -- ---- operations with a whole number among the operands
@@ -82,7 +82,7 @@ within x a c u C h l e =
 -- ---- the square root of a value that is at least 20000 is at least 128
 -- the square root's significand, of 53 bits
 pub record Rooted (b n : ℕ) : Type 0 where
-  pub is-bits : (b / 2 ^ 52 + 1023) / 2 * 2 ^ 52 + (n - 2 ^ 52) ≡ rootBits b
+  pub is-bits : (b / 2 ^ 52 + 1023) / 2 * 2 ^ 52 + (n - 2 ^ 52) ≡ root_bits b
   pub n-low : 2 ^ 52 ≤ n
   pub n-high : n < 2 ^ 53
 
@@ -91,18 +91,18 @@ rooted b =
     let mv = moved-any b in
     let h = mv.0 in
     let m = mv.1 in
-    let n = nearestWhole (h * 2 ^ 52) in
+    let n = nearest_whole (h * 2 ^ 52) in
     let p : NearestWhole (h * 2 ^ 52) n = nearest-whole (h * 2 ^ 52) (lt_of_lt_of_le (lit< tt) (wide_low h m.low)) (under128 (h * 2 ^ 52) (wide_high h m.high)) in
     let r = found-range b h n m p in
     (n, record { is-bits = found b h n m p; n-low = r.0; n-high = r.1 })
 
-pub root-val : (v : Float) (n : ℕ) → T (fits binary64 v) → T (normal v) → HasValue v false n U → 20000 * U ≤ n → (r : ℕ) × HasValue (rootOf v) false r U × (128 * U ≤ r)
-unfolding rootOf
+pub root-val : (v : Float) (n : ℕ) → T (fits binary64 v) → T (normal v) → HasValue v false n U → 20000 * U ≤ n → (r : ℕ) × HasValue (root_of v) false r U × (128 * U ≤ r)
+unfolding root_of
 root-val v n F N h l =
     let b = to_bits binary64 v in
     let rg = pattern-range v F N in
-    let hb : HasValue v false (unitsOf b) U = subst (λ (z : Float). HasValue z false (unitsOf b) U) (of_bits-to_bits binary64 v F) (pattern-value b rg.0 rg.1) in
-    let e : n ≡ unitsOf b = eq_of_mul-eq-mul_right U U_pos n (unitsOf b) (same-value v n U (unitsOf b) U h hb) in
+    let hb : HasValue v false (units_of b) U = subst (λ (z : Float). HasValue z false (units_of b) U) (of_bits-to_bits binary64 v F) (pattern-value b rg.0 rg.1) in
+    let e : n ≡ units_of b = eq_of_mul-eq-mul_right U U_pos n (units_of b) (same-value v n U (units_of b) U h hb) in
     let lb : 1037 * 2 ^ 52 ≤ b = elim (below_or_not b (1037 * 2 ^ 52)) [
       | inl u ↦ absurd (not-le_of_lt (lt_of_le_of_lt (value_grows b (1037 * 2 ^ 52) rg.0 (before b (1037 * 2 ^ 52) u)) (lit< tt)) (le_trans l (le_of_eq e)))
       | inr g ↦ g
@@ -110,11 +110,11 @@ root-val v n F N h l =
     let rt = rooted b in
     let k = rt.1 in
     let nr = found-normal b rt.0 rg.0 rg.1 k.n-low k.n-high in
-    let rb = rootBits b in
+    let rb = root_bits b in
     let rlo : 2 ^ 52 ≤ rb = le_trans nr.0 (le_of_eq k.is-bits) in
     let rhi : rb < 9218868437227405312 = lt_of_le_of_lt (le_of_eq (sym k.is-bits)) nr.1 in
     let up_to : 1030 * 2 ^ 52 ≤ rb = le_trans (enough b rt.0 lb) (le_of_eq k.is-bits) in
-    (unitsOf rb, pattern-value rb rlo rhi, le_trans (lit≤ tt) (value_grows (1030 * 2 ^ 52) rb (lit≤ tt) up_to))
+    (units_of rb, pattern-value rb rlo rhi, le_trans (lit≤ tt) (value_grows (1030 * 2 ^ 52) rb (lit≤ tt) up_to))
   where
     before : (x y : ℕ) → x < y → x ≤ y
     before x y h = omega arith
@@ -187,7 +187,7 @@ module _ (C1 C2 a b e : ℕ) (c1 c2 : Float) (h1 : HasValue c1 false C1 1) (h2 :
       (mul_val binary64 half (add binary64 (add binary64 (whole a) (whole b)) c1) 1 2 (a + b + C1) 1 (lit< tt) (lit< tt) (refl, refl) sum-val)
 
   abbrev pub W : Float
-  W = div binary64 (mul binary64 half (add binary64 (add binary64 (whole a) (whole b)) c1)) (rootOf under-root)
+  W = div binary64 (mul binary64 half (add binary64 (add binary64 (whole a) (whole b)) c1)) (root_of under-root)
 
   weight-within : Within W (2 ^ 23)
   weight-within =
@@ -196,7 +196,7 @@ module _ (C1 C2 a b e : ℕ) (c1 c2 : Float) (h1 : HasValue c1 false C1 1) (h2 :
       let r = root-val under-root v.num (add-fits binary64 c2 (mul binary64 (whole a) (whole b))) v.is_normal v.value v.at_least in
       let rp : 0 < r.0 = r-pos r.0 U U_pos r.2 in
       within W s.num r.0 (2 ^ 23) rp (held-pow 23 (lit≤ tt)) (w-high s.num r.0 U s.most-u r.2)
-      (div-alike (mul binary64 half (add binary64 (add binary64 (whole a) (whole b)) c1)) (rootOf under-root) s.num r.0 U U_pos rp s.value r.1)
+      (div-alike (mul binary64 half (add binary64 (add binary64 (whole a) (whole b)) c1)) (root_of under-root) s.num r.0 U U_pos rp s.value r.1)
 
   abbrev pub X : Float
   X = add binary64 half (mul binary64 (whole e) W)

@@ -5,8 +5,8 @@ use Rattle.std.specs.Float.{binary64}
 use Rattle.std.specs.Float.Ieee.{in_float, of_bits}
 use Rattle.std.specs.Float.Ieee.Exact.{HasValue}
 use Rattle.cdef_spec.specs.declared.DistanceConstants.{DistanceConstants}
-use Rattle.cdef_spec.specs.Distance.{half, constantsOf, squaresLimit, weight, weighted}
-use Rattle.distance_weight.specs.Weighing.{OfDepth, most, timesOf}
+use Rattle.cdef_spec.specs.Distance.{half, constants_of, squares_limit, weight, weighted}
+use Rattle.distance_weight.specs.Weighing.{OfDepth, most, times_of}
 use Rattle.arith_root.specs.FloatLaws.{U, U_pos}
 use Rattle.arith_root.specs.TruncateLaws.{truncated-value}
 use Rattle.distance_weight.specs.SequenceLaws.{whole_val, X, value-truncated}
@@ -32,7 +32,7 @@ pub record Bounds (c : DistanceConstants) : Type 0 where
   pub u2 : C2 ≤ 2 ^ 31
 
 pub bounds : (c : DistanceConstants) (depth : ℕ) → OfDepth c depth → Bounds c
-unfolding constantsOf
+unfolding constants_of
 bounds c depth o =
     let k = depth - 8 in
     let d : k ≤ 4 = omega (arith, o.flat) in
@@ -48,8 +48,8 @@ bounds c depth o =
       u2 = omega arith;
     }
 
-pub limit-most : (depth : ℕ) → depth ≤ 12 → squaresLimit depth ≤ most
-unfolding squaresLimit
+pub limit-most : (depth : ℕ) → depth ≤ 12 → squares_limit depth ≤ most
+unfolding squares_limit
 limit-most depth h =
     let p : 2 ^ depth ≤ 2 ^ 12 = pow_mono {i = depth} {j = 12} h in
     let x : 2 ^ depth - 1 ≤ 4095 = omega arith in
@@ -60,12 +60,12 @@ pub half_is : of_bits binary64 0x3fe0_0000_0000_0000 ≡ half
 unfolding of_bits
 half_is = refl
 
-pub times-weight : (c : DistanceConstants) (a b e : ℕ) (w : Float) → w ≡ weight c a b → timesOf e w ≡ weighted c a b e
-unfolding timesOf weighted
-times-weight c a b e w h = ap (timesOf e) h
+pub times-weight : (c : DistanceConstants) (a b e : ℕ) (w : Float) → w ≡ weight c a b → times_of e w ≡ weighted c a b e
+unfolding times_of weighted
+times-weight c a b e w h = ap (times_of e) h
 
 -- a weighted distance is below 2 ^ 53
-pub weighted-low : (c : DistanceConstants) (depth a b e : ℕ) → OfDepth c depth → a ≤ squaresLimit depth → b ≤ squaresLimit depth → e ≤ squaresLimit depth → weighted c a b e < 2 ^ 53
+pub weighted-low : (c : DistanceConstants) (depth a b e : ℕ) → OfDepth c depth → a ≤ squares_limit depth → b ≤ squares_limit depth → e ≤ squares_limit depth → weighted c a b e < 2 ^ 53
 unfolding weighted weight
 weighted-low c depth a b e o A B E =
     let m = limit-most depth o.flat in

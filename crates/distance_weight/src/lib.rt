@@ -1,14 +1,14 @@
 // The weighted distance from spreads and squares, each f64 operation rounded once, in the order of RULES, Distance.
 ghost use Rattle.std.specs.Prelude.{◌≡◌, ℕ, ◌≤◌};
-ghost use Rattle.cdef_spec.specs.Distance.{constantsOf, weight as weightOf, weighted as weightedOf, squaresLimit};
-ghost use Rattle.distance_weight.specs.Weighing.{OfDepth, Weighs, timesOf};
+ghost use Rattle.cdef_spec.specs.Distance.{constants_of, weight as weight_of, weighted as weighted_of, squares_limit};
+ghost use Rattle.distance_weight.specs.Weighing.{OfDepth, Weighs, times_of};
 
 use cdef_spec::DistanceConstants;
 
 // c1 and c2 of a depth.
 pub fn constants_of(depth: u8) -> DistanceConstants
     requires { (8 ≤ depth) × (depth ≤ 12) }
-    ensures { result ≡ constantsOf depth }
+    ensures { result ≡ constants_of depth }
 {
     let k = (depth - 8) as u32;
     let c1 = 400u64 << (2 * k);
@@ -21,8 +21,8 @@ pub fn constants_of(depth: u8) -> DistanceConstants
 
 // (0.5 * (a + b + c1)) / sqrt(c2 + a * b).
 pub fn weight(a: u64, b: u64, c: DistanceConstants) -> f64
-    requires { (depth : ℕ) × OfDepth c depth × (a ≤ squaresLimit depth) × (b ≤ squaresLimit depth) }
-    ensures { result ≡ weightOf c a b }
+    requires { (depth : ℕ) × OfDepth c depth × (a ≤ squares_limit depth) × (b ≤ squares_limit depth) }
+    ensures { result ≡ weight_of c a b }
 {
     let fa = a as f64;
     let fb = b as f64;
@@ -32,15 +32,15 @@ pub fn weight(a: u64, b: u64, c: DistanceConstants) -> f64
 // 0.5 + e * w, truncated to a whole number.
 pub fn times(e: u64, w: f64) -> u64
     requires { Weighs w e }
-    ensures { result ≡ timesOf e w }
+    ensures { result ≡ times_of e w }
 {
     arith_root::truncate(0.5 + e as f64 * w)
 }
 
 // 0.5 + e * weight, truncated to a whole number.
 pub fn weighted(a: u64, b: u64, e: u64, c: DistanceConstants) -> u64
-    requires { (depth : ℕ) × OfDepth c depth × (a ≤ squaresLimit depth) × (b ≤ squaresLimit depth) × (e ≤ squaresLimit depth) }
-    ensures { result ≡ weightedOf c a b e }
+    requires { (depth : ℕ) × OfDepth c depth × (a ≤ squares_limit depth) × (b ≤ squares_limit depth) × (e ≤ squares_limit depth) }
+    ensures { result ≡ weighted_of c a b e }
 {
     let w = weight(a, b, c);
     times(e, w)

@@ -12,16 +12,16 @@ use Rattle.std.proofs.Math.Seq.{ext_get_or}
 use Rattle.cdef_spec.specs.declared.Block.{Block}
 use Rattle.cdef_spec.specs.declared.FilterParams.{FilterParams}
 use Rattle.cdef_spec.specs.Words.{table}
-use Rattle.cdef_spec.specs.WordsLaws.{length-table, getD-table}
+use Rattle.cdef_spec.specs.WordsLaws.{length-table, get_or-table}
 use Rattle.cdef_spec.specs.Standard.{Tap, missing}
-use Rattle.cdef_spec.specs.Document01.{Plane, available, or_else, filterCentre, filtered}
-use Rattle.cdef_spec.specs.BlockCalls.{in_block, filteredPlace}
-use Rattle.cdef_spec.specs.LoopForm.{putBlock}
+use Rattle.cdef_spec.specs.Document01.{Plane, available, or_else, filter_centre, filtered}
+use Rattle.cdef_spec.specs.BlockCalls.{in_block, filtered_place}
+use Rattle.cdef_spec.specs.LoopForm.{put_block}
 use Rattle.cdef_spec.specs.PlaneLaws.{length-put-block, block_in, block_out}
 
 -- off the plane there is nothing to filter
 below-plane : (p : Plane) (q : FilterParams) (r c : ℕ) → p.height ≤ r → filtered p q r c ≡ missing
-unfolding filtered available filterCentre
+unfolding filtered available filter_centre
 below-plane p q r c h = rw (le-ltb r p.height h)
 
 module _ (p : Plane) (b : Block) (q : FilterParams) (y0 : ℕ) (d : List ℕ) (hx : b.x < p.width) (hy : y0 ≤ b.y) where
@@ -36,7 +36,7 @@ module _ (p : Plane) (b : Block) (q : FilterParams) (y0 : ℕ) (d : List ℕ) (h
   rows = min b.height (p.height - b.y)
 
   stored : List ℕ
-  stored = putBlock d p.width f (b.y - y0) b.x cols rows
+  stored = put_block d p.width f (b.y - y0) b.x cols rows
 
   -- row r and column c of the destination
   module _ (r c : ℕ) (hc : c < p.width) (hl : r * p.width + c < length d) where
@@ -59,8 +59,8 @@ module _ (p : Plane) (b : Block) (q : FilterParams) (y0 : ℕ) (d : List ℕ) (h
     at_place true false u v e g h k = untouched (λ a i j m n. omega (arith, ltb-false (y0 + r) (b.y + b.height) g))
     at_place false t u v e g h k = untouched (λ a i j m n. omega (arith, leb-false b.y (y0 + r) e))
 
-  place : (k : ℕ) → k < length d → get_or stored k 0 ≡ filteredPlace p b q y0 d k
-  unfolding filteredPlace in_block old
+  place : (k : ℕ) → k < length d → get_or stored k 0 ≡ filtered_place p b q y0 d k
+  unfolding filtered_place in_block old
   place k h =
       let w : 0 < p.width = omega arith in
       let e : k / p.width * p.width + k % p.width ≡ k = div-add-mod' k p.width in
@@ -69,9 +69,9 @@ module _ (p : Plane) (b : Block) (q : FilterParams) (y0 : ℕ) (d : List ℕ) (h
       ∙ rw e
 
   -- the destination, sample by sample
-  pub block-table : putBlock d p.width (λ r c. filtered p q (y0 + r) c) (b.y - y0) b.x (min b.width (p.width - b.x)) (min b.height (p.height - b.y)) ≡ table (length d) (filteredPlace p b q y0 d)
+  pub block-table : put_block d p.width (λ r c. filtered p q (y0 + r) c) (b.y - y0) b.x (min b.width (p.width - b.x)) (min b.height (p.height - b.y)) ≡ table (length d) (filtered_place p b q y0 d)
   unfolding stored
   block-table =
       let l : length stored ≡ length d = length-put-block p.width f d (b.y - y0) b.x cols rows in
-      ext_get_or 0 stored _ (l ∙ sym (length-table (length d) (filteredPlace p b q y0 d)))
-      (λ k h. let g : k < length d = omega (arith, l) in place k g ∙ sym (getD-table (length d) (filteredPlace p b q y0 d) 0 k g))
+      ext_get_or 0 stored _ (l ∙ sym (length-table (length d) (filtered_place p b q y0 d)))
+      (λ k h. let g : k < length d = omega (arith, l) in place k g ∙ sym (get_or-table (length d) (filtered_place p b q y0 d) 0 k g))

@@ -2,13 +2,13 @@
 
 ghost use Rattle.std.specs.Prelude.{◌≡◌, ◌+◌, ◌-◌, ◌*◌, ◌≤◌, ◌<◌, min, length};
 ghost use Rattle.cdef_spec.specs.Document01.{filtered};
-ghost use Rattle.cdef_spec.specs.LoopForm.{putBlock};
+ghost use Rattle.cdef_spec.specs.LoopForm.{put_block};
 ghost use Rattle.arith_sample.specs.Bounds.{Held};
 ghost use Rattle.arith_sample.specs.Upto.{upto};
 ghost use Rattle.filter_rows.specs.Sums.{Near6, InRange};
-ghost use Rattle.filter_window.specs.Window.{planeOf, windowAt};
+ghost use Rattle.filter_window.specs.Window.{plane_of, window_at};
 ghost use Rattle.filter_window.specs.Spans.{InPlane};
-ghost use Rattle.filter_block.specs.Store.{windowTap, blockTap, Usable};
+ghost use Rattle.filter_block.specs.Store.{window_tap, block_tap, Usable};
 
 use cdef_spec::{Block, FilterParams};
 use filter_rows::{Strength, Taps};
@@ -29,7 +29,7 @@ pub fn filter_rows(
 )
     requires cols_bound { (x + cols ≤ w) × (w ≤ 4096) × (y + rows ≤ 8192) × (rows ≤ 8) × (cols ≤ 8) × ((y + rows) * w ≤ length dst.old) }
     requires held { Held win.now × Near6 t × InRange f × InRange g }
-    ensures { dst.new ≡ putBlock dst.old w (windowTap win.now t f g y x) y x cols rows }
+    ensures { dst.new ≡ put_block dst.old w (window_tap win.now t f g y x) y x cols rows }
 {
     for i in 0..rows {
         let row = filter_kernel::kernel_row(win, (i + 2) * 12 + 2, t, f, g);
@@ -50,7 +50,7 @@ pub fn filter_window(
     requires x_lt_w { (b.x < w) × (b.y < h) × (w ≤ 4096) × (h ≤ 4096) × (b.width ≤ 8) × (b.height ≤ 8) }
     requires y0_le_y { (y0 ≤ b.y) × ((b.y - y0 + min b.height (h - b.y)) * w ≤ length dst.old) }
     requires held { Held win.now × Usable q }
-    ensures { dst.new ≡ putBlock dst.old w (blockTap win.now q (b.y - y0) b.x) (b.y - y0) b.x
+    ensures { dst.new ≡ put_block dst.old w (block_tap win.now q (b.y - y0) b.x) (b.y - y0) b.x
         (min b.width (w - b.x)) (min b.height (h - b.y)) }
 {
     let d = filter_kernel::from_one(q.damping);
@@ -72,9 +72,9 @@ pub fn cdef_filter_block(
     b: Block,
     q: FilterParams,
 )
-    requires in_plane { InPlane src.now w h b × Held (upto (windowAt (planeOf src.now w h) b) 144) × Usable q }
+    requires in_plane { InPlane src.now w h b × Held (upto (window_at (plane_of src.now w h) b) 144) × Usable q }
     requires y0_le_y { (y0 ≤ b.y) × ((b.y - y0 + min b.height (h - b.y)) * w ≤ length dst.old) }
-    ensures { dst.new ≡ putBlock dst.old w (λ r c. filtered (planeOf src.now w h) q (y0 + r) c) (b.y - y0)
+    ensures { dst.new ≡ put_block dst.old w (λ r c. filtered (plane_of src.now w h) q (y0 + r) c) (b.y - y0)
         b.x (min b.width (w - b.x)) (min b.height (h - b.y)) }
 {
     let win = filter_window::window(src, w, h, b);

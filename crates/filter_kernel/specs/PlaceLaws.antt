@@ -5,25 +5,25 @@ use Rattle.std.proofs.Math.Decide.{dec_le}
 use native.Mathlib.Omega.{arith}
 use Rattle.cdef_spec.specs.declared.Block.{Block}
 use Rattle.cdef_spec.specs.Document01.{Plane}
-use Rattle.cdef_spec.specs.CodeForm.{row_of, colOf, sampleAt}
+use Rattle.cdef_spec.specs.CodeForm.{row_of, col_of, sample_at}
 use Rattle.cdef_spec.specs.PlaceLaws.{steps_low}
-use Rattle.arith_sample.specs.Sample.{orCentre}
-use Rattle.arith_sample.specs.Upto.{upto, getD-upto}
-use Rattle.filter_rows.specs.Place.{Near, onFrom, backFrom, tapOn, tapBack}
+use Rattle.arith_sample.specs.Sample.{or_centre}
+use Rattle.arith_sample.specs.Upto.{upto, get_or-upto}
+use Rattle.filter_rows.specs.Place.{Near, on_from, back_from, tap_on, tap_back}
 use Rattle.filter_rows.specs.Sums.{Near6}
-use Rattle.filter_window.specs.Window.{windowAt}
+use Rattle.filter_window.specs.Window.{window_at}
 use Rattle.filter_window.specs.WindowLaws.{window-in}
-use Rattle.plane_taps.specs.Steps.{wrappedStep, stepBy, stepIn, tapsBy, tapsIn}
-use Rattle.filter_kernel.specs.Kernel.{wrapped, off_at, tapsOf}
+use Rattle.plane_taps.specs.Steps.{wrapped_step, step_by, step_in, taps_by, taps_in}
+use Rattle.filter_kernel.specs.Kernel.{wrapped, off_at, taps_of}
 
 -- ---- offsets are those in a plane 12 wide, and near
 
-step-window : (dir k : ℕ) → stepIn 12 dir k ≡ off_at dir k
-unfolding stepBy wrappedStep off_at wrapped
-step-window dir k = let e : row_of dir k * 12 + colOf dir k * 1 ≡ row_of dir k * 12 + colOf dir k = omega arith in rw e
+step-window : (dir k : ℕ) → step_in 12 dir k ≡ off_at dir k
+unfolding step_by wrapped_step off_at wrapped
+step-window dir k = let e : row_of dir k * 12 + col_of dir k * 1 ≡ row_of dir k * 12 + col_of dir k = omega arith in rw e
 
-pub taps-window : (dir : ℕ) → tapsIn 12 dir ≡ tapsOf dir
-unfolding tapsBy tapsOf
+pub taps-window : (dir : ℕ) → taps_in 12 dir ≡ taps_of dir
+unfolding taps_by taps_of
 taps-window dir = rw (step-window dir 0, step-window dir 1, step-window ((dir + 2) % 8) 0, step-window ((dir + 2) % 8) 1, step-window ((dir + 6) % 8) 0, step-window ((dir + 6) % 8) 1)
 
 wrapped-near : (r2 c2 : ℕ) → r2 ≤ 4 → c2 ≤ 4 → Near (wrapped r2 c2)
@@ -36,10 +36,10 @@ wrapped-near r2 c2 hr hc = record { near = go (dec_le 26 (r2 * 12 + c2)) }
 
 off-near : (dir k : ℕ) → dir < 8 → k < 2 → Near (off_at dir k)
 unfolding off_at
-off-near dir k hd hk = let l = steps_low dir k hd hk in wrapped-near (row_of dir k) (colOf dir k) l.0 l.1
+off-near dir k hd hk = let l = steps_low dir k hd hk in wrapped-near (row_of dir k) (col_of dir k) l.0 l.1
 
-pub taps-near : (dir : ℕ) → dir < 8 → Near6 (tapsOf dir)
-unfolding tapsOf
+pub taps-near : (dir : ℕ) → dir < 8 → Near6 (taps_of dir)
+unfolding taps_of
 taps-near dir h = record {
   p0 = off-near dir 0 h (omega arith);
   p1 = off-near dir 1 h (omega arith);
@@ -55,8 +55,8 @@ past-wrap : (t : ℕ) → t < 2 ^ 64 → (t + 2 ^ 64) % 2 ^ 64 ≡ t
 past-wrap t h = omega arith
 
 module _ (i j r2 c2 : ℕ) (hi : i < 8) (hj : j < 8) (hr : r2 ≤ 4) (hc : c2 ≤ 4) where
-  pub on-is : onFrom ((i + 2) * 12 + 2 + j) (wrapped r2 c2) ≡ (i + r2) * 12 + (j + c2)
-  unfolding onFrom wrapped
+  pub on-is : on_from ((i + 2) * 12 + 2 + j) (wrapped r2 c2) ≡ (i + r2) * 12 + (j + c2)
+  unfolding on_from wrapped
   on-is = go (dec_le 26 (r2 * 12 + c2))
     where
       go : Dec (26 ≤ r2 * 12 + c2) → ((i + 2) * 12 + 2 + j + (r2 * 12 + c2 + (2 ^ 64 - 26)) % 2 ^ 64) % 2 ^ 64 ≡ (i + r2) * 12 + (j + c2)
@@ -67,8 +67,8 @@ module _ (i j r2 c2 : ℕ) (hi : i < 8) (hj : j < 8) (hr : r2 ≤ 4) (hc : c2 �
           let e : (r2 * 12 + c2 + (2 ^ 64 - 26)) % 2 ^ 64 ≡ r2 * 12 + c2 + (2 ^ 64 - 26) = omega arith in
           rw e (omega arith)
 
-  pub back_at : backFrom ((i + 2) * 12 + 2 + j) (wrapped r2 c2) ≡ (i + (4 - r2)) * 12 + (j + (4 - c2))
-  unfolding backFrom wrapped
+  pub back_at : back_from ((i + 2) * 12 + 2 + j) (wrapped r2 c2) ≡ (i + (4 - r2)) * 12 + (j + (4 - c2))
+  unfolding back_from wrapped
   back_at = go (dec_le 26 (r2 * 12 + c2))
     where
       go : Dec (26 ≤ r2 * 12 + c2) → ((i + 2) * 12 + 2 + j + (2 ^ 64 - (r2 * 12 + c2 + (2 ^ 64 - 26)) % 2 ^ 64)) % 2 ^ 64 ≡ (i + (4 - r2)) * 12 + (j + (4 - c2))
@@ -83,27 +83,27 @@ module _ (i j r2 c2 : ℕ) (hi : i < 8) (hj : j < 8) (hr : r2 ≤ 4) (hc : c2 �
 -- ---- row i and column j of a block, in its window
 
 module _ (p : Plane) (b : Block) (i j : ℕ) (hh : b.height ≤ 8) (hw : b.width ≤ 8) (hi : i < b.height) (hj : j < b.width) where
-  pub entry-is : (r c : ℕ) → r ≤ 4 → c ≤ 4 → get_or (upto (windowAt p b) 144) ((i + r) * 12 + (j + c)) 0 ≡ sampleAt p (b.y + i + r) (b.x + j + c)
+  pub entry-is : (r c : ℕ) → r ≤ 4 → c ≤ 4 → get_or (upto (window_at p b) 144) ((i + r) * 12 + (j + c)) 0 ≡ sample_at p (b.y + i + r) (b.x + j + c)
   entry-is r c hr hc =
       let e : b.y + (i + r) ≡ b.y + i + r = omega arith in
       let f : b.x + (j + c) ≡ b.x + j + c = omega arith in
-      getD-upto (windowAt p b) 144 ((i + r) * 12 + (j + c)) 0 (omega arith)
+      get_or-upto (window_at p b) 144 ((i + r) * 12 + (j + c)) 0 (omega arith)
       ∙ window-in p b (i + r) (j + c) (omega arith) (omega arith) (omega arith)
       ∙ rw (e, f)
 
-  pub centre-is : get_or (upto (windowAt p b) 144) ((i + 2) * 12 + 2 + j) 0 ≡ sampleAt p (b.y + i + 2) (b.x + j + 2)
+  pub centre-is : get_or (upto (window_at p b) 144) ((i + 2) * 12 + 2 + j) 0 ≡ sample_at p (b.y + i + 2) (b.x + j + 2)
   centre-is =
       let e : (i + 2) * 12 + 2 + j ≡ (i + 2) * 12 + (j + 2) = omega arith in
       rw e (entry-is 2 2 (omega arith) (omega arith))
 
   -- the tap forward, and the opposite one
   module _ (dir k c : ℕ) (hd : dir < 8) (hk : k < 2) where
-    pub on-tap : tapOn (upto (windowAt p b) 144) ((i + 2) * 12 + 2 + j) (off_at dir k) c ≡ orCentre (sampleAt p (b.y + i + row_of dir k) (b.x + j + colOf dir k)) c
-    unfolding tapOn off_at
+    pub on-tap : tap_on (upto (window_at p b) 144) ((i + 2) * 12 + 2 + j) (off_at dir k) c ≡ or_centre (sample_at p (b.y + i + row_of dir k) (b.x + j + col_of dir k)) c
+    unfolding tap_on off_at
     on-tap = let l = steps_low dir k hd hk in
-        rw (on-is i j (row_of dir k) (colOf dir k) (omega arith) (omega arith) l.0 l.1, entry-is (row_of dir k) (colOf dir k) l.0 l.1)
+        rw (on-is i j (row_of dir k) (col_of dir k) (omega arith) (omega arith) l.0 l.1, entry-is (row_of dir k) (col_of dir k) l.0 l.1)
 
-    pub back-tap : tapBack (upto (windowAt p b) 144) ((i + 2) * 12 + 2 + j) (off_at dir k) c ≡ orCentre (sampleAt p (b.y + i + (4 - row_of dir k)) (b.x + j + (4 - colOf dir k))) c
-    unfolding tapBack off_at
+    pub back-tap : tap_back (upto (window_at p b) 144) ((i + 2) * 12 + 2 + j) (off_at dir k) c ≡ or_centre (sample_at p (b.y + i + (4 - row_of dir k)) (b.x + j + (4 - col_of dir k))) c
+    unfolding tap_back off_at
     back-tap = let l = steps_low dir k hd hk in
-        rw (back_at i j (row_of dir k) (colOf dir k) (omega arith) (omega arith) l.0 l.1, entry-is (4 - row_of dir k) (4 - colOf dir k) (omega arith) (omega arith))
+        rw (back_at i j (row_of dir k) (col_of dir k) (omega arith) (omega arith) l.0 l.1, entry-is (4 - row_of dir k) (4 - col_of dir k) (omega arith) (omega arith))

@@ -3,7 +3,7 @@ ghost use Rattle.std.specs.Prelude.{◌≡◌, ◌+◌, ◌≤◌, ◌<◌, max,
 ghost use Rattle.arith_sample.specs.Bounds.{Held};
 ghost use Rattle.arith_sample.specs.Upto.{upto};
 ghost use Rattle.filter_rows.specs.Sums.{Near6, InRange};
-ghost use Rattle.filter_kernel.specs.Kernel.{tapsOf, shift_of, priOf, secOf, kernelAt};
+ghost use Rattle.filter_kernel.specs.Kernel.{taps_of, shift_of, pri_of, sec_of, kernel_at};
 
 use cdef_spec::WorkingDamping;
 use filter_rows::{Strength, Taps};
@@ -11,7 +11,7 @@ use filter_rows::{Strength, Taps};
 // The offsets of a direction, of the one 2 further and of the one 6 further: the window is 12 samples wide.
 pub fn taps(dir: usize) -> Taps
     requires { dir < 8 }
-    ensures { result ≡ tapsOf dir }
+    ensures { result ≡ taps_of dir }
 {
     plane_taps::steps::taps(dir, 12, 1)
 }
@@ -42,7 +42,7 @@ fn shift_of(s: u16, damping: u32) -> u32
 // A primary strength with its shift and its weights, 4, 2 or 3, 3.
 pub fn primary(s: u16, damping: u32, depth: u8) -> Strength
     requires { (damping ≤ 31) × (8 ≤ depth) × (depth ≤ 12) }
-    ensures { result ≡ priOf s damping depth }
+    ensures { result ≡ pri_of s damping depth }
 {
     let odd = (s >> (depth - 8)) % 2;
     Strength {
@@ -56,7 +56,7 @@ pub fn primary(s: u16, damping: u32, depth: u8) -> Strength
 // A secondary strength with its shift and its weights, 2, 1.
 pub fn secondary(s: u16, damping: u32) -> Strength
     requires { damping ≤ 31 }
-    ensures { result ≡ secOf s damping }
+    ensures { result ≡ sec_of s damping }
 {
     Strength {
         s: s,
@@ -69,7 +69,7 @@ pub fn secondary(s: u16, damping: u32) -> Strength
 // The filtered row that starts at `row` of the window. The taps of a strength 0 are left out.
 pub fn kernel_row(w: &[u16; 144], row: usize, t: Taps, f: Strength, g: Strength) -> [u16; 8]
     requires { (26 ≤ row) × (row ≤ 110) × Held w.now × Near6 t × InRange f × InRange g }
-    ensures { result ≡ upto (λ j. kernelAt w.now (row + j) t f g) 8 }
+    ensures { result ≡ upto (λ j. kernel_at w.now (row + j) t f g) 8 }
 {
     if f.s == 0 {
         if g.s == 0 {

@@ -17,24 +17,24 @@ pub record HeldPairs (e : Pairs) : Type 0 where
   pub r1 : HeldPair e.r1
 
 -- the least of a pair
-unfoldable pub leastOf : Pair → ℕ
-leastOf p = min p.on p.back
+unfoldable pub least_of : Pair → ℕ
+least_of p = min p.on p.back
 
 -- a tap, 0 where it is marked
-unfoldable pub unmarkedOf : ℕ → ℕ
-unmarkedOf t = cond (eqb t 16384) 0 t
+unfoldable pub unmarked_of : ℕ → ℕ
+unmarked_of t = cond (eqb t 16384) 0 t
 
 -- the greatest of a pair
 unfoldable pub most_of : Pair → ℕ
-most_of p = max (unmarkedOf p.on) (unmarkedOf p.back)
+most_of p = max (unmarked_of p.on) (unmarked_of p.back)
 
 -- the least and the greatest of six pairs and the centre
-unfoldable pub lowestOf : Pairs → ℕ → ℕ
-lowestOf e c =
-    min (min (min (leastOf e.p0) (leastOf e.p1)) (min (leastOf e.q0) (leastOf e.q1)))
-    (min (min (leastOf e.r0) (leastOf e.r1)) c)
+unfoldable pub lowest_of : Pairs → ℕ → ℕ
+lowest_of e c =
+    min (min (min (least_of e.p0) (least_of e.p1)) (min (least_of e.q0) (least_of e.q1)))
+    (min (min (least_of e.r0) (least_of e.r1)) c)
 
-unfoldable pub highestOf : Pairs → ℕ → ℕ
-highestOf e c =
+unfoldable pub highest_of : Pairs → ℕ → ℕ
+highest_of e c =
     max (max (max (most_of e.p0) (most_of e.p1)) (max (most_of e.q0) (most_of e.q1)))
     (max (max (most_of e.r0) (most_of e.r1)) c)

@@ -1,6 +1,6 @@
 // The least and the greatest of a sample and its taps, as the window holds them.
 ghost use Rattle.std.specs.Prelude.{◌≡◌, ◌≤◌};
-ghost use Rattle.filter_limits.specs.Limits.{HeldPair, HeldPairs, leastOf, unmarkedOf, most_of, lowestOf, highestOf};
+ghost use Rattle.filter_limits.specs.Limits.{HeldPair, HeldPairs, least_of, unmarked_of, most_of, lowest_of, highest_of};
 
 // a tap and its opposite, as the window holds them
 #[derive(Drop)]
@@ -23,7 +23,7 @@ pub struct Pairs {
 // The lesser of two taps. The mark is above each sample.
 fn least_of(p: Pair) -> u16
     requires { HeldPair p }
-    ensures { (result ≡ leastOf p) × (result ≤ 16384) }
+    ensures { (result ≡ least_of p) × (result ≤ 16384) }
 {
     arith_sample::least(p.on, p.back)
 }
@@ -31,7 +31,7 @@ fn least_of(p: Pair) -> u16
 // A tap; 0 where it is marked.
 fn unmarked(t: u16) -> u16
     requires { t ≤ 16384 }
-    ensures { result ≡ unmarkedOf t }
+    ensures { result ≡ unmarked_of t }
 {
     t % arith_sample::MARK
 }
@@ -47,7 +47,7 @@ fn most_of(p: Pair) -> u16
 // The least of the taps and the centre.
 pub fn lowest(e: Pairs, c: u16) -> u16
     requires { HeldPairs e × (c ≤ 16384) }
-    ensures { (result ≡ lowestOf e c) × (result ≤ 16384) }
+    ensures { (result ≡ lowest_of e c) × (result ≤ 16384) }
 {
     let p = arith_sample::least(least_of(e.p0), least_of(e.p1));
     let q = arith_sample::least(least_of(e.q0), least_of(e.q1));
@@ -58,7 +58,7 @@ pub fn lowest(e: Pairs, c: u16) -> u16
 // The greatest of them.
 pub fn highest(e: Pairs, c: u16) -> u16
     requires { HeldPairs e × (c ≤ 16384) }
-    ensures { (result ≡ highestOf e c) × (result ≤ 16384) }
+    ensures { (result ≡ highest_of e c) × (result ≤ 16384) }
 {
     let p = arith_sample::most(most_of(e.p0), most_of(e.p1));
     let q = arith_sample::most(most_of(e.q0), most_of(e.q1));

@@ -5,26 +5,26 @@ use Rattle.std.proofs.Common.{ap, ◌∙◌}
 use native.Mathlib.Omega.{arith}
 use borrow.Author.Tests.{eqb-true, eqb-false, eq-eqb, ne_eqb}
 use Rattle.std.specs.Int.Signed.{mag}
-use Rattle.arith_sample.specs.Sample.{orCentre, size_of, conOf, movedOf, overOf, finishOf, freeOf}
+use Rattle.arith_sample.specs.Sample.{or_centre, size_of, con_of, moved_of, over_of, finish_of, free_of}
 use Rattle.arith_sample.specs.SampleLaws.{con-above, finish-mark}
 use Rattle.arith_sample.specs.Bounds.{Held}
-use Rattle.filter_rows.specs.Place.{onFrom, backFrom, tapOn, tapBack}
-use Rattle.filter_rows.specs.Sums.{pair_at, lowPair, highPair, priAt, sideAt, secAt, lowAt, highAt, filteredAt}
-use Rattle.filter_rows.specs.Pairs.{pair_of, pairsOf, conTap, pairSum, weighed, priSum, secSum}
-use Rattle.filter_limits.specs.Limits.{HeldPair, HeldPairs, leastOf, unmarkedOf, most_of, lowestOf, highestOf}
+use Rattle.filter_rows.specs.Place.{on_from, back_from, tap_on, tap_back}
+use Rattle.filter_rows.specs.Sums.{pair_at, low_pair, high_pair, pri_at, side_at, sec_at, low_at, high_at, filtered_at}
+use Rattle.filter_rows.specs.Pairs.{pair_of, pairs_of, con_tap, pair_sum, weighed, pri_sum, sec_sum}
+use Rattle.filter_limits.specs.Limits.{HeldPair, HeldPairs, least_of, unmarked_of, most_of, lowest_of, highest_of}
 use Rattle.filter_rows.specs.declared.Taps.{Taps}
 use Rattle.filter_rows.specs.declared.Strength.{Strength}
 
-pub con-self : (c s sh : ℕ) → conOf c c s sh ≡ pos 0
+pub con-self : (c s sh : ℕ) → con_of c c s sh ≡ pos 0
 unfolding size_of
 con-self c s sh = con-above c c s sh (omega arith) ∙ ap pos (omega arith)
 
-pub con-mark : (t c s sh : ℕ) → t ≡ 16384 → conTap t c s sh ≡ pos 0
-unfolding conTap
+pub con-mark : (t c s sh : ℕ) → t ≡ 16384 → con_tap t c s sh ≡ pos 0
+unfolding con_tap
 con-mark t c s sh e = rw (eq-eqb t 16384 e)
 
-pub con-tap : (t c s sh : ℕ) → (t ≢ 16384) → conTap t c s sh ≡ conOf t c s sh
-unfolding conTap
+pub con-tap : (t c s sh : ℕ) → (t ≢ 16384) → con_tap t c s sh ≡ con_of t c s sh
+unfolding con_tap
 con-tap t c s sh n = rw (ne_eqb t 16384 n)
 
 -- the same limits together with a centre, as records, so that the numbers can be inferred
@@ -54,24 +54,24 @@ high-last p q = omega (arith, p.high, q.high)
 
 -- one tap
 module _ (t c : ℕ) (hc : c ≤ 16384) (n : c ≡ 16384 → ⊥) where
-  con-is : (s sh : ℕ) → conTap t c s sh ≡ conOf (orCentre t c) c s sh
-  unfolding conTap orCentre
+  con-is : (s sh : ℕ) → con_tap t c s sh ≡ con_of (or_centre t c) c s sh
+  unfolding con_tap or_centre
   con-is s sh = rw (ne_eqb c 16384 n) (go (t == 16384))
     where
-      go : (b : Bool) → cond b (pos 0) (conOf t c s sh) ≡ conOf (cond b c t) c s sh
+      go : (b : Bool) → cond b (pos 0) (con_of t c s sh) ≡ con_of (cond b c t) c s sh
       go true = sym (con-self c s sh)
       go false = refl
 
-  low-is : Low c t (orCentre t c)
-  unfolding orCentre
+  low-is : Low c t (or_centre t c)
+  unfolding or_centre
   low-is = record { low = rw (ne_eqb c 16384 n) (go (t == 16384) refl) }
     where
       go : (b : Bool) → (t == 16384) ≡ b → min t c ≡ min (cond b c t) c
       go true e = omega (arith, eqb-true t 16384 e)
       go false e = refl
 
-  high_is : High c (unmarkedOf t) (orCentre t c)
-  unfolding orCentre unmarkedOf
+  high_is : High c (unmarked_of t) (or_centre t c)
+  unfolding or_centre unmarked_of
   high_is = record { high = rw (ne_eqb c 16384 n) (go (t == 16384)) }
     where
       go : (b : Bool) → max (cond b 0 t) c ≡ max (cond b c t) c
@@ -79,73 +79,73 @@ module _ (t c : ℕ) (hc : c ≤ 16384) (n : c ≡ 16384 → ⊥) where
       go false = refl
 
 -- a marked centre is kept, whatever its sum is
-kept : (c : ℕ) (y z : ℤ) → ((c ≢ 16384) → y ≡ z) → freeOf c y ≡ freeOf c z
-unfolding freeOf
+kept : (c : ℕ) (y z : ℤ) → ((c ≢ 16384) → y ≡ z) → free_of c y ≡ free_of c z
+unfolding free_of
 kept c y z h = go (c == 16384) refl
   where
-    go : (b : Bool) → (c == 16384) ≡ b → cond b c (mag (overOf (movedOf c y) 0)) ≡ cond b c (mag (overOf (movedOf c z) 0))
+    go : (b : Bool) → (c == 16384) ≡ b → cond b c (mag (over_of (moved_of c y) 0)) ≡ cond b c (mag (over_of (moved_of c z) 0))
     go true m = refl
     go false m = rw (h (eqb-false c 16384 m))
 
 -- a pair
 module _ (w : List ℕ) (k c : ℕ) (hc : c ≤ 16384) (n : c ≡ 16384 → ⊥) (o : ℕ) where
-  sum_is : (s sh : ℕ) → pairSum (pair_of w k o) c s sh ≡ pair_at w k o c s sh
-  unfolding pairSum pair_of pair_at tapOn tapBack
-  sum_is s sh = rw (con-is (slice_index w (onFrom k o)) c hc n s sh, con-is (slice_index w (backFrom k o)) c hc n s sh)
+  sum_is : (s sh : ℕ) → pair_sum (pair_of w k o) c s sh ≡ pair_at w k o c s sh
+  unfolding pair_sum pair_of pair_at tap_on tap_back
+  sum_is s sh = rw (con-is (slice_index w (on_from k o)) c hc n s sh, con-is (slice_index w (back_from k o)) c hc n s sh)
 
-  least-is : Low c (leastOf (pair_of w k o)) (lowPair w k o c)
-  unfolding leastOf pair_of lowPair tapOn tapBack
-  least-is = low-two (low-is (slice_index w (onFrom k o)) c hc n) (low-is (slice_index w (backFrom k o)) c hc n)
+  least-is : Low c (least_of (pair_of w k o)) (low_pair w k o c)
+  unfolding least_of pair_of low_pair tap_on tap_back
+  least-is = low-two (low-is (slice_index w (on_from k o)) c hc n) (low-is (slice_index w (back_from k o)) c hc n)
 
-  most-is : High c (most_of (pair_of w k o)) (highPair w k o c)
-  unfolding most_of pair_of highPair tapOn tapBack
-  most-is = high-two (high_is (slice_index w (onFrom k o)) c hc n) (high_is (slice_index w (backFrom k o)) c hc n)
+  most-is : High c (most_of (pair_of w k o)) (high_pair w k o c)
+  unfolding most_of pair_of high_pair tap_on tap_back
+  most-is = high-two (high_is (slice_index w (on_from k o)) c hc n) (high_is (slice_index w (back_from k o)) c hc n)
 
 module _ (w : List ℕ) (k : ℕ) (t : Taps) (h : Held w) where
   held : (o : ℕ) → HeldPair (pair_of w k o)
   unfolding pair_of
-  held o = record { on = h.all (onFrom k o); back = h.all (backFrom k o) }
+  held o = record { on = h.all (on_from k o); back = h.all (back_from k o) }
 
-  pub held-pairs : HeldPairs (pairsOf w k t)
-  unfolding pairsOf
+  pub held-pairs : HeldPairs (pairs_of w k t)
+  unfolding pairs_of
   held-pairs = record { p0 = held t.p0; p1 = held t.p1; q0 = held t.q0; q1 = held t.q1; r0 = held t.r0; r1 = held t.r1 }
 
   module _ (n : slice_index_or w k 0 ≡ 16384 → ⊥) where
-    sum : (o s sh : ℕ) → pairSum (pair_of w k o) (slice_index w k) s sh ≡ pair_at w k o (slice_index w k) s sh
+    sum : (o s sh : ℕ) → pair_sum (pair_of w k o) (slice_index w k) s sh ≡ pair_at w k o (slice_index w k) s sh
     sum = sum_is w k (slice_index w k) (h.all k) n
 
-    least : (o : ℕ) → Low (slice_index w k) (leastOf (pair_of w k o)) (lowPair w k o (slice_index w k))
+    least : (o : ℕ) → Low (slice_index w k) (least_of (pair_of w k o)) (low_pair w k o (slice_index w k))
     least = least-is w k (slice_index w k) (h.all k) n
 
-    most : (o : ℕ) → High (slice_index w k) (most_of (pair_of w k o)) (highPair w k o (slice_index w k))
+    most : (o : ℕ) → High (slice_index w k) (most_of (pair_of w k o)) (high_pair w k o (slice_index w k))
     most = most-is w k (slice_index w k) (h.all k) n
 
-    pri-is : (f : Strength) → priSum (pairsOf w k t) (slice_index w k) f ≡ priAt w k t f
-    unfolding priSum pairsOf weighed priAt
+    pri-is : (f : Strength) → pri_sum (pairs_of w k t) (slice_index w k) f ≡ pri_at w k t f
+    unfolding pri_sum pairs_of weighed pri_at
     pri-is f = rw (sum t.p0 f.s f.sh, sum t.p1 f.s f.sh)
 
-    sec-is : (f : Strength) → secSum (pairsOf w k t) (slice_index w k) f ≡ secAt w k t f
-    unfolding secSum pairsOf weighed secAt sideAt
+    sec-is : (f : Strength) → sec_sum (pairs_of w k t) (slice_index w k) f ≡ sec_at w k t f
+    unfolding sec_sum pairs_of weighed sec_at side_at
     sec-is f = rw (sum t.q0 f.s f.sh, sum t.q1 f.s f.sh, sum t.r0 f.s f.sh, sum t.r1 f.s f.sh)
 
-    pub lowest-is : lowestOf (pairsOf w k t) (slice_index w k) ≡ lowAt w k t
-    unfolding lowestOf pairsOf lowAt
+    pub lowest-is : lowest_of (pairs_of w k t) (slice_index w k) ≡ low_at w k t
+    unfolding lowest_of pairs_of low_at
     lowest-is = low-last (low-two (low-two (least t.p0) (least t.p1)) (low-two (least t.q0) (least t.q1))) (low-two (least t.r0) (least t.r1))
 
-    pub highest-is : highestOf (pairsOf w k t) (slice_index w k) ≡ highAt w k t
-    unfolding highestOf pairsOf highAt
+    pub highest-is : highest_of (pairs_of w k t) (slice_index w k) ≡ high_at w k t
+    unfolding highest_of pairs_of high_at
     highest-is = high-last (high-two (high-two (most t.p0) (most t.p1)) (high-two (most t.q0) (most t.q1))) (high-two (most t.r0) (most t.r1))
 
   -- the filtered sample; a marked centre is kept, whatever the sums are
-  pub both_is : (f g : Strength) → let e = pairsOf w k t in
+  pub both_is : (f g : Strength) → let e = pairs_of w k t in
       let c = slice_index_or w k 0 in
-      finishOf c (priSum e c f +ℤ secSum e c g) (lowestOf e c) (highestOf e c) ≡ filteredAt w k t f g
-  unfolding filteredAt
+      finish_of c (pri_sum e c f +ℤ sec_sum e c g) (lowest_of e c) (highest_of e c) ≡ filtered_at w k t f g
+  unfolding filtered_at
   both_is f g = go (slice_index w k == 16384) refl
     where
-      go : (b : Bool) → (slice_index w k == 16384) ≡ b → let e = pairsOf w k t in
+      go : (b : Bool) → (slice_index w k == 16384) ≡ b → let e = pairs_of w k t in
           let c = slice_index_or w k 0 in
-          finishOf c (priSum e c f +ℤ secSum e c g) (lowestOf e c) (highestOf e c) ≡ finishOf c (priAt w k t f +ℤ secAt w k t g) (lowAt w k t) (highAt w k t)
+          finish_of c (pri_sum e c f +ℤ sec_sum e c g) (lowest_of e c) (highest_of e c) ≡ finish_of c (pri_at w k t f +ℤ sec_at w k t g) (low_at w k t) (high_at w k t)
       go true m = let e : slice_index_or w k 0 ≡ 16384 = eqb-true (slice_index w k) 16384 m in
           finish-mark _ _ _ _ e ∙ sym (finish-mark _ _ _ _ e)
       go false m = let n : slice_index_or w k 0 ≡ 16384 → ⊥ = eqb-false (slice_index w k) 16384 m in
@@ -153,8 +153,8 @@ module _ (w : List ℕ) (k : ℕ) (t : Taps) (h : Held w) where
 
   -- the sample filtered with one strength alone, likewise
   module _ (f : Strength) where
-    pub pri-free : freeOf (slice_index w k) (priSum (pairsOf w k t) (slice_index w k) f) ≡ freeOf (slice_index w k) (priAt w k t f)
+    pub pri-free : free_of (slice_index w k) (pri_sum (pairs_of w k t) (slice_index w k) f) ≡ free_of (slice_index w k) (pri_at w k t f)
     pri-free = kept (slice_index w k) _ _ (λ n. pri-is n f)
 
-    pub sec-free : freeOf (slice_index w k) (secSum (pairsOf w k t) (slice_index w k) f) ≡ freeOf (slice_index w k) (secAt w k t f)
+    pub sec-free : free_of (slice_index w k) (sec_sum (pairs_of w k t) (slice_index w k) f) ≡ free_of (slice_index w k) (sec_at w k t f)
     sec-free = kept (slice_index w k) _ _ (λ n. sec-is n f)

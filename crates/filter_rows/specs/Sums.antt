@@ -1,7 +1,7 @@
 -- The sums of one sample of the window, and the least and the greatest of it and its taps. A pair is a tap and its opposite. Definitions only.
 use Rattle.std.specs.Prelude.{ℕ, ◌≤◌, min, max, List, ℤ, pos, ◌+ℤ◌, ◌*ℤ◌, slice_index, slice_index_or}
-use Rattle.arith_sample.specs.Sample.{conOf, finishOf}
-use Rattle.filter_rows.specs.Place.{Near, tapOn, tapBack}
+use Rattle.arith_sample.specs.Sample.{con_of, finish_of}
+use Rattle.filter_rows.specs.Place.{Near, tap_on, tap_back}
 use Rattle.filter_rows.specs.declared.Taps.{Taps}
 use Rattle.filter_rows.specs.declared.Strength.{Strength}
 
@@ -23,43 +23,43 @@ pub record InRange (f : Strength) : Type 0 where
 
 -- a tap and its opposite, constrained
 unfoldable pub pair_at : List ℕ → ℕ → ℕ → ℕ → ℕ → ℕ → ℤ
-pair_at w k o c s sh = conOf (tapOn w k o c) c s sh +ℤ conOf (tapBack w k o c) c s sh
+pair_at w k o c s sh = con_of (tap_on w k o c) c s sh +ℤ con_of (tap_back w k o c) c s sh
 
-unfoldable pub lowPair : List ℕ → ℕ → ℕ → ℕ → ℕ
-lowPair w k o c = min (tapOn w k o c) (tapBack w k o c)
+unfoldable pub low_pair : List ℕ → ℕ → ℕ → ℕ → ℕ
+low_pair w k o c = min (tap_on w k o c) (tap_back w k o c)
 
-unfoldable pub highPair : List ℕ → ℕ → ℕ → ℕ → ℕ
-highPair w k o c = max (tapOn w k o c) (tapBack w k o c)
+unfoldable pub high_pair : List ℕ → ℕ → ℕ → ℕ → ℕ
+high_pair w k o c = max (tap_on w k o c) (tap_back w k o c)
 
 -- the primary taps' weighed sum at index k
-unfoldable pub priAt : List ℕ → ℕ → Taps → Strength → ℤ
-priAt w k t f =
+unfoldable pub pri_at : List ℕ → ℕ → Taps → Strength → ℤ
+pri_at w k t f =
     let c = slice_index_or w k 0 in
     pos f.w0 *ℤ pair_at w k t.p0 c f.s f.sh +ℤ pos f.w1 *ℤ pair_at w k t.p1 c f.s f.sh
 
 -- the taps of the two side directions at one distance, q and r, weighed by v
-unfoldable pub sideAt : List ℕ → ℕ → ℕ → ℕ → ℕ → ℕ → ℕ → ℤ
-sideAt w k q r v s sh =
+unfoldable pub side_at : List ℕ → ℕ → ℕ → ℕ → ℕ → ℕ → ℕ → ℤ
+side_at w k q r v s sh =
     let c = slice_index_or w k 0 in
     pos v *ℤ (pair_at w k q c s sh +ℤ pair_at w k r c s sh)
 
 -- the near ones, and the far ones
-unfoldable pub secAt : List ℕ → ℕ → Taps → Strength → ℤ
-secAt w k t f = sideAt w k t.q0 t.r0 f.w0 f.s f.sh +ℤ sideAt w k t.q1 t.r1 f.w1 f.s f.sh
+unfoldable pub sec_at : List ℕ → ℕ → Taps → Strength → ℤ
+sec_at w k t f = side_at w k t.q0 t.r0 f.w0 f.s f.sh +ℤ side_at w k t.q1 t.r1 f.w1 f.s f.sh
 
 -- the least and the greatest of the sample at index k and its taps; a marked tap counts as the sample
-unfoldable pub lowAt : List ℕ → ℕ → Taps → ℕ
-lowAt w k t =
+unfoldable pub low_at : List ℕ → ℕ → Taps → ℕ
+low_at w k t =
     let c = slice_index_or w k 0 in
-    min (min (min (lowPair w k t.p0 c) (lowPair w k t.p1 c)) (min (lowPair w k t.q0 c) (lowPair w k t.q1 c)))
-    (min (min (lowPair w k t.r0 c) (lowPair w k t.r1 c)) c)
+    min (min (min (low_pair w k t.p0 c) (low_pair w k t.p1 c)) (min (low_pair w k t.q0 c) (low_pair w k t.q1 c)))
+    (min (min (low_pair w k t.r0 c) (low_pair w k t.r1 c)) c)
 
-unfoldable pub highAt : List ℕ → ℕ → Taps → ℕ
-highAt w k t =
+unfoldable pub high_at : List ℕ → ℕ → Taps → ℕ
+high_at w k t =
     let c = slice_index_or w k 0 in
-    max (max (max (highPair w k t.p0 c) (highPair w k t.p1 c)) (max (highPair w k t.q0 c) (highPair w k t.q1 c)))
-    (max (max (highPair w k t.r0 c) (highPair w k t.r1 c)) c)
+    max (max (max (high_pair w k t.p0 c) (high_pair w k t.p1 c)) (max (high_pair w k t.q0 c) (high_pair w k t.q1 c)))
+    (max (max (high_pair w k t.r0 c) (high_pair w k t.r1 c)) c)
 
 -- the sample at index k, filtered with both strengths
-unfoldable pub filteredAt : List ℕ → ℕ → Taps → Strength → Strength → ℕ
-filteredAt w k t f g = finishOf (slice_index w k) (priAt w k t f +ℤ secAt w k t g) (lowAt w k t) (highAt w k t)
+unfoldable pub filtered_at : List ℕ → ℕ → Taps → Strength → Strength → ℕ
+filtered_at w k t f g = finish_of (slice_index w k) (pri_at w k t f +ℤ sec_at w k t g) (low_at w k t) (high_at w k t)

@@ -2,8 +2,8 @@
 ghost use Rattle.std.specs.Prelude.{◌≡◌, ◌≤◌, unsigned_abs};
 ghost use Rattle.arith_sample.specs.Bounds.{Held};
 ghost use Rattle.filter_rows.specs.Place.{Near};
-ghost use Rattle.filter_rows.specs.Sums.{Near6, InRange, filteredAt};
-ghost use Rattle.filter_rows.specs.Pairs.{pair_of, pairsOf, conTap, pairSum, weighed, priSum, secSum};
+ghost use Rattle.filter_rows.specs.Sums.{Near6, InRange, filtered_at};
+ghost use Rattle.filter_rows.specs.Pairs.{pair_of, pairs_of, con_tap, pair_sum, weighed, pri_sum, sec_sum};
 ghost use Rattle.filter_limits.specs.Limits.{HeldPair, HeldPairs};
 
 use crate::{Strength, Taps};
@@ -23,7 +23,7 @@ fn load_pair(w: &[u16; 144], k: usize, o: usize) -> Pair
 
 pub fn load_pairs(w: &[u16; 144], k: usize, t: Taps) -> Pairs
     requires { (26 ≤ k) × (k ≤ 117) × Near6 t }
-    ensures { result ≡ pairsOf w.now k t }
+    ensures { result ≡ pairs_of w.now k t }
 {
     Pairs {
         p0: load_pair(w, k, t.p0),
@@ -38,7 +38,7 @@ pub fn load_pairs(w: &[u16; 144], k: usize, t: Taps) -> Pairs
 // A tap's constrained difference from the centre; 0 where the tap is marked.
 fn constrain(t: u16, c: u16, s: u16, sh: u32) -> i16
     requires { (t ≤ 16384) × (c ≤ 16384) × (s ≤ 240) × (sh ≤ 15) }
-    ensures { result ≡ conTap t c s sh }
+    ensures { result ≡ con_tap t c s sh }
 {
     let d = arith_sample::constrain_tap(t, c, s, sh);
     if t == arith_sample::MARK { 0 } else { d }
@@ -46,7 +46,7 @@ fn constrain(t: u16, c: u16, s: u16, sh: u32) -> i16
 
 fn pair_sum(p: Pair, c: u16, s: u16, sh: u32) -> i16
     requires { HeldPair p × (c ≤ 16384) × (s ≤ 240) × (sh ≤ 15) }
-    ensures { result ≡ pairSum p c s sh }
+    ensures { result ≡ pair_sum p c s sh }
 {
     arith_sample::add(constrain(p.on, c, s, sh), constrain(p.back, c, s, sh))
 }
@@ -61,7 +61,7 @@ pub fn weigh(a: i16, b: i16, f: Strength) -> i16
 
 pub fn pri_sum(e: Pairs, c: u16, f: Strength) -> i16
     requires { HeldPairs e × (c ≤ 16384) × InRange f }
-    ensures { result ≡ priSum e c f }
+    ensures { result ≡ pri_sum e c f }
 {
     weigh(
         pair_sum(e.p0, c, f.s, f.sh),
@@ -72,7 +72,7 @@ pub fn pri_sum(e: Pairs, c: u16, f: Strength) -> i16
 
 pub fn sec_sum(e: Pairs, c: u16, f: Strength) -> i16
     requires { HeldPairs e × (c ≤ 16384) × InRange f }
-    ensures { result ≡ secSum e c f }
+    ensures { result ≡ sec_sum e c f }
 {
     let a = arith_sample::add(pair_sum(e.q0, c, f.s, f.sh), pair_sum(e.r0, c, f.s, f.sh));
     let b = arith_sample::add(pair_sum(e.q1, c, f.s, f.sh), pair_sum(e.r1, c, f.s, f.sh));
@@ -82,7 +82,7 @@ pub fn sec_sum(e: Pairs, c: u16, f: Strength) -> i16
 // The filtered sample at k. It has one caller, a loop, so that the compiler inlines it there.
 pub fn both_at(w: &[u16; 144], k: usize, t: Taps, f: Strength, g: Strength) -> u16
     requires { (26 ≤ k) × (k ≤ 117) × Held w.now × Near6 t × InRange f × InRange g }
-    ensures { result ≡ filteredAt w.now k t f g }
+    ensures { result ≡ filtered_at w.now k t f g }
 {
     let c = w[k];
     let e = load_pairs(w, k, t);

@@ -5,7 +5,7 @@ pub mod both; // both.rt: one sample, filtered with both strengths
 ghost use Rattle.std.specs.Prelude.{◌≡◌, ◌+◌, ◌≤◌, slice_index};
 ghost use Rattle.arith_sample.specs.Upto.{upto};
 ghost use Rattle.arith_sample.specs.Bounds.{Held};
-ghost use Rattle.filter_rows.specs.Sums.{Near6, InRange, filteredAt};
+ghost use Rattle.filter_rows.specs.Sums.{Near6, InRange, filtered_at};
 
 // offsets of the taps in a window of pitch 12, wrapped; the opposite tap lies as far the other way
 #[derive(Drop)]
@@ -30,7 +30,7 @@ pub struct Strength {
 // The filtered row that starts at `row` of the window.
 pub fn filtered_row(w: &[u16; 144], row: usize, t: Taps, f: Strength, g: Strength) -> [u16; 8]
     requires { (26 ≤ row) × (row ≤ 110) × Held w.now × Near6 t × InRange f × InRange g }
-    ensures { result ≡ upto (λ j. filteredAt w.now (row + j) t f g) 8 }
+    ensures { result ≡ upto (λ j. filtered_at w.now (row + j) t f g) 8 }
 {
     let mut out = [0u16; 8];
     for j in 0..8usize {

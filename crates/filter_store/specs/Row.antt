@@ -4,5 +4,5 @@ use Rattle.cdef_spec.specs.Standard.{Tap}
 use Rattle.cdef_spec.specs.Document01.{unmarked}
 
 -- a row of eight samples, from column x on
-unfoldable pub rowTap : List ℕ → ℕ → ℕ → ℕ → Tap
-rowTap row x r c = unmarked (get_or row (c - x) 0)
+unfoldable pub row_tap : List ℕ → ℕ → ℕ → ℕ → Tap
+row_tap row x r c = unmarked (get_or row (c - x) 0)

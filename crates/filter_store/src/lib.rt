@@ -1,8 +1,8 @@
 // Rows stored: the mark is never written.
 ghost use Rattle.std.specs.Prelude.{◌≡◌, ◌+◌, ◌*◌, ◌≤◌, length};
 ghost use Rattle.cdef_spec.specs.Document01.{unmarked, or_else};
-ghost use Rattle.cdef_spec.specs.LoopForm.{putRow};
-ghost use Rattle.filter_store.specs.Row.{rowTap};
+ghost use Rattle.cdef_spec.specs.LoopForm.{put_row};
+ghost use Rattle.filter_store.specs.Row.{row_tap};
 
 // The value of a sample after v is stored: the mark is never written.
 fn keep(old: u16, v: u16) -> u16
@@ -14,7 +14,7 @@ fn keep(old: u16, v: u16) -> u16
 // Stores n samples of a row at row r and column x of a destination w wide.
 pub fn store_row(dst: &mut [u16], w: usize, r: usize, x: usize, n: usize, row: [u16; 8])
     requires { (r * w + (x + n) ≤ length dst.old) × (n ≤ 8) }
-    ensures { dst.new ≡ putRow dst.old w (rowTap row x) r x n }
+    ensures { dst.new ≡ put_row dst.old w (row_tap row x) r x n }
 {
     for j in 0..n {
         let k = r * w + (x + j);

@@ -6,8 +6,8 @@ use Rattle.std.proofs.Math.Arith.{digits_lt}
 use Rattle.std.proofs.lemmas.List.{length-replicate, get_or-replicate}
 use Rattle.cdef_spec.specs.declared.Block.{Block}
 use Rattle.cdef_spec.specs.Document01.{Plane}
-use Rattle.arith_sample.specs.Upto.{upto, length-upto, getD-upto}
-use Rattle.filter_window.specs.Window.{planeOf, windowAt}
+use Rattle.arith_sample.specs.Upto.{upto, length-upto, get_or-upto}
+use Rattle.filter_window.specs.Window.{plane_of, window_at}
 use Rattle.filter_window.specs.Spans.{InPlane, Inside, Filled}
 use Rattle.filter_window.specs.WindowLaws.{window-in, window-right, window-below, sample_in}
 
@@ -20,44 +20,44 @@ module _ (p : Plane) (b : Block) where
   filled_at n m out e f = rw e at f
 
   -- one entry more
-  pub filled_more : (n v : ℕ) (out : List ℕ) → Filled p b n out → n < 144 → v ≡ windowAt p b n → Filled p b (n + 1) (set out n v)
+  pub filled_more : (n v : ℕ) (out : List ℕ) → Filled p b n out → n < 144 → v ≡ window_at p b n → Filled p b (n + 1) (set out n v)
   filled_more n v out f h e = record {
     long = length-set out n v ∙ f.long;
     done = λ k l. go k l (ℕ_discrete k n);
     rest = λ k l g. get_or-set_other out n k v 0 (omega arith) ∙ f.rest k (omega arith) g;
   }
     where
-      go : (k : ℕ) → k < n + 1 → Dec (k ≡ n) → get_or (set out n v) k 0 ≡ windowAt p b k
+      go : (k : ℕ) → k < n + 1 → Dec (k ≡ n) → get_or (set out n v) k 0 ≡ window_at p b k
       go k l (yes q) = rw q (get_or-set_same out n v 0 (omega (arith, f.long)) ∙ e)
       go k l (no q) = get_or-set_other out n k v 0 (omega arith) ∙ f.done k (omega arith)
 
   -- entries that are marks
-  pub filled-skip : (n m : ℕ) (out : List ℕ) → Filled p b n out → n ≤ m → m ≤ 144 → ((k : ℕ) → n ≤ k → k < m → windowAt p b k ≡ 16384) → Filled p b m out
+  pub filled-skip : (n m : ℕ) (out : List ℕ) → Filled p b n out → n ≤ m → m ≤ 144 → ((k : ℕ) → n ≤ k → k < m → window_at p b k ≡ 16384) → Filled p b m out
   filled-skip n m out f g h marks = record {
     long = f.long;
     done = λ k l. go k l (dec_lt k n);
     rest = λ k l t. f.rest k (omega arith) t;
   }
     where
-      go : (k : ℕ) → k < m → Dec (k < n) → get_or out k 0 ≡ windowAt p b k
+      go : (k : ℕ) → k < m → Dec (k < n) → get_or out k 0 ≡ window_at p b k
       go k l (yes q) = f.done k q
       go k l (no q) = f.rest k (omega arith) (omega arith) ∙ sym (marks k (omega arith) l)
 
-  pub filled-all : (out : List ℕ) → Filled p b 144 out → out ≡ upto (windowAt p b) 144
+  pub filled-all : (out : List ℕ) → Filled p b 144 out → out ≡ upto (window_at p b) 144
   filled-all out f =
-      ext_get_or 0 out (upto (windowAt p b) 144) (f.long ∙ sym (length-upto (windowAt p b) 144))
-      (λ k h. let g : k < 144 = omega (arith, f.long) in f.done k g ∙ sym (getD-upto (windowAt p b) 144 k 0 g))
+      ext_get_or 0 out (upto (window_at p b) 144) (f.long ∙ sym (length-upto (window_at p b) 144))
+      (λ k h. let g : k < 144 = omega (arith, f.long) in f.done k g ∙ sym (get_or-upto (window_at p b) 144 k 0 g))
 
   -- the end of a row of a block four wide, and the rows past the examined ones
   pub filled_row : b.width ≡ 4 → (i : ℕ) (out : List ℕ) → i < 12 → Filled p b (i * 12 + 8) out → Filled p b (i * 12 + 12) out
   filled_row e i out hi f = filled-skip (i * 12 + 8) (i * 12 + 12) out f (omega arith) (omega arith) (λ k l g.
       let q : i * 12 + (k - i * 12) ≡ k = omega arith in
-      ap (windowAt p b) (sym q) ∙ window-right p b i (k - i * 12) (omega arith) (omega arith))
+      ap (window_at p b) (sym q) ∙ window-right p b i (k - i * 12) (omega arith) (omega arith))
 
-  pub filled-end : (out : List ℕ) → b.height ≤ 8 → Filled p b ((b.height + 4) * 12) out → out ≡ upto (windowAt p b) 144
+  pub filled-end : (out : List ℕ) → b.height ≤ 8 → Filled p b ((b.height + 4) * 12) out → out ≡ upto (window_at p b) 144
   filled-end out hh f = filled-all out (filled-skip ((b.height + 4) * 12) 144 out f (omega arith) (omega arith) (λ k l g.
       let q : k / 12 * 12 + k % 12 ≡ k = omega arith in
-      ap (windowAt p b) (sym q) ∙ window-below p b (k / 12) (k % 12) (omega arith) (omega arith)))
+      ap (window_at p b) (sym q) ∙ window-below p b (k / 12) (k % 12) (omega arith) (omega arith)))
 
 -- four wide or more
 pub inside-wide : (w h : ℕ) (b : Block) → Inside w h b → 4 ≤ b.width
@@ -76,9 +76,9 @@ module _ (s : List ℕ) (w h : ℕ) (b : Block) (q : InPlane s w h b) (r : Insid
       omega (arith, d, q.full, mul_comm w h)
 
   -- and is the window's entry
-  pub inside_is : get_or s ((b.y + i - 2) * w + (b.x - 2) + j) 0 ≡ windowAt (planeOf s w h) b (i * 12 + j)
+  pub inside_is : get_or s ((b.y + i - 2) * w + (b.x - 2) + j) 0 ≡ window_at (plane_of s w h) b (i * 12 + j)
   inside_is =
-      let p = planeOf s w h in
+      let p = plane_of s w h in
       let k : (b.y + i - 2) * w + (b.x - 2) + j ≡ (b.y + i - 2) * w + (b.x + j - 2) = omega (arith, r.left) in
       rw k
       (sym

@@ -3,7 +3,7 @@ use Rattle.std.specs.Prelude.{◌≡◌, ◌⊎◌, List, ℕ, ◌+◌, ◌-◌,
 use Rattle.cdef_spec.specs.declared.Block.{Block}
 use Rattle.cdef_spec.specs.Document01.{Plane}
 use Rattle.filter_window.specs.declared.Span.{Span}
-use Rattle.filter_window.specs.Window.{windowAt}
+use Rattle.filter_window.specs.Window.{window_at}
 
 -- a plane of sides up to 4,096, a block of sides up to 8 that begins in it
 pub record InPlane (s : List ℕ) (w h : ℕ) (b : Block) : Type 0 where
@@ -31,5 +31,5 @@ pub record SpanOf (at n m : ℕ) (r : Span) : Type 0 where
 -- the first n entries are the window's, the rest marks
 pub record Filled (p : Plane) (b : Block) (n : ℕ) (out : List ℕ) : Type 0 where
   pub long : length out ≡ 144
-  pub done : (k : ℕ) → k < n → get_or out k 0 ≡ windowAt p b k
+  pub done : (k : ℕ) → k < n → get_or out k 0 ≡ window_at p b k
   pub rest : (k : ℕ) → n ≤ k → k < 144 → get_or out k 0 ≡ 16384

@@ -1,7 +1,7 @@
 // The 12 by 12 samples around a block: those examined, and 16384 elsewhere.
 ghost use Rattle.std.specs.Prelude.{◌≡◌, true, ◌+◌, ◌*◌, ◌≤◌, ◌<◌};
 ghost use Rattle.arith_sample.specs.Upto.{upto};
-ghost use Rattle.filter_window.specs.Window.{planeOf, windowAt};
+ghost use Rattle.filter_window.specs.Window.{plane_of, window_at};
 ghost use Rattle.filter_window.specs.Spans.{SpanOf, InPlane, Inside};
 
 use cdef_spec::Block;
@@ -28,7 +28,7 @@ fn looked_at(at: usize, n: usize, m: usize) -> Span
 fn entry(src: &[u16], w: usize, h: usize, b: Block, r: Span, c: Span, i: usize, j: usize) -> u16
     requires in_plane { InPlane src.now w h b }
     requires span_of { SpanOf b.y b.height h r × SpanOf b.x b.width w c × (i < 12) × (j < 12) }
-    ensures { result ≡ windowAt (planeOf src.now w h) b (i * 12 + j) }
+    ensures { result ≡ window_at (plane_of src.now w h) b (i * 12 + j) }
 {
     if i < r.lo {
         return arith_sample::MARK;
@@ -49,7 +49,7 @@ fn entry(src: &[u16], w: usize, h: usize, b: Block, r: Span, c: Span, i: usize, 
 // The window of any block.
 fn window_part(src: &[u16], w: usize, h: usize, b: Block) -> [u16; 144]
     requires { InPlane src.now w h b }
-    ensures { result ≡ upto (windowAt (planeOf src.now w h) b) 144 }
+    ensures { result ≡ upto (window_at (plane_of src.now w h) b) 144 }
 {
     let rows = looked_at(b.y, b.height, h);
     let cols = looked_at(b.x, b.width, w);
@@ -66,7 +66,7 @@ fn window_part(src: &[u16], w: usize, h: usize, b: Block) -> [u16; 144]
 // The window of a block inside the plane: the rows that are examined, eight samples of each, and four more of a block eight wide.
 fn window_inside(src: &[u16], w: usize, h: usize, b: Block) -> [u16; 144]
     requires { InPlane src.now w h b × Inside w h b }
-    ensures { result ≡ upto (windowAt (planeOf src.now w h) b) 144 }
+    ensures { result ≡ upto (window_at (plane_of src.now w h) b) 144 }
 {
     let mut out = [arith_sample::MARK; 144];
     for i in 0..b.height + 4 {
@@ -110,7 +110,7 @@ fn inside(w: usize, h: usize, b: Block) -> bool
 // The window of a block of a plane w by h.
 pub fn window(src: &[u16], w: usize, h: usize, b: Block) -> [u16; 144]
     requires { InPlane src.now w h b }
-    ensures { result ≡ upto (windowAt (planeOf src.now w h) b) 144 }
+    ensures { result ≡ upto (window_at (plane_of src.now w h) b) 144 }
 {
     if inside(w, h, b) {
         return window_inside(src, w, h, b);

@@ -1,7 +1,7 @@
 // The frame calls for luma and chroma at once: the checks, then the core. Each returns the error code of the first failed check, or 0 where the work is done.
 ghost use Rattle.std.specs.Prelude.{◌≡◌, true};
-ghost use Rattle.cdef_spec.specs.FrameCalls.{tryingNo, tryingOutcome, measuringNo, measuringOutcome, applyingListsNo, applyingListsOutcome};
-ghost use Rattle.frame_shape.specs.Frame.{pictureOf};
+ghost use Rattle.cdef_spec.specs.FrameCalls.{trying_no, trying_outcome, measuring_no, measuring_outcome, applying_lists_no, applying_lists_outcome};
+ghost use Rattle.frame_shape.specs.Frame.{picture_of};
 
 use cdef_spec::{DampingChoice, UnitPair, Visible};
 use frame_shape::Frame;
@@ -19,10 +19,10 @@ pub fn try_frame(
     damping: DampingChoice,
 ) -> u8
     requires { f.luma ≡ true → (f.sx ≡ 0) × (f.sy ≡ 0) }
-    ensures value { result ≡ tryingNo (pictureOf f skip.now dirs.now vars.now) damping v snapshot.now
+    ensures value { result ≡ trying_no (picture_of f skip.now dirs.now vars.now) damping v snapshot.now
         original.now totals.old }
     ensures totals_after { totals.new ≡
-        (tryingOutcome (pictureOf f skip.now dirs.now vars.now) damping v snapshot.now
+        (trying_outcome (picture_of f skip.now dirs.now vars.now) damping v snapshot.now
         original.now totals.old).totals }
 {
     let no = check_frame::trying_no(f, damping, v, snapshot, original, skip, dirs, vars, totals);
@@ -49,13 +49,13 @@ pub fn measure_frame(
     damping: DampingChoice,
 ) -> u8
     requires { f.luma ≡ true → (f.sx ≡ 0) × (f.sy ≡ 0) }
-    ensures value { result ≡ measuringNo (pictureOf f skip.now dirs.now vars.now) damping v plane.now
+    ensures value { result ≡ measuring_no (picture_of f skip.now dirs.now vars.now) damping v plane.now
         original.now p totals.old scratch.old }
     ensures totals_after { totals.new ≡
-        (measuringOutcome (pictureOf f skip.now dirs.now vars.now) damping v plane.now
+        (measuring_outcome (picture_of f skip.now dirs.now vars.now) damping v plane.now
         original.now p totals.old scratch.old).totals }
     ensures scratch_after { scratch.new ≡
-        (measuringOutcome (pictureOf f skip.now dirs.now vars.now) damping v plane.now
+        (measuring_outcome (picture_of f skip.now dirs.now vars.now) damping v plane.now
         original.now p totals.old scratch.old).scratch }
 {
     let no = check_frame::measuring_no(
@@ -84,9 +84,9 @@ pub fn apply_frame(
     damping: DampingChoice,
 ) -> u8
     requires { f.luma ≡ true → (f.sx ≡ 0) × (f.sy ≡ 0) }
-    ensures value { result ≡ applyingListsNo (pictureOf f skip.now dirs.now vars.now) damping snapshot.now
+    ensures value { result ≡ applying_lists_no (picture_of f skip.now dirs.now vars.now) damping snapshot.now
         pris.now secs.now dst.old }
-    ensures dst_after { dst.new ≡ (applyingListsOutcome (pictureOf f skip.now dirs.now vars.now) damping
+    ensures dst_after { dst.new ≡ (applying_lists_outcome (picture_of f skip.now dirs.now vars.now) damping
         snapshot.now pris.now secs.now dst.old).plane }
 {
     let no = check_frame::applying_no(f, damping, snapshot, dst, skip, dirs, vars, pris, secs);

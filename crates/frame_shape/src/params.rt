@@ -1,7 +1,7 @@
 // A block's filter parameters. b is the block's index.
 ghost use Rattle.std.specs.Prelude.{◌≡◌, true, cond, List, ℕ, ◌≤◌, ◌<◌, eqb, get_or, length};
-ghost use Rattle.cdef_spec.specs.Picture.{paramsFor, isOff};
-ghost use Rattle.frame_shape.specs.Frame.{Shaped, kind_of, way_of, dirOf, dampingOf, primaryOf};
+ghost use Rattle.cdef_spec.specs.Picture.{params_for, is_off};
+ghost use Rattle.frame_shape.specs.Frame.{Shaped, kind_of, way_of, dir_of, damping_of, primary_of};
 
 use crate::Frame;
 use cdef_spec::{FilterParams, SignalledDamping, TrialWay, UnitPair, WorkingDamping};
@@ -9,7 +9,7 @@ use cdef_spec::{FilterParams, SignalledDamping, TrialWay, UnitPair, WorkingDampi
 // The working damping, by the luma or the chroma rule.
 pub fn damping_of(f: Frame, d: SignalledDamping) -> WorkingDamping
     requires { Shaped f × (3 ≤ d.0) × (d.0 ≤ 6) }
-    ensures { (vs : List ℕ) → result ≡ dampingOf (kind_of f vs) d f.depth }
+    ensures { (vs : List ℕ) → result ≡ damping_of (kind_of f vs) d f.depth }
 {
     if f.luma {
         return arith_damping::luma_damping(d, f.depth);
@@ -20,7 +20,7 @@ pub fn damping_of(f: Frame, d: SignalledDamping) -> WorkingDamping
 // The block's direction in the plane.
 pub fn dir_of(f: Frame, dirs: &[u8], b: usize) -> u8
     requires { Shaped f × (b < length dirs.now) × (get_or dirs.now b 0 < 8) }
-    ensures { (vs : List ℕ) → result ≡ dirOf (kind_of f vs) dirs.now b }
+    ensures { (vs : List ℕ) → result ≡ dir_of (kind_of f vs) dirs.now b }
 {
     if f.luma {
         return dirs[b];
@@ -42,7 +42,7 @@ pub fn way_of(f: Frame, vars: &[u32], b: usize) -> TrialWay
 // A signalled primary strength as the block's working one: in luma adjusted by the variance.
 fn primary_of(f: Frame, vars: &[u32], b: usize, s: u8) -> u32
     requires { Shaped f × (f.luma ≡ true → b < length vars.now) × (s ≤ 15) }
-    ensures { result ≡ primaryOf (kind_of f vars.now) f.depth b s }
+    ensures { result ≡ primary_of (kind_of f vars.now) f.depth b s }
 {
     let p = (s as u32) << ((f.depth - 8) as u32);
     if f.luma {
@@ -54,7 +54,7 @@ fn primary_of(f: Frame, vars: &[u32], b: usize, s: u8) -> u32
 // The direction that a block is filtered in: 0 where the signalled primary is 0.
 fn dir_for(f: Frame, dirs: &[u8], b: usize, s: u8) -> u8
     requires { Shaped f × (b < length dirs.now) × (get_or dirs.now b 0 < 8) }
-    ensures { (vs : List ℕ) → result ≡ cond (eqb s 0) 0 (dirOf (kind_of f vs) dirs.now b) }
+    ensures { (vs : List ℕ) → result ≡ cond (eqb s 0) 0 (dir_of (kind_of f vs) dirs.now b) }
 {
     if s == 0 {
         return 0;
@@ -73,7 +73,7 @@ pub fn params_for(
 ) -> FilterParams
     requires shaped { Shaped f × (b < length dirs.now) × (get_or dirs.now b 0 < 8) × (f.luma ≡ true → b < length vars.now) }
     requires primary_bound { (p.primary ≤ 15) × (p.secondary ≤ 4) × (3 ≤ d.0) × (d.0 ≤ 6) }
-    ensures { result ≡ paramsFor (kind_of f vars.now) f.depth dirs.now d p b }
+    ensures { result ≡ params_for (kind_of f vars.now) f.depth dirs.now d p b }
 {
     FilterParams {
         pri: primary_of(f, vars, b, p.primary),
@@ -86,7 +86,7 @@ pub fn params_for(
 
 // Whether it is the pair 0, 0.
 pub fn is_off(p: UnitPair) -> bool
-    ensures { result ≡ isOff p }
+    ensures { result ≡ is_off p }
 {
     if p.primary != 0 {
         return false;

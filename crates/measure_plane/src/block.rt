@@ -1,17 +1,17 @@
 // One block: filtered into the scratch where its pair filters, and its distance.
 ghost use Rattle.std.specs.Prelude.{◌≡◌, true, not, List, ℕ, ◌+◌, ◌*◌, ◌/◌, ◌^◌, ◌≤◌, ◌<◌, length};
-ghost use Rattle.cdef_spec.specs.Picture.{isOff, blockHeight, at_place, blockDistance};
+ghost use Rattle.cdef_spec.specs.Picture.{is_off, block_height, at_place, block_distance};
 ghost use Rattle.distance_weight.specs.Weighing.{OfDepth};
-ghost use Rattle.frame_shape.specs.Frame.{Shaped, pictureOf};
+ghost use Rattle.frame_shape.specs.Frame.{Shaped, picture_of};
 ghost use Rattle.frame_shape.specs.Lent.{Listed, Sampled, Seen, InForce};
-ghost use Rattle.measure_plane.specs.Measure.{Lent, Begun, LowBlock, Filled, scratchOf, rowSample, measuredDistance};
+ghost use Rattle.measure_plane.specs.Measure.{Lent, Begun, LowBlock, Filled, scratch_of, row_sample, measured_distance};
 
 use cdef_spec::{DistanceConstants, SignalledDamping, UnitPair, Visible};
 use frame_shape::Frame;
 
 // Whether a pair filters. All but 0, 0 do.
 fn filters(p: UnitPair) -> bool
-    ensures { result ≡ not (isOff p) }
+    ensures { result ≡ not (is_off p) }
 {
     !frame_shape::params::is_off(p)
 }
@@ -31,8 +31,8 @@ fn filter_block(
 )
     requires shaped { Shaped f × Sampled f plane.now × InForce d × (p.primary ≤ 15) × (p.secondary ≤ 4)
         × ((skip : List ℕ) × Listed f skip dirs.now vars.now) }
-    requires w_value { (w ≡ f.width / (1 + f.sx)) × (by < f.height / 8) × (bx < f.width / 8) × (length scratch.old ≡ scratchOf f) }
-    ensures { (s : List ℕ) → Filled (pictureOf f s dirs.now vars.now) d plane.now p by bx
+    requires w_value { (w ≡ f.width / (1 + f.sx)) × (by < f.height / 8) × (bx < f.width / 8) × (length scratch.old ≡ scratch_of f) }
+    ensures { (s : List ℕ) → Filled (picture_of f s dirs.now vars.now) d plane.now p by bx
         scratch.new }
 {
     let b = frame_shape::geometry::block_of(f, by, bx);
@@ -70,9 +70,9 @@ fn rows_distance<'a>(
     c: DistanceConstants,
 ) -> u64
     requires shaped { Shaped f × Sampled f plane.now × Sampled f original.now × Seen f v × Begun f v by bx × OfDepth c f.depth }
-    requires w_value { (w ≡ f.width / (1 + f.sx)) × (length scratch.now ≡ scratchOf f) × (on ≡ true → LowBlock f bx scratch.now) }
-    ensures { ((s ds vs : List ℕ) → result ≡ blockDistance (pictureOf f s ds vs) v by bx (at_place (pictureOf f s ds vs) original.now)
-        (rowSample (pictureOf f s ds vs) on scratch.now plane.now (by * blockHeight (pictureOf f s ds vs)))) × (result < 2 ^ 53) }
+    requires w_value { (w ≡ f.width / (1 + f.sx)) × (length scratch.now ≡ scratch_of f) × (on ≡ true → LowBlock f bx scratch.now) }
+    ensures { ((s ds vs : List ℕ) → result ≡ block_distance (picture_of f s ds vs) v by bx (at_place (picture_of f s ds vs) original.now)
+        (row_sample (picture_of f s ds vs) on scratch.now plane.now (by * block_height (picture_of f s ds vs)))) × (result < 2 ^ 53) }
 {
     let b = frame_shape::geometry::block_of(f, by, bx);
     let rows = arith_numbers::lesser(b.height, frame_shape::geometry::visible_rows(f, v) - b.y);
@@ -109,8 +109,8 @@ pub fn measure_block(
     c: DistanceConstants,
 ) -> u64
     requires by_index { (skip : List ℕ) × Lent f v plane.now original.now skip dirs.now vars.now p d }
-    requires begun { Begun f v by bx × OfDepth c f.depth × (length scratch.old ≡ scratchOf f) }
-    ensures { ((s : List ℕ) → result ≡ measuredDistance (pictureOf f s dirs.now vars.now) d v plane.now
+    requires begun { Begun f v by bx × OfDepth c f.depth × (length scratch.old ≡ scratch_of f) }
+    ensures { ((s : List ℕ) → result ≡ measured_distance (picture_of f s dirs.now vars.now) d v plane.now
         original.now p by bx) × (result < 2 ^ 53) }
 {
     let on = filters(p);

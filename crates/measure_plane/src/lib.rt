@@ -4,10 +4,10 @@ pub mod totals; // totals.rt: a row of blocks
 
 ghost use Rattle.std.specs.Prelude.{◌≡◌, ◌≤◌, pos, length, replicate};
 ghost use Rattle.cdef_spec.specs.Words.{table};
-ghost use Rattle.cdef_spec.specs.Picture.{units as unitsIn, measuredTotal};
-ghost use Rattle.cdef_spec.specs.FrameCalls.{scratchLength};
-ghost use Rattle.frame_shape.specs.Frame.{Shaped, pictureOf};
-ghost use Rattle.frame_shape.specs.Lent.{Listed, Sampled, Seen, InForce, unitsOf};
+ghost use Rattle.cdef_spec.specs.Picture.{units as units_in, measured_total};
+ghost use Rattle.cdef_spec.specs.FrameCalls.{scratch_length};
+ghost use Rattle.frame_shape.specs.Frame.{Shaped, picture_of};
+ghost use Rattle.frame_shape.specs.Lent.{Listed, Sampled, Seen, InForce, units_of};
 
 use cdef_spec::{SignalledDamping, UnitPair, Visible};
 use frame_shape::Frame;
@@ -28,11 +28,11 @@ pub fn measure_plane(
 )
     requires shaped { Shaped f × Listed f skip.now dirs.now vars.now × Sampled f plane.now × Sampled f original.now × Seen f v × InForce d
         × (p.primary ≤ 15) × (p.secondary ≤ 4) }
-    requires totals_len { (length totals.old ≡ unitsOf f) × (length scratch.old ≡ scratchLength (pictureOf f skip.now dirs.now vars.now)) }
-    ensures totals_after { totals.new ≡ table (unitsIn (pictureOf f skip.now dirs.now vars.now))
-        (λ u. pos (measuredTotal (pictureOf f skip.now dirs.now vars.now) d v plane.now
+    requires totals_len { (length totals.old ≡ units_of f) × (length scratch.old ≡ scratch_length (picture_of f skip.now dirs.now vars.now)) }
+    ensures totals_after { totals.new ≡ table (units_in (picture_of f skip.now dirs.now vars.now))
+        (λ u. pos (measured_total (picture_of f skip.now dirs.now vars.now) d v plane.now
         original.now p u)) }
-    ensures scratch_after { scratch.new ≡ replicate (scratchLength (pictureOf f skip.now dirs.now vars.now)) 0 }
+    ensures scratch_after { scratch.new ≡ replicate (scratch_length (picture_of f skip.now dirs.now vars.now)) 0 }
 {
     arith_totals::clear_totals(totals);
     let c = distance_weight::constants_of(f.depth);

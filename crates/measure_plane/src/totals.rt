@@ -1,10 +1,10 @@
 // A row of blocks, added to the units' totals.
 ghost use Rattle.std.specs.Prelude.{◌≡◌, List, ℕ, ◌/◌, ◌<◌, length};
-ghost use Rattle.cdef_spec.specs.LoopForm.{signed, measureRow};
+ghost use Rattle.cdef_spec.specs.LoopForm.{signed, measure_row};
 ghost use Rattle.distance_weight.specs.Weighing.{OfDepth};
-ghost use Rattle.frame_shape.specs.Frame.{pictureOf};
-ghost use Rattle.frame_shape.specs.Lent.{unitsOf};
-ghost use Rattle.measure_plane.specs.Measure.{Lent, SmallRow, scratchOf, measuredDistance, measureOne};
+ghost use Rattle.frame_shape.specs.Frame.{picture_of};
+ghost use Rattle.frame_shape.specs.Lent.{units_of};
+ghost use Rattle.measure_plane.specs.Measure.{Lent, SmallRow, scratch_of, measured_distance, measure_one};
 ghost use Rattle.arith_totals.specs.Small.{Small};
 
 use cdef_spec::{DistanceConstants, SignalledDamping, UnitPair, Visible};
@@ -29,10 +29,10 @@ fn measure_one(
 )
     requires lent { Lent f v plane.now original.now skip.now dirs.now vars.now p d × OfDepth c f.depth × (by < f.height / 8)
         × (bx < f.width / 8) }
-    requires scratch_len { (length scratch.old ≡ scratchOf f) × (length totals.old ≡ unitsOf f) × ((t : List ℕ) × (totals.old ≡ signed t) × Small t) }
+    requires scratch_len { (length scratch.old ≡ scratch_of f) × (length totals.old ≡ units_of f) × ((t : List ℕ) × (totals.old ≡ signed t) × Small t) }
     ensures { (t : List ℕ) → totals.old ≡ signed t → totals.new
-        ≡ signed (measureOne (pictureOf f skip.now dirs.now vars.now) v
-        (measuredDistance (pictureOf f skip.now dirs.now vars.now) d v plane.now original.now
+        ≡ signed (measure_one (picture_of f skip.now dirs.now vars.now) v
+        (measured_distance (picture_of f skip.now dirs.now vars.now) d v plane.now original.now
         p) by bx t) }
 {
     if !frame_shape::geometry::counted(f, v, skip, by, bx) {
@@ -61,13 +61,13 @@ pub fn measure_row(
     c: DistanceConstants,
 )
     requires lent { Lent f v plane.now original.now skip.now dirs.now vars.now p d × OfDepth c f.depth × (by < f.height / 8) }
-    requires scratch_len { (length scratch.old ≡ scratchOf f) × (length totals.old ≡ unitsOf f) }
+    requires scratch_len { (length scratch.old ≡ scratch_of f) × (length totals.old ≡ units_of f) }
     requires by_index { (t : List ℕ) × (totals.old ≡ signed t)
-        × SmallRow (pictureOf f skip.now dirs.now vars.now) v
-        (measuredDistance (pictureOf f skip.now dirs.now vars.now) d v plane.now original.now p) by t }
+        × SmallRow (picture_of f skip.now dirs.now vars.now) v
+        (measured_distance (picture_of f skip.now dirs.now vars.now) d v plane.now original.now p) by t }
     ensures { (t : List ℕ) → totals.old ≡ signed t → totals.new
-        ≡ signed (measureRow (pictureOf f skip.now dirs.now vars.now) v
-        (measuredDistance (pictureOf f skip.now dirs.now vars.now) d v plane.now original.now
+        ≡ signed (measure_row (picture_of f skip.now dirs.now vars.now) v
+        (measured_distance (picture_of f skip.now dirs.now vars.now) d v plane.now original.now
         p) by t (f.width / 8)) }
 {
     for bx in 0..f.width / 8 {

@@ -1,13 +1,13 @@
 -- The direction and the variance of block b of a plane with cols blocks per row of blocks, and how far the lists are filled. Definitions only.
 use Rattle.std.specs.Prelude.{◌≡◌, List, ℕ, ◌*◌, ◌/◌, ◌%◌, ◌^◌, ◌≤◌, ◌<◌, get_or, length, take}
-use Rattle.cdef_spec.specs.Document01.{Plane, blockDirection, blockVariance}
+use Rattle.cdef_spec.specs.Document01.{Plane, block_direction, block_variance}
 use Rattle.arith_sample.specs.Upto.{upto}
 
-abbrev pub directionAt : Plane → ℕ → ℕ → ℕ → ℕ
-directionAt p depth cols b = blockDirection p depth (b / cols * 8) (b % cols * 8)
+abbrev pub direction_at : Plane → ℕ → ℕ → ℕ → ℕ
+direction_at p depth cols b = block_direction p depth (b / cols * 8) (b % cols * 8)
 
-abbrev pub varianceAt : Plane → ℕ → ℕ → ℕ → ℕ
-varianceAt p depth cols b = blockVariance p depth (b / cols * 8) (b % cols * 8)
+abbrev pub variance_at : Plane → ℕ → ℕ → ℕ → ℕ
+variance_at p depth cols b = block_variance p depth (b / cols * 8) (b % cols * 8)
 
 -- sides up to 4096, depth 8 to 12, every sample below 2 ^ depth, one entry per block in each list
 pub record PassIn (s : List ℕ) (w h depth : ℕ) (dirs vars : List ℕ) : Type 0 where
@@ -22,5 +22,5 @@ pub record PassIn (s : List ℕ) (w h depth : ℕ) (dirs vars : List ℕ) : Type
 
 -- the first n entries of the lists are those of the first n blocks
 pub record Filled (s : List ℕ) (w h depth n : ℕ) (dirs vars : List ℕ) : Type 0 where
-  pub dirs-are : take n dirs ≡ upto (directionAt (record { samples = s; width = w; height = h }) depth (w / 8)) n
-  pub vars-are : take n vars ≡ upto (varianceAt (record { samples = s; width = w; height = h }) depth (w / 8)) n
+  pub dirs-are : take n dirs ≡ upto (direction_at (record { samples = s; width = w; height = h }) depth (w / 8)) n
+  pub vars-are : take n vars ≡ upto (variance_at (record { samples = s; width = w; height = h }) depth (w / 8)) n

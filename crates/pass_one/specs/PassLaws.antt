@@ -3,15 +3,15 @@ use Rattle.std.specs.Prelude.{◌≡◌, true, List, ℕ, ◌+◌, ◌*◌, ◌/
 use Rattle.std.proofs.Common.{sym, ◌∙◌, arith, lt-ltb, ext_get_or}
 use Rattle.std.proofs.Math.Arith.{digits_div, digits_mod}
 use Rattle.cdef_spec.specs.Words.{table}
-use Rattle.cdef_spec.specs.WordsLaws.{length-table, getD-table, every-make}
-use Rattle.cdef_spec.specs.Document01.{Plane, blockDirection, blockVariance}
-use Rattle.cdef_spec.specs.Questions.{sampleTaken, lookedAt, cutTaken}
-use Rattle.arith_sample.specs.Upto.{upto, length-upto, getD-upto, upto-none, upto-more, upto-at, upto_all}
+use Rattle.cdef_spec.specs.WordsLaws.{length-table, get_or-table, every-make}
+use Rattle.cdef_spec.specs.Document01.{Plane, block_direction, block_variance}
+use Rattle.cdef_spec.specs.Questions.{sample_taken, looked_at, cut_taken}
+use Rattle.arith_sample.specs.Upto.{upto, length-upto, get_or-upto, upto-none, upto-more, upto-at, upto_all}
 use Rattle.pass_one.specs.Pass.{PassIn, Filled}
 
 -- where every sample fits the depth, so do those of each block
-pub low-cut : (p : Plane) (depth y x : ℕ) → ((k : ℕ) → get_or p.samples k 0 < 2 ^ depth) → cutTaken p depth y x ≡ true
-unfolding cutTaken lookedAt sampleTaken
+pub low-cut : (p : Plane) (depth y x : ℕ) → ((k : ℕ) → get_or p.samples k 0 < 2 ^ depth) → cut_taken p depth y x ≡ true
+unfolding cut_taken looked_at sample_taken
 low-cut p depth y x h = every-make _ _ (λ i a. every-make _ _ (λ j b. lt-ltb _ (2 ^ depth) (h _)))
 
 -- the block in row by and column bx of the blocks has the index by * cols + bx
@@ -22,7 +22,7 @@ at_block f cols by bx h = rw (digits_div by {m = cols} {r = bx} h, digits_mod by
 pub filled : (f : ℕ → ℕ) (l : List ℕ) (n j : ℕ) → take j l ≡ upto f j → length l ≡ n → j ≡ n → l ≡ table n f
 filled f l n j e h g =
     upto_all f l n j e h g
-    ∙ ext_get_or 0 (upto f n) (table n f) (length-upto f n ∙ sym (length-table n f)) (λ k b. let c : k < n = omega (arith, length-upto f n) in getD-upto f n k 0 c ∙ sym (getD-table n f 0 k c))
+    ∙ ext_get_or 0 (upto f n) (table n f) (length-upto f n ∙ sym (length-table n f)) (λ k b. let c : k < n = omega (arith, length-upto f n) in get_or-upto f n k 0 c ∙ sym (get_or-table n f 0 k c))
 
 -- ---- the lists, filled further
 
@@ -54,9 +54,9 @@ module _ (s : List ℕ) (w h depth : ℕ) where
   module _ (by bx : ℕ) (dirs vars : List ℕ) (t : Filled s w h depth (by * (w / 8) + bx) dirs vars) where
     -- by one block
     pub filled-one : (d v : ℕ) → bx < w / 8 → by * (w / 8) + bx < length dirs → by * (w / 8) + bx < length vars
-        → d ≡ blockDirection (sized s w h) depth (by * 8) (bx * 8) → v ≡ blockVariance (sized s w h) depth (by * 8) (bx * 8)
+        → d ≡ block_direction (sized s w h) depth (by * 8) (bx * 8) → v ≡ block_variance (sized s w h) depth (by * 8) (bx * 8)
         → Filled s w h depth (by * (w / 8) + (bx + 1)) (set dirs (by * (w / 8) + bx) d) (set vars (by * (w / 8) + bx) v)
     filled-one d v hb hd hv ed ev = record {
-      dirs-are = upto-at _ _ _ _ (omega arith) (upto-more _ _ _ _ t.dirs-are hd (ed ∙ at_block (blockDirection (sized s w h) depth) (w / 8) by bx hb));
-      vars-are = upto-at _ _ _ _ (omega arith) (upto-more _ _ _ _ t.vars-are hv (ev ∙ at_block (blockVariance (sized s w h) depth) (w / 8) by bx hb));
+      dirs-are = upto-at _ _ _ _ (omega arith) (upto-more _ _ _ _ t.dirs-are hd (ed ∙ at_block (block_direction (sized s w h) depth) (w / 8) by bx hb));
+      vars-are = upto-at _ _ _ _ (omega arith) (upto-more _ _ _ _ t.vars-are hv (ev ∙ at_block (block_variance (sized s w h) depth) (w / 8) by bx hb));
     }

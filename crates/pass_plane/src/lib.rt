@@ -1,7 +1,7 @@
 // The direction pass: the direction and the variance of each 8 by 8 block of a luma plane.
 ghost use Rattle.std.specs.Prelude.{◌≡◌, ℕ, ◌+◌, ◌*◌, ◌/◌, ◌%◌, ◌^◌, ◌≤◌, ◌<◌, get_or, length};
 ghost use Rattle.cdef_spec.specs.Words.{table};
-ghost use Rattle.cdef_spec.specs.Document01.{blockDirection, blockVariance};
+ghost use Rattle.cdef_spec.specs.Document01.{block_direction, block_variance};
 ghost use Rattle.pass_one.specs.Pass.{PassIn, Filled};
 
 // A row of blocks: eight at a time, and the rest one by one.
@@ -45,10 +45,10 @@ pub fn direction_pass(
     requires le_width { (1 ≤ width) × (width ≤ 4096) × (width % 8 ≡ 0) × (1 ≤ height) × (height ≤ 4096) × (height % 8 ≡ 0) × (8 ≤ depth) × (depth ≤ 12) }
     requires by_index { (k : ℕ) → get_or plane.now k 0 < 2 ^ depth }
     ensures dirs_after { dirs.new ≡ table (height / 8 * (width / 8))
-        (λ b. blockDirection (record { samples = plane.now; width = width; height = height }) depth (b / (width / 8) * 8)
+        (λ b. block_direction (record { samples = plane.now; width = width; height = height }) depth (b / (width / 8) * 8)
         (b % (width / 8) * 8)) }
     ensures vars_after { vars.new ≡ table (height / 8 * (width / 8))
-        (λ b. blockVariance (record { samples = plane.now; width = width; height = height }) depth (b / (width / 8) * 8)
+        (λ b. block_variance (record { samples = plane.now; width = width; height = height }) depth (b / (width / 8) * 8)
         (b % (width / 8) * 8)) }
 {
     let mut a = [0i16; 512];

@@ -10,33 +10,33 @@ use Rattle.cdef_spec.specs.declared.FilterParams.{FilterParams}
 use Rattle.cdef_spec.specs.WordsLaws.{and_both}
 use Rattle.cdef_spec.specs.Standard.{Tap}
 use Rattle.cdef_spec.specs.Document01.{unmarked, filtered}
-use Rattle.cdef_spec.specs.CodeForm.{row_of, colOf, sampleAt}
+use Rattle.cdef_spec.specs.CodeForm.{row_of, col_of, sample_at}
 use Rattle.cdef_spec.specs.PlaceLaws.{steps_low}
-use Rattle.cdef_spec.specs.LoopForm.{putBlock}
+use Rattle.cdef_spec.specs.LoopForm.{put_block}
 use Rattle.cdef_spec.specs.PlaneLaws.{block_same}
-use Rattle.arith_sample.specs.Sample.{orCentre}
+use Rattle.arith_sample.specs.Sample.{or_centre}
 use Rattle.arith_sample.specs.Bounds.{Held}
 use Rattle.arith_sample.specs.Upto.{upto}
-use Rattle.filter_rows.specs.Place.{tapOn, tapBack}
-use Rattle.filter_rows.specs.Sums.{pair_at, lowPair, highPair, priAt, sideAt, secAt, lowAt, highAt, filteredAt}
+use Rattle.filter_rows.specs.Place.{tap_on, tap_back}
+use Rattle.filter_rows.specs.Sums.{pair_at, low_pair, high_pair, pri_at, side_at, sec_at, low_at, high_at, filtered_at}
 use Rattle.filter_rows.specs.declared.Strength.{Strength}
-use Rattle.filter_window.specs.Window.{planeOf, windowAt}
+use Rattle.filter_window.specs.Window.{plane_of, window_at}
 use Rattle.filter_window.specs.WindowLaws.{sample_in}
-use Rattle.filter_kernel.specs.Kernel.{off_at, tapsOf, shift_of, priOf, secOf, kernelAt}
+use Rattle.filter_kernel.specs.Kernel.{off_at, taps_of, shift_of, pri_of, sec_of, kernel_at}
 use Rattle.filter_kernel.specs.PlaceLaws.{centre-is, on-tap, back-tap}
 use Rattle.filter_kernel.specs.KernelLaws.{kernel-tap}
-use Rattle.plane_taps.specs.Steps.{stepBy, stepIn, tapsBy, tapsIn}
+use Rattle.plane_taps.specs.Steps.{step_by, step_in, taps_by, taps_in}
 use Rattle.plane_taps.specs.StepLaws.{on-lands, back-lands, taps-reach}
 use Rattle.plane_taps.specs.Reach.{Around}
 use Rattle.plane_taps.specs.ReachLaws.{around-of}
-use Rattle.plane_rows.specs.Rows.{Strong, priIn, secIn, insideTap}
+use Rattle.plane_rows.specs.Rows.{Strong, pri_in, sec_in, inside_tap}
 use Rattle.plane_block.specs.Inside.{Inner}
-use Rattle.plane_inside.specs.Inner.{innerBlock}
+use Rattle.plane_inside.specs.Inner.{inner_block}
 
 -- row i and column j of the block b of a plane w by h
 module _ (l : List ℕ) (w h : ℕ) (b : Block) (i j : ℕ) (hw : w ≤ 4096) (hh : h ≤ 4096) (bw : b.width ≤ 8) (bh : b.height ≤ 8) (hi : i < b.height) (hj : j < b.width) (x2 : 2 ≤ b.x) (y2 : 2 ≤ b.y) (xw : b.x + b.width + 2 ≤ w) (yh : b.y + b.height + 2 ≤ h) where
   abbrev win : List ℕ
-  win = upto (windowAt (planeOf l w h) b) 144
+  win = upto (window_at (plane_of l w h) b) 144
 
   -- its index in the plane, and in the window
   abbrev k : ℕ
@@ -46,11 +46,11 @@ module _ (l : List ℕ) (w h : ℕ) (b : Block) (i j : ℕ) (hw : w ≤ 4096) (h
   at = (i + 2) * 12 + 2 + j
 
   -- a sample of the plane, counted from two above and two left
-  there : (r c : ℕ) → r ≤ 4 → c ≤ 4 → sampleAt (planeOf l w h) (b.y + i + r) (b.x + j + c) ≡ get_or l ((b.y + i + r - 2) * w + (b.x + j + c - 2)) 0
-  there r c hr hc = sample_in (planeOf l w h) (b.y + i + r) (b.x + j + c) (omega arith) (omega arith) (omega arith) (omega arith)
+  there : (r c : ℕ) → r ≤ 4 → c ≤ 4 → sample_at (plane_of l w h) (b.y + i + r) (b.x + j + c) ≡ get_or l ((b.y + i + r - 2) * w + (b.x + j + c - 2)) 0
+  there r c hr hc = sample_in (plane_of l w h) (b.y + i + r) (b.x + j + c) (omega arith) (omega arith) (omega arith) (omega arith)
 
   centre-same : get_or l k 0 ≡ get_or win at 0
-  centre-same = sym (centre-is (planeOf l w h) b i j bh bw hi hj ∙ there 2 2 (omega arith) (omega arith) ∙ ap (λ (n : ℕ). get_or l n 0) place)
+  centre-same = sym (centre-is (plane_of l w h) b i j bh bw hi hj ∙ there 2 2 (omega arith) (omega arith) ∙ ap (λ (n : ℕ). get_or l n 0) place)
     where
       place : (b.y + i + 2 - 2) * w + (b.x + j + 2 - 2) ≡ (b.y + i) * w + (b.x + j)
       place =
@@ -60,26 +60,26 @@ module _ (l : List ℕ) (w h : ℕ) (b : Block) (i j : ℕ) (hw : w ≤ 4096) (h
 
   -- its taps
   module _ (dir n : ℕ) (hd : dir < 8) (hn : n < 2) where
-    on_same : (c : ℕ) → tapOn l k (stepIn w dir n) c ≡ tapOn win at (off_at dir n) c
+    on_same : (c : ℕ) → tap_on l k (step_in w dir n) c ≡ tap_on win at (off_at dir n) c
     on_same c =
         let s = steps_low dir n hd hn in
-        unfold tapOn stepBy in ap (λ (v : ℕ). orCentre v c) (ap (λ (m : ℕ). get_or l m 0) (on-lands w (b.y + i) (b.x + j) (row_of dir n) (colOf dir n) hw (omega arith) (omega arith) (omega arith) (omega arith) s.0 s.1) ∙ sym (there (row_of dir n) (colOf dir n) s.0 s.1)) ∙ sym (on-tap (planeOf l w h) b i j bh bw hi hj dir n c hd hn)
+        unfold tap_on step_by in ap (λ (v : ℕ). or_centre v c) (ap (λ (m : ℕ). get_or l m 0) (on-lands w (b.y + i) (b.x + j) (row_of dir n) (col_of dir n) hw (omega arith) (omega arith) (omega arith) (omega arith) s.0 s.1) ∙ sym (there (row_of dir n) (col_of dir n) s.0 s.1)) ∙ sym (on-tap (plane_of l w h) b i j bh bw hi hj dir n c hd hn)
 
-    back-same : (c : ℕ) → tapBack l k (stepIn w dir n) c ≡ tapBack win at (off_at dir n) c
+    back-same : (c : ℕ) → tap_back l k (step_in w dir n) c ≡ tap_back win at (off_at dir n) c
     back-same c =
         let s = steps_low dir n hd hn in
-        unfold tapBack stepBy in ap (λ (v : ℕ). orCentre v c) (ap (λ (m : ℕ). get_or l m 0) (back-lands w (b.y + i) (b.x + j) (row_of dir n) (colOf dir n) hw (omega arith) (omega arith) (omega arith) (omega arith) s.0 s.1) ∙ sym (there (4 - row_of dir n) (4 - colOf dir n) (omega arith) (omega arith))) ∙ sym (back-tap (planeOf l w h) b i j bh bw hi hj dir n c hd hn)
+        unfold tap_back step_by in ap (λ (v : ℕ). or_centre v c) (ap (λ (m : ℕ). get_or l m 0) (back-lands w (b.y + i) (b.x + j) (row_of dir n) (col_of dir n) hw (omega arith) (omega arith) (omega arith) (omega arith) s.0 s.1) ∙ sym (there (4 - row_of dir n) (4 - col_of dir n) (omega arith) (omega arith))) ∙ sym (back-tap (plane_of l w h) b i j bh bw hi hj dir n c hd hn)
 
-    pair_same : (c s sh : ℕ) → pair_at l k (stepIn w dir n) c s sh ≡ pair_at win at (off_at dir n) c s sh
+    pair_same : (c s sh : ℕ) → pair_at l k (step_in w dir n) c s sh ≡ pair_at win at (off_at dir n) c s sh
     unfolding pair_at
     pair_same c s sh = rw (on_same c, back-same c)
 
-    low_same : (c : ℕ) → lowPair l k (stepIn w dir n) c ≡ lowPair win at (off_at dir n) c
-    unfolding lowPair
+    low_same : (c : ℕ) → low_pair l k (step_in w dir n) c ≡ low_pair win at (off_at dir n) c
+    unfolding low_pair
     low_same c = rw (on_same c, back-same c)
 
-    high_same : (c : ℕ) → highPair l k (stepIn w dir n) c ≡ highPair win at (off_at dir n) c
-    unfolding highPair
+    high_same : (c : ℕ) → high_pair l k (step_in w dir n) c ≡ high_pair win at (off_at dir n) c
+    unfolding high_pair
     high_same c = rw (on_same c, back-same c)
 
   module _ (dir : ℕ) (hd : dir < 8) where
@@ -89,31 +89,31 @@ module _ (l : List ℕ) (w h : ℕ) (b : Block) (i j : ℕ) (hw : w ≤ 4096) (h
     r8 : (dir + 6) % 8 < 8
     r8 = omega arith
 
-    pri-same : (f : Strength) → priAt l k (tapsIn w dir) f ≡ priAt win at (tapsOf dir) f
-    unfolding priAt tapsBy tapsOf
+    pri-same : (f : Strength) → pri_at l k (taps_in w dir) f ≡ pri_at win at (taps_of dir) f
+    unfolding pri_at taps_by taps_of
     pri-same f = rw (centre-same, pair_same dir 0 hd (omega arith) _ f.s f.sh, pair_same dir 1 hd (omega arith) _ f.s f.sh)
 
-    sec-same : (f : Strength) → secAt l k (tapsIn w dir) f ≡ secAt win at (tapsOf dir) f
-    unfolding secAt sideAt tapsBy tapsOf
+    sec-same : (f : Strength) → sec_at l k (taps_in w dir) f ≡ sec_at win at (taps_of dir) f
+    unfolding sec_at side_at taps_by taps_of
     sec-same f = rw (centre-same, pair_same ((dir + 2) % 8) 0 q8 (omega arith) _ f.s f.sh, pair_same ((dir + 2) % 8) 1 q8 (omega arith) _ f.s f.sh, pair_same ((dir + 6) % 8) 0 r8 (omega arith) _ f.s f.sh, pair_same ((dir + 6) % 8) 1 r8 (omega arith) _ f.s f.sh)
 
-    lowest-same : lowAt l k (tapsIn w dir) ≡ lowAt win at (tapsOf dir)
-    unfolding lowAt tapsBy tapsOf
+    lowest-same : low_at l k (taps_in w dir) ≡ low_at win at (taps_of dir)
+    unfolding low_at taps_by taps_of
     lowest-same = rw (centre-same, low_same dir 0 hd (omega arith) _, low_same dir 1 hd (omega arith) _, low_same ((dir + 2) % 8) 0 q8 (omega arith) _, low_same ((dir + 2) % 8) 1 q8 (omega arith) _, low_same ((dir + 6) % 8) 0 r8 (omega arith) _, low_same ((dir + 6) % 8) 1 r8 (omega arith) _)
 
-    highest-same : highAt l k (tapsIn w dir) ≡ highAt win at (tapsOf dir)
-    unfolding highAt tapsBy tapsOf
+    highest-same : high_at l k (taps_in w dir) ≡ high_at win at (taps_of dir)
+    unfolding high_at taps_by taps_of
     highest-same = rw (centre-same, high_same dir 0 hd (omega arith) _, high_same dir 1 hd (omega arith) _, high_same ((dir + 2) % 8) 0 q8 (omega arith) _, high_same ((dir + 2) % 8) 1 q8 (omega arith) _, high_same ((dir + 6) % 8) 0 r8 (omega arith) _, high_same ((dir + 6) % 8) 1 r8 (omega arith) _)
 
-    pub kernel-same : (f g : Strength) → kernelAt l k (tapsIn w dir) f g ≡ kernelAt win at (tapsOf dir) f g
-    unfolding kernelAt filteredAt
+    pub kernel-same : (f g : Strength) → kernel_at l k (taps_in w dir) f g ≡ kernel_at win at (taps_of dir) f g
+    unfolding kernel_at filtered_at
     kernel-same f g = rw (centre-same, pri-same f, sec-same g, lowest-same, highest-same)
 
 -- ---- a block, or its lower half
 
 -- two parts of a block, one after the other
-pub block-two : (d : List ℕ) (w : ℕ) (F : ℕ → ℕ → Tap) (y x bw m n : ℕ) → putBlock (putBlock d w F y x bw m) w F (y + m) x bw n ≡ putBlock d w F y x bw (m + n)
-unfolding putBlock
+pub block-two : (d : List ℕ) (w : ℕ) (F : ℕ → ℕ → Tap) (y x bw m n : ℕ) → put_block (put_block d w F y x bw m) w F (y + m) x bw n ≡ put_block d w F y x bw (m + n)
+unfolding put_block
 block-two d w F y x bw m zero = let e : m + 0 ≡ m = omega arith in rw e
 block-two d w F y x bw m (suc n) =
     let e : m + suc n ≡ suc (m + n) = omega arith in
@@ -121,15 +121,15 @@ block-two d w F y x bw m (suc n) =
     rw (e, block-two d w F y x bw m n, f)
 
 -- its rows from y1 on
-module _ (l : List ℕ) (w h : ℕ) (b : Block) (q : FilterParams) (y0 y1 : ℕ) (hw : w ≤ 4096) (hh : h ≤ 4096) (bw : b.width ≤ 8) (bh : b.height ≤ 8) (x2 : 2 ≤ b.x) (y2 : 2 ≤ b.y) (xw : b.x + b.width + 2 ≤ w) (yh : b.y + b.height + 2 ≤ h) (low : y0 ≤ y1) (from : b.y ≤ y1) (hd : q.dir < 8) (held : Held (upto (windowAt (planeOf l w h) b) 144)) where
+module _ (l : List ℕ) (w h : ℕ) (b : Block) (q : FilterParams) (y0 y1 : ℕ) (hw : w ≤ 4096) (hh : h ≤ 4096) (bw : b.width ≤ 8) (bh : b.height ≤ 8) (x2 : 2 ≤ b.x) (y2 : 2 ≤ b.y) (xw : b.x + b.width + 2 ≤ w) (yh : b.y + b.height + 2 ≤ h) (low : y0 ≤ y1) (from : b.y ≤ y1) (hd : q.dir < 8) (held : Held (upto (window_at (plane_of l w h) b) 144)) where
   abbrev pri : Strength
-  pri = priOf q.pri (max 1 q.damping.0) q.depth
+  pri = pri_of q.pri (max 1 q.damping.0) q.depth
 
   abbrev sec : Strength
-  sec = secOf q.sec (max 1 q.damping.0)
+  sec = sec_of q.sec (max 1 q.damping.0)
 
-  tap-inside : (r c : ℕ) → y1 - y0 ≤ r → r < y1 - y0 + (b.y + b.height - y1) → b.x ≤ c → c < b.x + b.width → insideTap l w (y1 * w + b.x) (tapsIn w q.dir) pri sec (y1 - y0) b.x r c ≡ filtered (planeOf l w h) q (y0 + r) c
-  unfolding insideTap
+  tap-inside : (r c : ℕ) → y1 - y0 ≤ r → r < y1 - y0 + (b.y + b.height - y1) → b.x ≤ c → c < b.x + b.width → inside_tap l w (y1 * w + b.x) (taps_in w q.dir) pri sec (y1 - y0) b.x r c ≡ filtered (plane_of l w h) q (y0 + r) c
+  unfolding inside_tap
   tap-inside r c lo hi left right =
       let i : ℕ = y0 + r - b.y in
       let j : ℕ = c - b.x in
@@ -139,36 +139,36 @@ module _ (l : List ℕ) (w h : ℕ) (b : Block) (q : FilterParams) (y0 y1 : ℕ)
       let z : y1 * w + b.x + (n * w + j) ≡ (b.y + i) * w + (b.x + j) = omega arith in
       let u : b.y + i ≡ y0 + r = omega arith in
       let v : b.x + j ≡ c = omega arith in
-      ap (λ (m : ℕ). unmarked (kernelAt l m (tapsIn w q.dir) pri sec)) z
+      ap (λ (m : ℕ). unmarked (kernel_at l m (taps_in w q.dir) pri sec)) z
       ∙ ap unmarked (kernel-same l w h b i j hw hh bw bh (omega arith) (omega arith) x2 y2 xw yh q.dir hd pri sec)
-      ∙ kernel-tap (planeOf l w h) b q i j bh bw (omega arith) (omega arith) hd held
+      ∙ kernel-tap (plane_of l w h) b q i j bh bw (omega arith) (omega arith) hd held
       ∙ rw (u, v)
 
-  pub rows-filtered : (d : List ℕ) (cols n : ℕ) → cols ≤ b.width → y1 + n ≤ b.y + b.height → putBlock d w (insideTap l w (y1 * w + b.x) (tapsIn w q.dir) pri sec (y1 - y0) b.x) (y1 - y0) b.x cols n ≡ putBlock d w (λ r c. filtered (planeOf l w h) q (y0 + r) c) (y1 - y0) b.x cols n
+  pub rows-filtered : (d : List ℕ) (cols n : ℕ) → cols ≤ b.width → y1 + n ≤ b.y + b.height → put_block d w (inside_tap l w (y1 * w + b.x) (taps_in w q.dir) pri sec (y1 - y0) b.x) (y1 - y0) b.x cols n ≡ put_block d w (λ r c. filtered (plane_of l w h) q (y0 + r) c) (y1 - y0) b.x cols n
   rows-filtered d cols n hc hn = block_same d w _ _ (y1 - y0) b.x cols n (λ r c lo hi left right. tap-inside r c lo (omega arith) left (omega arith))
 
   -- the same, from what the rows' functions store
-  pub stored : (d last : List ℕ) (to at cols n : ℕ) (f g : Strength) → cols ≤ b.width → y1 + n ≤ b.y + b.height → to ≡ (y1 - y0) * w + b.x → at ≡ y1 * w + b.x → f ≡ pri → g ≡ sec → ((y x : ℕ) → to ≡ y * w + x → last ≡ putBlock d w (insideTap l w at (tapsIn w q.dir) f g y x) y x cols n) → last ≡ putBlock d w (λ r c. filtered (planeOf l w h) q (y0 + r) c) (y1 - y0) b.x cols n
+  pub stored : (d last : List ℕ) (to at cols n : ℕ) (f g : Strength) → cols ≤ b.width → y1 + n ≤ b.y + b.height → to ≡ (y1 - y0) * w + b.x → at ≡ y1 * w + b.x → f ≡ pri → g ≡ sec → ((y x : ℕ) → to ≡ y * w + x → last ≡ put_block d w (inside_tap l w at (taps_in w q.dir) f g y x) y x cols n) → last ≡ put_block d w (λ r c. filtered (plane_of l w h) q (y0 + r) c) (y1 - y0) b.x cols n
   stored d last to at cols n f g hc hn et ea ef eg k = k (y1 - y0) b.x et ∙ rw (ea, ef, eg) (rows-filtered d cols n hc hn)
 
 -- ---- what the rows' functions require
 
 -- the strengths, from the kernel's
 module _ (s s2 d depth : ℕ) where
-  pub pri-passed : priIn (priOf s d depth).s (priOf s d depth).sh (priOf s d depth).w0 ≡ priOf s d depth
-  unfolding priIn priOf
+  pub pri-passed : pri_in (pri_of s d depth).s (pri_of s d depth).sh (pri_of s d depth).w0 ≡ pri_of s d depth
+  unfolding pri_in pri_of
   pri-passed = let e : 6 - (4 - s / 2 ^ (depth - 8) % 2) ≡ 2 + s / 2 ^ (depth - 8) % 2 = omega arith in rw e
 
-  pub sec-passed : secIn (secOf s2 d).s (secOf s2 d).sh ≡ secOf s2 d
-  unfolding secIn secOf
+  pub sec-passed : sec_in (sec_of s2 d).s (sec_of s2 d).sh ≡ sec_of s2 d
+  unfolding sec_in sec_of
   sec-passed = refl
 
-  pub strong-passed : s ≤ 240 → s2 ≤ 240 → Strong (priOf s d depth).s (priOf s d depth).sh (priOf s d depth).w0 (secOf s2 d).s (secOf s2 d).sh
-  unfolding priOf secOf shift_of
+  pub strong-passed : s ≤ 240 → s2 ≤ 240 → Strong (pri_of s d depth).s (pri_of s d depth).sh (pri_of s d depth).w0 (sec_of s2 d).s (sec_of s2 d).sh
+  unfolding pri_of sec_of shift_of
   strong-passed h k = record { pri = h; pri-shift = omega arith; least = omega arith; most = omega arith; sec = k; sec-shift = omega arith }
 
 -- n samples, and two rows and two columns more on each side
-pub around : (len w at n dir : ℕ) → w ≤ 4096 → dir < 8 → 2 * w + 2 ≤ at → at + n + (2 * w + 2) ≤ len → len ≤ 2 ^ 24 → Around len at n (tapsIn w dir)
+pub around : (len w at n dir : ℕ) → w ≤ 4096 → dir < 8 → 2 * w + 2 ≤ at → at + n + (2 * w + 2) ≤ len → len ≤ 2 ^ 24 → Around len at n (taps_in w dir)
 around len w at n dir hw hd lo hi sm = around-of (taps-reach w dir hw hd) len at n lo hi sm
 
 -- where a block inside the plane lies
@@ -183,11 +183,11 @@ module _ (w h x y bw bh len : ℕ) (e : len ≡ w * h) (hw : w ≤ 4096) (hh : h
   below i n k = let m : (y + i + n + 2) * w ≤ h * w = mul-le-mul_right w k in omega (arith, mul_comm w h)
 
   -- row i of eight
-  pub around-row : (dir i : ℕ) → dir < 8 → i < bh → bw ≡ 8 → Around len (y * w + x + i * w) 8 (tapsIn w dir)
+  pub around-row : (dir i : ℕ) → dir < 8 → i < bh → bw ≡ 8 → Around len (y * w + x + i * w) 8 (taps_in w dir)
   around-row dir i hd hi eb = around len w (y * w + x + i * w) 8 dir hw hd (above i) (omega (arith, below i 1 (omega (arith, a.bottom)), a.right)) small
 
   -- four rows of four, from row i on
-  pub around-four : (dir i : ℕ) → dir < 8 → i + 4 ≤ bh → 4 ≤ bw → Around len (y * w + x + i * w) (3 * w + 4) (tapsIn w dir)
+  pub around-four : (dir i : ℕ) → dir < 8 → i + 4 ≤ bh → 4 ≤ bw → Around len (y * w + x + i * w) (3 * w + 4) (taps_in w dir)
   around-four dir i hd hi eb = around len w (y * w + x + i * w) (3 * w + 4) dir hw hd (above i) (omega (arith, below i 4 (omega (arith, a.bottom)), a.right)) small
 
 -- a row of k samples in the destination
@@ -197,8 +197,8 @@ room w x y bh n i k h hi hk =
     omega (arith, mul-le-mul_right w a)
 
 -- the test's parts
-pub inner-is : (w h x y bw bh : ℕ) → innerBlock w h x y bw bh ≡ true → Inner w h x y bw bh
-unfolding innerBlock
+pub inner-is : (w h x y bw bh : ℕ) → inner_block w h x y bw bh ≡ true → Inner w h x y bw bh
+unfolding inner_block
 inner-is w h x y bw bh e =
     let a = and_both (leb 2 x && leb 2 y) _ e in
     let b = and_both (leb 2 x) (leb 2 y) a.0 in

@@ -4,7 +4,7 @@ use Rattle.std.proofs.Common.{◌∙◌, arith}
 use Rattle.std.proofs.Math.Decide.{dec_le}
 use Rattle.filter_rows.specs.declared.Taps.{Taps}
 use Rattle.filter_rows.specs.declared.Strength.{Strength}
-use Rattle.filter_kernel.specs.Kernel.{priOf}
+use Rattle.filter_kernel.specs.Kernel.{pri_of}
 use Rattle.plane_taps.specs.Reach.{Along, Around}
 use Rattle.plane_rows.specs.Rows.{Strong, Stored}
 use Rattle.plane_bytes.specs.Eights.{Strong8}
@@ -44,6 +44,6 @@ pub eighth-is : {depth s sh near s2 sh2 : ℕ} → Bytes depth s sh s2 sh2 → S
 eighth-is b g l = record { pri = b.pri; some = b.some; pri-shift = b.pri-shift; least = l; most = g.most; sec = b.sec; some2 = b.some2; sec-shift = b.sec-shift }
 
 -- the near weight of the primary taps
-pub near-least : (s d depth : ℕ) → 3 ≤ (priOf s d depth).w0
-unfolding priOf
+pub near-least : (s d depth : ℕ) → 3 ≤ (pri_of s d depth).w0
+unfolding pri_of
 near-least s d depth = omega arith

@@ -4,7 +4,7 @@ ghost use Rattle.filter_window.specs.Spans.{InPlane};
 ghost use Rattle.filter_block.specs.Store.{Usable};
 ghost use Rattle.plane_taps.specs.Plain.{AllLow};
 ghost use Rattle.plane_bytes.specs.Eights.{AllByte};
-ghost use Rattle.plane_block.specs.Inside.{Sided, Inner, blockFrom, paramsFrom, stored_block};
+ghost use Rattle.plane_block.specs.Inside.{Sided, Inner, block_from, params_from, stored_block};
 
 mod rows; // rows.rt: rows of eight samples
 
@@ -27,10 +27,10 @@ fn filter_inside(
     damping: u8,
     depth: u8,
 )
-    requires in_plane { InPlane src.now w h (blockFrom x y bw bh) × AllLow src.now × Usable (paramsFrom pri sec dir damping depth)
+    requires in_plane { InPlane src.now w h (block_from x y bw bh) × AllLow src.now × Usable (params_from pri sec dir damping depth)
         × (depth ≡ 8 → AllByte src.now) }
     requires y0_le_y { (y0 ≤ y) × ((y - y0 + bh) * w ≤ length dst.old) × Sided bw × Sided bh × Inner w h x y bw bh }
-    ensures { dst.new ≡ stored_block dst.old src.now w h (paramsFrom pri sec dir damping depth) y0 y x bw bh }
+    ensures { dst.new ≡ stored_block dst.old src.now w h (params_from pri sec dir damping depth) y0 y x bw bh }
 {
     let d = filter_kernel::from_one(WorkingDamping(damping));
     let f = filter_kernel::primary(pri as u16, d, depth);
@@ -86,10 +86,10 @@ pub fn filter_block(
     damping: u8,
     depth: u8,
 )
-    requires in_plane { InPlane src.now w h (blockFrom x y bw bh) × AllLow src.now × Usable (paramsFrom pri sec dir damping depth)
+    requires in_plane { InPlane src.now w h (block_from x y bw bh) × AllLow src.now × Usable (params_from pri sec dir damping depth)
         × (depth ≡ 8 → AllByte src.now) }
     requires y0_le_y { (y0 ≤ y) × ((y - y0 + min bh (h - y)) * w ≤ length dst.old) × Sided bw × Sided bh }
-    ensures { dst.new ≡ stored_block dst.old src.now w h (paramsFrom pri sec dir damping depth) y0 y x
+    ensures { dst.new ≡ stored_block dst.old src.now w h (params_from pri sec dir damping depth) y0 y x
         (min bw (w - x)) (min bh (h - y)) }
 {
     if plane_inside::inside(w, h, x, y, bw, bh) {

@@ -1,9 +1,9 @@
 // Rows of eight samples inside a plane: in bytes where sums fit in them, else in 16-bit words.
 ghost use Rattle.std.specs.Prelude.{◌≡◌, true, ℕ, ◌+◌, ◌*◌, ◌≤◌, ◌<◌, length};
 ghost use Rattle.plane_taps.specs.Plain.{AllLow};
-ghost use Rattle.plane_taps.specs.Steps.{tapsIn};
+ghost use Rattle.plane_taps.specs.Steps.{taps_in};
 ghost use Rattle.plane_taps.specs.Reach.{Around};
-ghost use Rattle.plane_rows.specs.Rows.{Strong, priIn, secIn, Stored};
+ghost use Rattle.plane_rows.specs.Rows.{Strong, pri_in, sec_in, Stored};
 ghost use Rattle.plane_bytes.specs.Eights.{AllByte};
 ghost use Rattle.plane_block.specs.Inside.{Sided, Bytes};
 
@@ -51,8 +51,8 @@ pub fn eight_wide(
     sh2: u32,
 )
     requires all_low { AllLow src.now × (w ≤ 4096) × Sided n × (dir < 8) × Strong s sh near s2 sh2 × (3 ≤ near) × (depth ≡ 8 → AllByte src.now) }
-    requires by_index { (i : ℕ) → i < n → Around (length src.now) (at + i * w) 8 (tapsIn w dir) × (to + i * w + 8 ≤ length dst.old) }
-    ensures { Stored src.now dst.old dst.new w at to (tapsIn w dir) (priIn s sh near) (secIn s2 sh2) 8 n }
+    requires by_index { (i : ℕ) → i < n → Around (length src.now) (at + i * w) 8 (taps_in w dir) × (to + i * w + 8 ≤ length dst.old) }
+    ensures { Stored src.now dst.old dst.new w at to (taps_in w dir) (pri_in s sh near) (sec_in s2 sh2) 8 n }
 {
     if in_bytes(depth, s, sh, s2, sh2) {
         let t = plane_taps::steps::taps(dir, w, 1);

@@ -1,6 +1,6 @@
 // The arithmetic of samples in bytes.
 ghost use Rattle.std.specs.Prelude.{◌≡◌, ◌+◌, ◌-◌, ◌≤◌, ◌<◌, min, max, pos, nat_abs};
-ghost use Rattle.plane_byte.specs.Arithmetic.{above_of, excessOf};
+ghost use Rattle.plane_byte.specs.Arithmetic.{above_of, excess_of};
 
 // A number of 0..255 held to 0 and more, and to 255 and less: it stays as it is.
 fn held_low(v: i16) -> i16
@@ -57,7 +57,7 @@ pub fn above(a: u8, b: u8, s: u8, sh: u32) -> u8
 // What is left of a sum over the opposite one, rounded.
 pub fn left(a: u8, b: u8) -> u8
     requires { a ≤ 228 }
-    ensures { result ≡ excessOf a b }
+    ensures { result ≡ excess_of a b }
 {
     (less(a, b) + 8) >> 4
 }

@@ -1,26 +1,26 @@
 -- Bounds of the numbers from which a sample is computed in bytes.
 use Rattle.std.specs.Prelude.{◌≡◌, ℕ, ◌+◌, ◌-◌, ◌*◌, ◌<◌, ◌≤◌, min, max}
 use Rattle.std.proofs.Common.{⊎_elim, arith}
-use Rattle.plane_bytes.specs.Byte.{Mask, weighPri, highFour, lowFour}
+use Rattle.plane_bytes.specs.Byte.{Mask, weigh_pri, high_four, low_four}
 use Rattle.plane_byte.specs.Arithmetic.{above_of}
 
 pub above-le : (a b s sh : ℕ) → above_of a b s sh ≤ s
 unfolding above_of
 above-le a b s sh = omega arith
 
-pub weigh-four : (n f : ℕ) → n ≤ 255 → weighPri n f 0 ≡ 4 * n + 2 * f
-unfolding weighPri
+pub weigh-four : (n f : ℕ) → n ≤ 255 → weigh_pri n f 0 ≡ 4 * n + 2 * f
+unfolding weigh_pri
 weigh-four n f h = omega arith
 
-pub weigh-three : (n f : ℕ) → f ≤ 255 → weighPri n f 255 ≡ 3 * n + 3 * f
-unfolding weighPri
+pub weigh-three : (n f : ℕ) → f ≤ 255 → weigh_pri n f 255 ≡ 3 * n + 3 * f
+unfolding weigh_pri
 weigh-three n f h = omega arith
 
-pub weigh-le : (n f odd : ℕ) → n ≤ 30 → f ≤ 30 → Mask odd → weighPri n f odd ≤ 180
+pub weigh-le : (n f odd : ℕ) → n ≤ 30 → f ≤ 30 → Mask odd → weigh_pri n f odd ≤ 180
 weigh-le n f odd hn hf m = ⊎_elim (λ e. rw e (omega (arith, weigh-four n f (omega arith)))) (λ e. rw e (omega (arith, weigh-three n f (omega arith)))) m.is
 
-pub weigh-ok : (n f odd x y : ℕ) → n ≤ 30 → f ≤ 30 → Mask odd → x ≡ min f odd → y ≡ min n (255 - odd) → ((n + f) + (n + f) + n + (x + y) ≡ weighPri n f odd) × ((n + f) + (n + f) + n + (x + y) ≤ 180)
-unfolding weighPri
+pub weigh-ok : (n f odd x y : ℕ) → n ≤ 30 → f ≤ 30 → Mask odd → x ≡ min f odd → y ≡ min n (255 - odd) → ((n + f) + (n + f) + n + (x + y) ≡ weigh_pri n f odd) × ((n + f) + (n + f) + n + (x + y) ≤ 180)
+unfolding weigh_pri
 weigh-ok n f odd x y hn hf m ex ey = (rw (ex, ey), rw (ex, ey) (weigh-le n f odd hn hf m))
 
 -- ---- the limits
@@ -31,10 +31,10 @@ less-max a b c = omega arith
 pub less-min : (a b c : ℕ) → max (c - a) (c - b) ≡ c - min a b
 less-min a b c = omega arith
 
-pub high_le : (a0 b0 a1 b1 c : ℕ) → a0 < 256 → b0 < 256 → a1 < 256 → b1 < 256 → c < 256 → highFour a0 b0 a1 b1 c + c ≤ 255
-unfolding highFour
+pub high_le : (a0 b0 a1 b1 c : ℕ) → a0 < 256 → b0 < 256 → a1 < 256 → b1 < 256 → c < 256 → high_four a0 b0 a1 b1 c + c ≤ 255
+unfolding high_four
 high_le a0 b0 a1 b1 c h0 h1 h2 h3 hc = rw (less-max a0 b0 c, less-max a1 b1 c, less-max (max a0 b0) (max a1 b1) c) (omega arith)
 
-pub low-le : (a0 b0 a1 b1 c : ℕ) → lowFour a0 b0 a1 b1 c ≤ c
-unfolding lowFour
+pub low-le : (a0 b0 a1 b1 c : ℕ) → low_four a0 b0 a1 b1 c ≤ c
+unfolding low_four
 low-le a0 b0 a1 b1 c = rw (less-min a0 b0 c, less-min a1 b1 c, less-min (min a0 b0) (min a1 b1) c) (omega arith)

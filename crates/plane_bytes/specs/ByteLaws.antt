@@ -5,13 +5,13 @@ use Rattle.std.proofs.Math.Decide.{dec_lt}
 use Rattle.std.proofs.Math.Nat.{mul-sub}
 use native.Mathlib.Omega.{arith}
 use Rattle.std.proofs.Math.IntN.{+ℤ_idl, +ℤ_idr, +ℤ_assoc, +ℤ_comm, neg_ℤ-+ℤ}
-use Rattle.arith_sample.specs.Sample.{size_of, conOf}
+use Rattle.arith_sample.specs.Sample.{size_of, con_of}
 use Rattle.arith_sample.specs.SampleLaws.{con-below, con-above}
 use Rattle.filter_rows.specs.Pairs.{weighed}
 use Rattle.filter_limits.specs.declared.Pair.{Pair}
-use Rattle.plane_taps.specs.Plain.{pairPlain, priPlain, secPlain}
-use Rattle.plane_rows.specs.Rows.{priIn, secIn}
-use Rattle.plane_bytes.specs.Byte.{upPair, downPair, weighPri, weighSec, upPri, downPri, upSec, downSec}
+use Rattle.plane_taps.specs.Plain.{pair_plain, pri_plain, sec_plain}
+use Rattle.plane_rows.specs.Rows.{pri_in, sec_in}
+use Rattle.plane_bytes.specs.Byte.{up_pair, down_pair, weigh_pri, weigh_sec, up_pri, down_pri, up_sec, down_sec}
 use Rattle.plane_byte.specs.Arithmetic.{above_of}
 use Rattle.plane_bytes.specs.ByteBounds.{above-le, weigh-four, weigh-three}
 
@@ -52,11 +52,11 @@ gap-scale k a b = go (dec_lt a b)
 
 -- ---- the constrained difference
 
-above-con : (p c s sh : ℕ) → gap (above_of p c s sh) (above_of c p s sh) ≡ conOf p c s sh
+above-con : (p c s sh : ℕ) → gap (above_of p c s sh) (above_of c p s sh) ≡ con_of p c s sh
 unfolding above_of size_of
 above-con p c s sh = go (dec_lt p c)
   where
-    go : Dec (p < c) → gap (min (p - c) (s - ((p - c) + (c - p)) / 2 ^ sh)) (min (c - p) (s - ((c - p) + (p - c)) / 2 ^ sh)) ≡ conOf p c s sh
+    go : Dec (p < c) → gap (min (p - c) (s - ((p - c) + (c - p)) / 2 ^ sh)) (min (c - p) (s - ((c - p) + (p - c)) / 2 ^ sh)) ≡ con_of p c s sh
     go (yes l) =
         let a : min (p - c) (s - ((p - c) + (c - p)) / 2 ^ sh) ≡ 0 = omega arith in
         let e : (c - p) + (p - c) ≡ (p - c) + (c - p) = omega arith in
@@ -71,21 +71,21 @@ above-con p c s sh = go (dec_lt p c)
 abbrev pub pair : ℕ → ℕ → Pair
 pair a b = record { on = a; back = b }
 
-pair-con : (a b c s sh : ℕ) → gap (upPair a b c s sh) (downPair a b c s sh) ≡ pairPlain (pair a b) c s sh
-unfolding upPair downPair pairPlain
+pair-con : (a b c s sh : ℕ) → gap (up_pair a b c s sh) (down_pair a b c s sh) ≡ pair_plain (pair a b) c s sh
+unfolding up_pair down_pair pair_plain
 pair-con a b c s sh = sym (gap-add (above_of a c s sh) (above_of c a s sh) (above_of b c s sh) (above_of c b s sh)) ∙ rw (above-con a c s sh, above-con b c s sh)
 
-two-con : (a b d e c s sh : ℕ) → gap (upPair a b c s sh + upPair d e c s sh) (downPair a b c s sh + downPair d e c s sh) ≡ pairPlain (pair a b) c s sh +ℤ pairPlain (pair d e) c s sh
-two-con a b d e c s sh = sym (gap-add (upPair a b c s sh) (downPair a b c s sh) (upPair d e c s sh) (downPair d e c s sh)) ∙ rw (pair-con a b c s sh, pair-con d e c s sh)
+two-con : (a b d e c s sh : ℕ) → gap (up_pair a b c s sh + up_pair d e c s sh) (down_pair a b c s sh + down_pair d e c s sh) ≡ pair_plain (pair a b) c s sh +ℤ pair_plain (pair d e) c s sh
+two-con a b d e c s sh = sym (gap-add (up_pair a b c s sh) (down_pair a b c s sh) (up_pair d e c s sh) (down_pair d e c s sh)) ∙ rw (pair-con a b c s sh, pair-con d e c s sh)
 
 -- ---- bounds
 
-up_le : (a b c s sh : ℕ) → upPair a b c s sh ≤ s + s
-unfolding upPair
+up_le : (a b c s sh : ℕ) → up_pair a b c s sh ≤ s + s
+unfolding up_pair
 up_le a b c s sh = omega (arith, above-le a c s sh, above-le b c s sh)
 
-down_le : (a b c s sh : ℕ) → downPair a b c s sh ≤ s + s
-unfolding downPair
+down_le : (a b c s sh : ℕ) → down_pair a b c s sh ≤ s + s
+unfolding down_pair
 down_le a b c s sh = omega (arith, above-le c a s sh, above-le c b s sh)
 
 -- ---- the weighted sums
@@ -94,30 +94,30 @@ weighs : (k m n f o g : ℕ) → gap (suc k * n + suc m * f) (suc k * o + suc m 
 weighs k m n f o g = sym (gap-add (suc k * n) (suc k * o) (suc m * f) (suc m * g)) ∙ rw (gap-scale k n o, gap-scale m f g)
 
 module _ (n f o g s sh : ℕ) (hn : n ≤ 255) (hf : f ≤ 255) (ho : o ≤ 255) (hg : g ≤ 255) where
-  weigh-con : (near : ℕ) → 3 ≤ near → near ≤ 4 → gap (weighPri n f ((4 - near) * 255)) (weighPri o g ((4 - near) * 255)) ≡ weighed (gap n o) (gap f g) (priIn s sh near)
-  unfolding weighed priIn
+  weigh-con : (near : ℕ) → 3 ≤ near → near ≤ 4 → gap (weigh_pri n f ((4 - near) * 255)) (weigh_pri o g ((4 - near) * 255)) ≡ weighed (gap n o) (gap f g) (pri_in s sh near)
+  unfolding weighed pri_in
   weigh-con near lo hi = go (dec_lt near 4)
     where
-      go : Dec (near < 4) → gap (weighPri n f ((4 - near) * 255)) (weighPri o g ((4 - near) * 255)) ≡ pos near *ℤ gap n o +ℤ pos (6 - near) *ℤ gap f g
+      go : Dec (near < 4) → gap (weigh_pri n f ((4 - near) * 255)) (weigh_pri o g ((4 - near) * 255)) ≡ pos near *ℤ gap n o +ℤ pos (6 - near) *ℤ gap f g
       go (yes l) = let e : near ≡ 3 = omega arith in rw e (rw (weigh-three n f hf, weigh-three o g hg) (weighs 2 2 n f o g))
       go (no l) = let e : near ≡ 4 = omega arith in rw e (rw (weigh-four n f hn, weigh-four o g ho) (weighs 3 1 n f o g))
 
-pub pri-con : (a0 b0 a1 b1 c s sh near : ℕ) → s ≤ 15 → 3 ≤ near → near ≤ 4 → gap (upPri a0 b0 a1 b1 c s sh ((4 - near) * 255)) (downPri a0 b0 a1 b1 c s sh ((4 - near) * 255)) ≡ priPlain (pair a0 b0) (pair a1 b1) c (priIn s sh near)
-unfolding upPri downPri priPlain priIn
+pub pri-con : (a0 b0 a1 b1 c s sh near : ℕ) → s ≤ 15 → 3 ≤ near → near ≤ 4 → gap (up_pri a0 b0 a1 b1 c s sh ((4 - near) * 255)) (down_pri a0 b0 a1 b1 c s sh ((4 - near) * 255)) ≡ pri_plain (pair a0 b0) (pair a1 b1) c (pri_in s sh near)
+unfolding up_pri down_pri pri_plain pri_in
 pri-con a0 b0 a1 b1 c s sh near hs lo hi =
-    weigh-con (upPair a0 b0 c s sh) (upPair a1 b1 c s sh) (downPair a0 b0 c s sh) (downPair a1 b1 c s sh) s sh
+    weigh-con (up_pair a0 b0 c s sh) (up_pair a1 b1 c s sh) (down_pair a0 b0 c s sh) (down_pair a1 b1 c s sh) s sh
     (omega (arith, up_le a0 b0 c s sh)) (omega (arith, up_le a1 b1 c s sh)) (omega (arith, down_le a0 b0 c s sh)) (omega (arith, down_le a1 b1 c s sh)) near lo hi
-    ∙ unfold priIn in rw (pair-con a0 b0 c s sh, pair-con a1 b1 c s sh)
+    ∙ unfold pri_in in rw (pair-con a0 b0 c s sh, pair-con a1 b1 c s sh)
 
-double-con : (n f o g : ℕ) → gap (weighSec n f) (weighSec o g) ≡ pos 2 *ℤ gap n o +ℤ pos 1 *ℤ gap f g
-unfolding weighSec
+double-con : (n f o g : ℕ) → gap (weigh_sec n f) (weigh_sec o g) ≡ pos 2 *ℤ gap n o +ℤ pos 1 *ℤ gap f g
+unfolding weigh_sec
 double-con n f o g =
     let a : n + n + f ≡ 2 * n + 1 * f = omega arith in
     let b : o + o + g ≡ 2 * o + 1 * g = omega arith in
     rw (a, b) (weighs 1 0 n f o g)
 
-pub sec-con : (a0 b0 a1 b1 a2 b2 a3 b3 c s sh : ℕ) → gap (upSec a0 b0 a1 b1 a2 b2 a3 b3 c s sh) (downSec a0 b0 a1 b1 a2 b2 a3 b3 c s sh) ≡ secPlain (pair a0 b0) (pair a1 b1) (pair a2 b2) (pair a3 b3) c (secIn s sh)
-unfolding upSec downSec secPlain weighed secIn
+pub sec-con : (a0 b0 a1 b1 a2 b2 a3 b3 c s sh : ℕ) → gap (up_sec a0 b0 a1 b1 a2 b2 a3 b3 c s sh) (down_sec a0 b0 a1 b1 a2 b2 a3 b3 c s sh) ≡ sec_plain (pair a0 b0) (pair a1 b1) (pair a2 b2) (pair a3 b3) c (sec_in s sh)
+unfolding up_sec down_sec sec_plain weighed sec_in
 sec-con a0 b0 a1 b1 a2 b2 a3 b3 c s sh =
-    double-con (upPair a0 b0 c s sh + upPair a2 b2 c s sh) (upPair a1 b1 c s sh + upPair a3 b3 c s sh) (downPair a0 b0 c s sh + downPair a2 b2 c s sh) (downPair a1 b1 c s sh + downPair a3 b3 c s sh)
+    double-con (up_pair a0 b0 c s sh + up_pair a2 b2 c s sh) (up_pair a1 b1 c s sh + up_pair a3 b3 c s sh) (down_pair a0 b0 c s sh + down_pair a2 b2 c s sh) (down_pair a1 b1 c s sh + down_pair a3 b3 c s sh)
     ∙ rw (two-con a0 b0 a2 b2 c s sh, two-con a1 b1 a3 b3 c s sh)

@@ -3,41 +3,41 @@ use Rattle.std.specs.Prelude.{◌≡◌, ℕ, zero, suc, ◌+◌, ◌-◌, ◌*�
 use Rattle.std.proofs.Common.{sym, ap, ◌∙◌, mul-le-mul_right, add-one, inl, inr}
 use native.Mathlib.Omega.{arith}
 use Rattle.std.proofs.Math.Decide.{dec_le}
-use Rattle.arith_sample.specs.Upto.{upto, getD-upto, upto-ext}
-use Rattle.filter_rows.specs.Place.{onFrom, backFrom}
+use Rattle.arith_sample.specs.Upto.{upto, get_or-upto, upto-ext}
+use Rattle.filter_rows.specs.Place.{on_from, back_from}
 use Rattle.filter_rows.specs.Pairs.{pair_of}
-use Rattle.filter_rows.specs.Sums.{InRange, filteredAt}
+use Rattle.filter_rows.specs.Sums.{InRange, filtered_at}
 use Rattle.filter_rows.specs.declared.Taps.{Taps}
 use Rattle.filter_rows.specs.declared.Strength.{Strength}
-use Rattle.filter_kernel.specs.Kernel.{kernelAt}
+use Rattle.filter_kernel.specs.Kernel.{kernel_at}
 use Rattle.plane_taps.specs.Plain.{AllLow}
 use Rattle.plane_taps.specs.PlainLaws.{both-plain}
 use Rattle.plane_taps.specs.Reach.{Along}
-use Rattle.plane_rows.specs.Rows.{priIn, secIn, placed, KernelRows}
+use Rattle.plane_rows.specs.Rows.{pri_in, sec_in, placed, KernelRows}
 use Rattle.plane_taps.specs.ReachLaws.{on-along, back-along}
 use Rattle.plane_rows.specs.LaneLaws.{kernel-both}
 use Rattle.plane_rows.specs.StoreLaws.{kept}
-use Rattle.plane_bytes.specs.Byte.{Mask, bothOf}
+use Rattle.plane_bytes.specs.Byte.{Mask, both_of}
 use Rattle.plane_bytes.specs.FinishLaws.{both_is}
-use Rattle.plane_bytes.specs.Eights.{AllByte, Strong8, eightAt, centreRun8, onRun8, backRun8}
+use Rattle.plane_bytes.specs.Eights.{AllByte, Strong8, eight_at, centre_run8, on_run8, back_run8}
 
 -- ---- strengths
 
 module _ {s sh near s2 sh2 : ℕ} (e : Strong8 s sh near s2 sh2) where
-  pub pri-in : InRange (priIn s sh near)
-  unfolding priIn
+  pub pri-in : InRange (pri_in s sh near)
+  unfolding pri_in
   pri-in = record { s = omega (arith, e.pri); sh = omega (arith, e.pri-shift); w0 = e.most; w1 = omega (arith, e.least) }
 
-  pub sec-in : InRange (secIn s2 sh2)
-  unfolding secIn
+  pub sec-in : InRange (sec_in s2 sh2)
+  unfolding sec_in
   sec-in = record { s = omega (arith, e.sec); sh = omega (arith, e.sec-shift); w0 = omega arith; w1 = omega arith }
 
-  pub pri-some : (priIn s sh near).s ≡ 0 → ⊥
-  unfolding priIn
+  pub pri-some : (pri_in s sh near).s ≡ 0 → ⊥
+  unfolding pri_in
   pri-some z = omega (arith, e.some, z)
 
-  pub sec-some : (secIn s2 sh2).s ≡ 0 → ⊥
-  unfolding secIn
+  pub sec-some : (sec_in s2 sh2).s ≡ 0 → ⊥
+  unfolding sec_in
   sec-some z = omega (arith, e.some2, z)
 
   pub mask_is : {odd : ℕ} → odd ≡ (4 - near) * 255 → Mask odd
@@ -59,17 +59,17 @@ pub row_in : (w i : ℕ) → i < 2 → i * w ≤ w
 row_in w i h = let a : i ≤ 1 = omega arith in omega (arith, mul-le-mul_right w a)
 
 module _ (w : ℕ) {len k o : ℕ} (a : Along len k (w + 8) o) (j : ℕ) (h : j < 16) where
-  pub on-eight : onFrom (eightAt w k j) o ≡ eightAt w (onFrom k o) j
-  unfolding eightAt
+  pub on-eight : on_from (eight_at w k j) o ≡ eight_at w (on_from k o) j
+  unfolding eight_at
   on-eight = on-along a (j / 8 * w + j % 8) (eight-in w j h)
 
-  pub back-eight : backFrom (eightAt w k j) o ≡ eightAt w (backFrom k o) j
-  unfolding eightAt
+  pub back-eight : back_from (eight_at w k j) o ≡ eight_at w (back_from k o) j
+  unfolding eight_at
   back-eight = back-along a (j / 8 * w + j % 8) (eight-in w j h)
 
 -- sample j of row i
-pub eight-place : (w k i j : ℕ) → j < 8 → eightAt w k (i * 8 + j) ≡ k + i * w + j
-unfolding eightAt
+pub eight-place : (w k i j : ℕ) → j < 8 → eight_at w k (i * 8 + j) ≡ k + i * w + j
+unfolding eight_at
 eight-place w k i j h =
     let a : (i * 8 + j) / 8 ≡ i = omega arith in
     let b : (i * 8 + j) % 8 ≡ j = omega arith in
@@ -80,47 +80,47 @@ eight-place w k i j h =
 pub low_of : {l : List ℕ} → AllByte l → AllLow l
 low_of b = record { all = λ k. omega (arith, b.all k) }
 
-pub run-byte : (l : List ℕ) (w k n : ℕ) → AllByte l → n < 16 → slice_index (centreRun8 l w k) n < 256
-unfolding centreRun8
-run-byte l w k n b h = rw (getD-upto (λ (j : ℕ). slice_index l (eightAt w k j)) 16 n 0 h) (b.all (eightAt w k n))
+pub run-byte : (l : List ℕ) (w k n : ℕ) → AllByte l → n < 16 → slice_index (centre_run8 l w k) n < 256
+unfolding centre_run8
+run-byte l w k n b h = rw (get_or-upto (λ (j : ℕ). slice_index l (eight_at w k j)) 16 n 0 h) (b.all (eight_at w k n))
 
 module _ (l : List ℕ) (w k n : ℕ) (h : n < 16) where
-  pub centre-is : slice_index_or (centreRun8 l w k) n 0 ≡ slice_index l (eightAt w k n)
-  unfolding centreRun8
-  centre-is = getD-upto (λ (j : ℕ). slice_index l (eightAt w k j)) 16 n 0 h
+  pub centre-is : slice_index_or (centre_run8 l w k) n 0 ≡ slice_index l (eight_at w k n)
+  unfolding centre_run8
+  centre-is = get_or-upto (λ (j : ℕ). slice_index l (eight_at w k j)) 16 n 0 h
 
-  on-is : (o : ℕ) → slice_index (onRun8 l w k o) n ≡ slice_index l (onFrom (eightAt w k n) o)
-  unfolding onRun8
-  on-is o = getD-upto (λ (j : ℕ). slice_index l (onFrom (eightAt w k j) o)) 16 n 0 h
+  on-is : (o : ℕ) → slice_index (on_run8 l w k o) n ≡ slice_index l (on_from (eight_at w k n) o)
+  unfolding on_run8
+  on-is o = get_or-upto (λ (j : ℕ). slice_index l (on_from (eight_at w k j) o)) 16 n 0 h
 
-  back_is : (o : ℕ) → slice_index (backRun8 l w k o) n ≡ slice_index l (backFrom (eightAt w k n) o)
-  unfolding backRun8
-  back_is o = getD-upto (λ (j : ℕ). slice_index l (backFrom (eightAt w k j) o)) 16 n 0 h
+  back_is : (o : ℕ) → slice_index (back_run8 l w k o) n ≡ slice_index l (back_from (eight_at w k n) o)
+  unfolding back_run8
+  back_is o = get_or-upto (λ (j : ℕ). slice_index l (back_from (eight_at w k j) o)) 16 n 0 h
 
 module _ (l : List ℕ) (b : AllByte l) (w k : ℕ) (t : Taps) (s sh near s2 sh2 : ℕ) (e : Strong8 s sh near s2 sh2) where
   lane : List ℕ → List ℕ → List ℕ → List ℕ → List ℕ → List ℕ → List ℕ → List ℕ → List ℕ → List ℕ → List ℕ → List ℕ → List ℕ → ℕ → ℕ
-  lane c a0 b0 a1 b1 a2 b2 a3 b3 a4 b4 a5 b5 n = bothOf (slice_index a0 n) (slice_index b0 n) (slice_index a1 n) (slice_index b1 n) (slice_index a2 n) (slice_index b2 n) (slice_index a3 n) (slice_index b3 n) (slice_index a4 n) (slice_index b4 n) (slice_index a5 n) (slice_index b5 n) (slice_index c n) s sh ((4 - near) * 255) s2 sh2
+  lane c a0 b0 a1 b1 a2 b2 a3 b3 a4 b4 a5 b5 n = both_of (slice_index a0 n) (slice_index b0 n) (slice_index a1 n) (slice_index b1 n) (slice_index a2 n) (slice_index b2 n) (slice_index a3 n) (slice_index b3 n) (slice_index a4 n) (slice_index b4 n) (slice_index a5 n) (slice_index b5 n) (slice_index c n) s sh ((4 - near) * 255) s2 sh2
 
-  one : (n : ℕ) → n < 16 → bothOf (slice_index (onRun8 l w k t.p0) n) (slice_index (backRun8 l w k t.p0) n) (slice_index (onRun8 l w k t.p1) n) (slice_index (backRun8 l w k t.p1) n) (slice_index (onRun8 l w k t.q0) n) (slice_index (backRun8 l w k t.q0) n) (slice_index (onRun8 l w k t.q1) n) (slice_index (backRun8 l w k t.q1) n) (slice_index (onRun8 l w k t.r0) n) (slice_index (backRun8 l w k t.r0) n) (slice_index (onRun8 l w k t.r1) n) (slice_index (backRun8 l w k t.r1) n) (slice_index (centreRun8 l w k) n) s sh ((4 - near) * 255) s2 sh2 ≡ filteredAt l (eightAt w k n) t (priIn s sh near) (secIn s2 sh2)
+  one : (n : ℕ) → n < 16 → both_of (slice_index (on_run8 l w k t.p0) n) (slice_index (back_run8 l w k t.p0) n) (slice_index (on_run8 l w k t.p1) n) (slice_index (back_run8 l w k t.p1) n) (slice_index (on_run8 l w k t.q0) n) (slice_index (back_run8 l w k t.q0) n) (slice_index (on_run8 l w k t.q1) n) (slice_index (back_run8 l w k t.q1) n) (slice_index (on_run8 l w k t.r0) n) (slice_index (back_run8 l w k t.r0) n) (slice_index (on_run8 l w k t.r1) n) (slice_index (back_run8 l w k t.r1) n) (slice_index (centre_run8 l w k) n) s sh ((4 - near) * 255) s2 sh2 ≡ filtered_at l (eight_at w k n) t (pri_in s sh near) (sec_in s2 sh2)
   unfolding pair_of
   one n h = rw (centre-is l w k n h, on-is l w k n h t.p0, back_is l w k n h t.p0, on-is l w k n h t.p1, back_is l w k n h t.p1, on-is l w k n h t.q0, back_is l w k n h t.q0, on-is l w k n h t.q1, back_is l w k n h t.q1, on-is l w k n h t.r0, back_is l w k n h t.r0, on-is l w k n h t.r1, back_is l w k n h t.r1)
-      (both_is _ _ _ _ _ _ _ _ _ _ _ _ _ s sh near s2 sh2 e.pri e.least e.most (b.all (eightAt w k n)) ∙ both-plain l (low_of b) (eightAt w k n) t (priIn s sh near) (secIn s2 sh2))
+      (both_is _ _ _ _ _ _ _ _ _ _ _ _ _ s sh near s2 sh2 e.pri e.least e.most (b.all (eight_at w k n)) ∙ both-plain l (low_of b) (eight_at w k n) t (pri_in s sh near) (sec_in s2 sh2))
 
   -- the lists of taps, and what is computed of them
-  pub both-eight : {r c a0 b0 a1 b1 a2 b2 a3 b3 a4 b4 a5 b5 : List ℕ} {odd : ℕ} → c ≡ centreRun8 l w k → a0 ≡ onRun8 l w k t.p0 → b0 ≡ backRun8 l w k t.p0 → a1 ≡ onRun8 l w k t.p1 → b1 ≡ backRun8 l w k t.p1 → a2 ≡ onRun8 l w k t.q0 → b2 ≡ backRun8 l w k t.q0 → a3 ≡ onRun8 l w k t.q1 → b3 ≡ backRun8 l w k t.q1 → a4 ≡ onRun8 l w k t.r0 → b4 ≡ backRun8 l w k t.r0 → a5 ≡ onRun8 l w k t.r1 → b5 ≡ backRun8 l w k t.r1 → odd ≡ (4 - near) * 255 → r ≡ upto (λ n. bothOf (slice_index a0 n) (slice_index b0 n) (slice_index a1 n) (slice_index b1 n) (slice_index a2 n) (slice_index b2 n) (slice_index a3 n) (slice_index b3 n) (slice_index a4 n) (slice_index b4 n) (slice_index a5 n) (slice_index b5 n) (slice_index c n) s sh odd s2 sh2) 16 → r ≡ upto (λ n. filteredAt l (eightAt w k n) t (priIn s sh near) (secIn s2 sh2)) 16
+  pub both-eight : {r c a0 b0 a1 b1 a2 b2 a3 b3 a4 b4 a5 b5 : List ℕ} {odd : ℕ} → c ≡ centre_run8 l w k → a0 ≡ on_run8 l w k t.p0 → b0 ≡ back_run8 l w k t.p0 → a1 ≡ on_run8 l w k t.p1 → b1 ≡ back_run8 l w k t.p1 → a2 ≡ on_run8 l w k t.q0 → b2 ≡ back_run8 l w k t.q0 → a3 ≡ on_run8 l w k t.q1 → b3 ≡ back_run8 l w k t.q1 → a4 ≡ on_run8 l w k t.r0 → b4 ≡ back_run8 l w k t.r0 → a5 ≡ on_run8 l w k t.r1 → b5 ≡ back_run8 l w k t.r1 → odd ≡ (4 - near) * 255 → r ≡ upto (λ n. both_of (slice_index a0 n) (slice_index b0 n) (slice_index a1 n) (slice_index b1 n) (slice_index a2 n) (slice_index b2 n) (slice_index a3 n) (slice_index b3 n) (slice_index a4 n) (slice_index b4 n) (slice_index a5 n) (slice_index b5 n) (slice_index c n) s sh odd s2 sh2) 16 → r ≡ upto (λ n. filtered_at l (eight_at w k n) t (pri_in s sh near) (sec_in s2 sh2)) 16
   both-eight e0 e1 e2 e3 e4 e5 e6 e7 e8 e9 e10 e11 e12 eo er = er ∙ rw (e0, e1, e2, e3, e4, e5, e6, e7, e8, e9, e10, e11, e12, eo) (upto-ext _ _ 16 one)
 
 -- ---- what is kept
 
 module _ (l : List ℕ) (w at : ℕ) (t : Taps) (f g : Strength) (nf : f.s ≡ 0 → ⊥) (ng : g.s ≡ 0 → ⊥) where
   -- row r of the block is row i of the sixteen
-  row_of : (v : List ℕ) (k r i j : ℕ) → v ≡ upto (λ n. filteredAt l (eightAt w k n) t f g) 16 → k + i * w ≡ at + r * w → i < 2 → j < 8 → slice_index v (i * 8 + j) ≡ kernelAt l (at + r * w + j) t f g
+  row_of : (v : List ℕ) (k r i j : ℕ) → v ≡ upto (λ n. filtered_at l (eight_at w k n) t f g) 16 → k + i * w ≡ at + r * w → i < 2 → j < 8 → slice_index v (i * 8 + j) ≡ kernel_at l (at + r * w + j) t f g
   row_of v k r i j e p hi hj =
       let q : k + i * w + j ≡ at + r * w + j = omega arith in
-      rw e (getD-upto (λ (n : ℕ). filteredAt l (eightAt w k n) t f g) 16 (i * 8 + j) 0 (omega arith) ∙ ap (λ (n : ℕ). filteredAt l n t f g) (eight-place w k i j hj ∙ q) ∙ kernel-both l (at + r * w + j) t f g nf ng)
+      rw e (get_or-upto (λ (n : ℕ). filtered_at l (eight_at w k n) t f g) 16 (i * 8 + j) 0 (omega arith) ∙ ap (λ (n : ℕ). filtered_at l n t f g) (eight-place w k i j hj ∙ q) ∙ kernel-both l (at + r * w + j) t f g nf ng)
 
   -- two rows more
-  pub two-kept : (all last v : List ℕ) (i : ℕ) → v ≡ upto (λ n. filteredAt l (eightAt w (at + 2 * i * w) n) t f g) 16 → length all ≡ 64 → i < 4 → KernelRows l all w at t f g 8 (2 * i) → last ≡ placed all (i * 16) v 0 16 → KernelRows l last w at t f g 8 (2 * (i + 1))
+  pub two-kept : (all last v : List ℕ) (i : ℕ) → v ≡ upto (λ n. filtered_at l (eight_at w (at + 2 * i * w) n) t f g) 16 → length all ≡ 64 → i < 4 → KernelRows l all w at t f g 8 (2 * i) → last ≡ placed all (i * 16) v 0 16 → KernelRows l last w at t f g 8 (2 * (i + 1))
   two-kept all last v i ev size hi old h =
       let s : i * 16 ≡ 2 * i * 8 = omega arith in
       let n : 2 * i + 2 ≡ 2 * (i + 1) = omega arith in

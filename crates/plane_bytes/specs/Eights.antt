@@ -1,7 +1,7 @@
 -- Two rows of eight samples of a plane whose samples are bytes. Definitions only.
 use Rattle.std.specs.Prelude.{◌≡◌, ℕ, zero, suc, ◌+◌, ◌*◌, ◌/◌, ◌%◌, ◌<◌, ◌≤◌, List, slice_index}
 use Rattle.arith_sample.specs.Upto.{upto}
-use Rattle.filter_rows.specs.Place.{onFrom, backFrom}
+use Rattle.filter_rows.specs.Place.{on_from, back_from}
 
 -- every sample of l is below 256, so that none is marked
 pub record AllByte (l : List ℕ) : Type 0 where
@@ -19,15 +19,15 @@ pub record Strong8 (s sh near s2 sh2 : ℕ) : Type 0 where
   pub sec-shift : sh2 < 8
 
 -- the index of sample j (row j / 8, column j % 8) of two rows of eight whose first sample is at k, in a plane w wide
-unfoldable pub eightAt : ℕ → ℕ → ℕ → ℕ
-eightAt w k j = k + (j / 8 * w + j % 8)
+unfoldable pub eight_at : ℕ → ℕ → ℕ → ℕ
+eight_at w k j = k + (j / 8 * w + j % 8)
 
 -- the samples, their taps at an offset, and the opposite ones
-unfoldable pub centreRun8 : List ℕ → ℕ → ℕ → List ℕ
-centreRun8 l w k = upto (λ j. slice_index l (eightAt w k j)) 16
+unfoldable pub centre_run8 : List ℕ → ℕ → ℕ → List ℕ
+centre_run8 l w k = upto (λ j. slice_index l (eight_at w k j)) 16
 
-unfoldable pub onRun8 : List ℕ → ℕ → ℕ → ℕ → List ℕ
-onRun8 l w k o = upto (λ j. slice_index l (onFrom (eightAt w k j) o)) 16
+unfoldable pub on_run8 : List ℕ → ℕ → ℕ → ℕ → List ℕ
+on_run8 l w k o = upto (λ j. slice_index l (on_from (eight_at w k j) o)) 16
 
-unfoldable pub backRun8 : List ℕ → ℕ → ℕ → ℕ → List ℕ
-backRun8 l w k o = upto (λ j. slice_index l (backFrom (eightAt w k j) o)) 16
+unfoldable pub back_run8 : List ℕ → ℕ → ℕ → ℕ → List ℕ
+back_run8 l w k o = upto (λ j. slice_index l (back_from (eight_at w k j) o)) 16

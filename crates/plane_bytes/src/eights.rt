@@ -1,10 +1,10 @@
 // Rows of eight samples of a block, two at a time, their taps straight from the plane.
 ghost use Rattle.std.specs.Prelude.{◌≡◌, ℕ, ◌+◌, ◌-◌, ◌*◌, ◌<◌, ◌≤◌, length};
 ghost use Rattle.arith_sample.specs.Upto.{upto};
-ghost use Rattle.filter_rows.specs.Sums.{filteredAt};
+ghost use Rattle.filter_rows.specs.Sums.{filtered_at};
 ghost use Rattle.plane_taps.specs.Reach.{Along, Around};
-ghost use Rattle.plane_rows.specs.Rows.{priIn, secIn, placed, Stored};
-ghost use Rattle.plane_bytes.specs.Eights.{AllByte, Strong8, eightAt, centreRun8, onRun8, backRun8};
+ghost use Rattle.plane_rows.specs.Rows.{pri_in, sec_in, placed, Stored};
+ghost use Rattle.plane_bytes.specs.Eights.{AllByte, Strong8, eight_at, centre_run8, on_run8, back_run8};
 
 use crate::lanes;
 use filter_rows::Taps;
@@ -12,7 +12,7 @@ use filter_rows::Taps;
 // Two rows of eight, from k on.
 fn gather(src: &[u16], w: usize, k: usize) -> [u16; 16]
     requires { (k + (w + 8) ≤ length src.now) × (w ≤ 4096) }
-    ensures { result ≡ centreRun8 src.now w k }
+    ensures { result ≡ centre_run8 src.now w k }
 {
     let mut v = [0u16; 16];
     for i in 0..2usize {
@@ -28,7 +28,7 @@ fn gather(src: &[u16], w: usize, k: usize) -> [u16; 16]
 // In bytes.
 fn run(src: &[u16], w: usize, k: usize) -> [u8; 16]
     requires { (k + (w + 8) ≤ length src.now) × (w ≤ 4096) × AllByte src.now }
-    ensures { result ≡ centreRun8 src.now w k }
+    ensures { result ≡ centre_run8 src.now w k }
 {
     let v = gather(src, w, k);
     let mut b = [0u8; 16];
@@ -41,14 +41,14 @@ fn run(src: &[u16], w: usize, k: usize) -> [u8; 16]
 // Their taps at an offset, and the opposite ones.
 fn on(src: &[u16], w: usize, k: usize, o: usize) -> [u8; 16]
     requires { (w ≤ 4096) × Along (length src.now) k (w + 8) o × AllByte src.now }
-    ensures { result ≡ onRun8 src.now w k o }
+    ensures { result ≡ on_run8 src.now w k o }
 {
     run(src, w, std::num::wrapping_add_usize(k, o))
 }
 
 fn back(src: &[u16], w: usize, k: usize, o: usize) -> [u8; 16]
     requires { (w ≤ 4096) × Along (length src.now) k (w + 8) o × AllByte src.now }
-    ensures { result ≡ backRun8 src.now w k o }
+    ensures { result ≡ back_run8 src.now w k o }
 {
     run(src, w, std::num::wrapping_sub_usize(k, o))
 }
@@ -74,7 +74,7 @@ fn both(
     sh2: u32,
 ) -> [u8; 16]
     requires { Around (length src.now) k (w + 8) t × AllByte src.now × (w ≤ 4096) × Strong8 s sh near s2 sh2 }
-    ensures { result ≡ upto (λ j. filteredAt src.now (eightAt w k j) t (priIn s sh near) (secIn s2 sh2)) 16 }
+    ensures { result ≡ upto (λ j. filtered_at src.now (eight_at w k j) t (pri_in s sh near) (sec_in s2 sh2)) 16 }
 {
     let c = run(src, w, k);
     let a0 = on(src, w, k, t.p0);
@@ -138,7 +138,7 @@ pub fn rows(
 )
     requires all_byte { AllByte src.now × (w ≤ 4096) × (n ≤ 4) × Strong8 s sh near s2 sh2 }
     requires by_index { (i : ℕ) → i < n → Around (length src.now) (at + 2 * i * w) (w + 8) t × (to + 2 * i * w + (w + 8) ≤ length dst.old) }
-    ensures { Stored src.now dst.old dst.new w at to t (priIn s sh near) (secIn s2 sh2) 8 (2 * n) }
+    ensures { Stored src.now dst.old dst.new w at to t (pri_in s sh near) (sec_in s2 sh2) 8 (2 * n) }
 {
     let mut all = [0u16; 64];
     for i in 0..n {

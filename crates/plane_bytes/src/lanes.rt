@@ -1,7 +1,7 @@
 // Sixteen samples from their taps, each list of taps in the samples' order.
 ghost use Rattle.std.specs.Prelude.{◌≡◌, ◌<◌, ◌≤◌, slice_index};
 ghost use Rattle.arith_sample.specs.Upto.{upto};
-ghost use Rattle.plane_bytes.specs.Byte.{Mask, bothOf};
+ghost use Rattle.plane_bytes.specs.Byte.{Mask, both_of};
 
 use crate::byte;
 
@@ -27,7 +27,7 @@ pub fn both(
     sh2: u32,
 ) -> [u8; 16]
     requires { (s ≤ 15) × (sh < 8) × Mask odd × (s2 ≤ 4) × (sh2 < 8) }
-    ensures { result ≡ upto (λ n. bothOf (slice_index a0.now n) (slice_index b0.now n) (slice_index a1.now n) (slice_index b1.now n)
+    ensures { result ≡ upto (λ n. both_of (slice_index a0.now n) (slice_index b0.now n) (slice_index a1.now n) (slice_index b1.now n)
         (slice_index a2.now n) (slice_index b2.now n) (slice_index a3.now n) (slice_index b3.now n) (slice_index a4.now n) (slice_index b4.now n)
         (slice_index a5.now n) (slice_index b5.now n) (slice_index c.now n) s sh odd s2 sh2) 16 }
 {

@@ -1,9 +1,9 @@
 -- Where the taps of four rows of four lie.
 use Rattle.std.specs.Prelude.{◌≡◌, ℕ, ◌+◌, ◌*◌, ◌/◌, ◌%◌, ◌<◌, ◌≤◌}
 use Rattle.std.proofs.Common.{mul-le-mul_right, arith}
-use Rattle.filter_rows.specs.Place.{onFrom, backFrom}
+use Rattle.filter_rows.specs.Place.{on_from, back_from}
 use Rattle.plane_taps.specs.Reach.{Along}
-use Rattle.plane_fours.specs.Fours.{fourAt}
+use Rattle.plane_fours.specs.Fours.{four_at}
 use Rattle.plane_taps.specs.ReachLaws.{on-along, back-along}
 
 -- sample j lies before the run's end
@@ -14,17 +14,17 @@ four-in w j h =
     omega arith
 
 module _ (w : ℕ) {len k o : ℕ} (a : Along len k (3 * w + 4) o) (j : ℕ) (h : j < 16) where
-  pub on-four : onFrom (fourAt w k j) o ≡ fourAt w (onFrom k o) j
-  unfolding fourAt
+  pub on-four : on_from (four_at w k j) o ≡ four_at w (on_from k o) j
+  unfolding four_at
   on-four = on-along a (j / 4 * w + j % 4) (four-in w j h)
 
-  pub back-four : backFrom (fourAt w k j) o ≡ fourAt w (backFrom k o) j
-  unfolding fourAt
+  pub back-four : back_from (four_at w k j) o ≡ four_at w (back_from k o) j
+  unfolding four_at
   back-four = back-along a (j / 4 * w + j % 4) (four-in w j h)
 
 -- sample j of row i
-pub four-place : (w k i j : ℕ) → j < 4 → fourAt w k (i * 4 + j) ≡ k + i * w + j
-unfolding fourAt
+pub four-place : (w k i j : ℕ) → j < 4 → four_at w k (i * 4 + j) ≡ k + i * w + j
+unfolding four_at
 four-place w k i j h =
     let a : (i * 4 + j) / 4 ≡ i = omega arith in
     let b : (i * 4 + j) % 4 ≡ j = omega arith in

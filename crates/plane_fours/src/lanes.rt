@@ -2,7 +2,7 @@
 ghost use Rattle.std.specs.Prelude.{◌≡◌, ◌<◌};
 ghost use Rattle.filter_rows.specs.Sums.{InRange};
 ghost use Rattle.plane_taps.specs.Plain.{AllLow};
-ghost use Rattle.plane_fours.specs.Fours.{LowPairs, BoundedAll, pairIn, firstLanes, lastLanes, priLanes, secLanes};
+ghost use Rattle.plane_fours.specs.Fours.{LowPairs, BoundedAll, pair_in, first_lanes, last_lanes, pri_lanes, sec_lanes};
 
 use filter_limits::Pair;
 use filter_rows::Strength;
@@ -20,7 +20,7 @@ pub struct Parts {
 // Sample j's tap and its opposite.
 fn pair(on: &[u16; 16], back: &[u16; 16], j: usize) -> Pair
     requires { j < 16 }
-    ensures { result ≡ pairIn on.now back.now j }
+    ensures { result ≡ pair_in on.now back.now j }
 {
     Pair {
         on: on[j],
@@ -38,7 +38,7 @@ pub fn first(
     f: Strength,
 ) -> Parts
     requires { AllLow c.now × LowPairs a0.now b0.now a1.now b1.now × InRange f }
-    ensures { result ≡ firstLanes c.now a0.now b0.now a1.now b1.now f }
+    ensures { result ≡ first_lanes c.now a0.now b0.now a1.now b1.now f }
 {
     let mut sum = [0i16; 16];
     let mut lo = [0u16; 16];
@@ -73,7 +73,7 @@ pub fn last(
 ) -> [u16; 16]
     requires { BoundedAll m × AllLow c.now × LowPairs a0.now b0.now a1.now b1.now × LowPairs a2.now b2.now a3.now b3.now
         × InRange g }
-    ensures { result ≡ lastLanes m c.now a0.now b0.now a1.now b1.now
+    ensures { result ≡ last_lanes m c.now a0.now b0.now a1.now b1.now
         a2.now b2.now a3.now b3.now g }
 {
     let mut out = [0u16; 16];
@@ -102,7 +102,7 @@ pub fn pri(
     f: Strength,
 ) -> [u16; 16]
     requires { AllLow c.now × LowPairs a0.now b0.now a1.now b1.now × InRange f }
-    ensures { result ≡ priLanes c.now a0.now b0.now a1.now b1.now f }
+    ensures { result ≡ pri_lanes c.now a0.now b0.now a1.now b1.now f }
 {
     let mut out = [0u16; 16];
     for j in 0..16usize {
@@ -126,7 +126,7 @@ pub fn sec(
     f: Strength,
 ) -> [u16; 16]
     requires { AllLow c.now × LowPairs a0.now b0.now a1.now b1.now × LowPairs a2.now b2.now a3.now b3.now × InRange f }
-    ensures { result ≡ secLanes c.now a0.now b0.now a1.now b1.now a2.now
+    ensures { result ≡ sec_lanes c.now a0.now b0.now a1.now b1.now a2.now
         b2.now a3.now b3.now f }
 {
     let mut out = [0u16; 16];

@@ -1,14 +1,14 @@
 // Four rows of four samples of a block, sixteen at once, their taps straight from the plane.
 ghost use Rattle.std.specs.Prelude.{◌≡◌, ◌+◌, ◌*◌, ◌<◌, ◌≤◌, length, slice_index};
-ghost use Rattle.arith_sample.specs.Sample.{freeOf};
+ghost use Rattle.arith_sample.specs.Sample.{free_of};
 ghost use Rattle.arith_sample.specs.Upto.{upto};
-ghost use Rattle.filter_rows.specs.Sums.{InRange, priAt, secAt, filteredAt};
-ghost use Rattle.filter_kernel.specs.Kernel.{kernelAt};
+ghost use Rattle.filter_rows.specs.Sums.{InRange, pri_at, sec_at, filtered_at};
+ghost use Rattle.filter_kernel.specs.Kernel.{kernel_at};
 ghost use Rattle.plane_taps.specs.Plain.{AllLow};
-ghost use Rattle.plane_taps.specs.Steps.{tapsIn};
+ghost use Rattle.plane_taps.specs.Steps.{taps_in};
 ghost use Rattle.plane_taps.specs.Reach.{Around, Along};
-ghost use Rattle.plane_rows.specs.Rows.{Strong, priIn, secIn, placedRows, Stored};
-ghost use Rattle.plane_fours.specs.Fours.{fourAt, centreRun, onRun, backRun, firstRun};
+ghost use Rattle.plane_rows.specs.Rows.{Strong, pri_in, sec_in, placed_rows, Stored};
+ghost use Rattle.plane_fours.specs.Fours.{four_at, centre_run, on_run, back_run, first_run};
 
 use crate::lanes::Parts;
 use filter_rows::{Strength, Taps};
@@ -18,7 +18,7 @@ mod lanes; // lanes.rt: sixteen samples from their taps
 // Four rows of four, from k on.
 fn run(src: &[u16], w: usize, k: usize) -> [u16; 16]
     requires { (k + (3 * w + 4) ≤ length src.now) × (w ≤ 4096) }
-    ensures { result ≡ centreRun src.now w k }
+    ensures { result ≡ centre_run src.now w k }
 {
     let mut v = [0u16; 16];
     for i in 0..4usize {
@@ -34,14 +34,14 @@ fn run(src: &[u16], w: usize, k: usize) -> [u16; 16]
 // Their taps at an offset, and the opposite ones.
 fn on(src: &[u16], w: usize, k: usize, o: usize) -> [u16; 16]
     requires { (w ≤ 4096) × Along (length src.now) k (3 * w + 4) o }
-    ensures { result ≡ onRun src.now w k o }
+    ensures { result ≡ on_run src.now w k o }
 {
     run(src, w, std::num::wrapping_add_usize(k, o))
 }
 
 fn back(src: &[u16], w: usize, k: usize, o: usize) -> [u16; 16]
     requires { (w ≤ 4096) × Along (length src.now) k (3 * w + 4) o }
-    ensures { result ≡ backRun src.now w k o }
+    ensures { result ≡ back_run src.now w k o }
 {
     run(src, w, std::num::wrapping_sub_usize(k, o))
 }
@@ -49,7 +49,7 @@ fn back(src: &[u16], w: usize, k: usize, o: usize) -> [u16; 16]
 // Their primary taps.
 fn first(src: &[u16], w: usize, k: usize, t: Taps, f: Strength) -> Parts
     requires { Around (length src.now) k (3 * w + 4) t × AllLow src.now × (w ≤ 4096) × InRange f }
-    ensures { result ≡ firstRun src.now w k t f }
+    ensures { result ≡ first_run src.now w k t f }
 {
     let c = run(src, w, k);
     let a0 = on(src, w, k, t.p0);
@@ -62,7 +62,7 @@ fn first(src: &[u16], w: usize, k: usize, t: Taps, f: Strength) -> Parts
 // The sixteen samples, filtered with both strengths.
 fn both(src: &[u16], w: usize, k: usize, t: Taps, f: Strength, g: Strength) -> [u16; 16]
     requires { Around (length src.now) k (3 * w + 4) t × AllLow src.now × (w ≤ 4096) × InRange f × InRange g }
-    ensures { result ≡ upto (λ j. filteredAt src.now (fourAt w k j) t f g) 16 }
+    ensures { result ≡ upto (λ j. filtered_at src.now (four_at w k j) t f g) 16 }
 {
     let m = first(src, w, k, t, f);
     let c = run(src, w, k);
@@ -80,7 +80,7 @@ fn both(src: &[u16], w: usize, k: usize, t: Taps, f: Strength, g: Strength) -> [
 // With the primary strength alone.
 fn pri(src: &[u16], w: usize, k: usize, t: Taps, f: Strength) -> [u16; 16]
     requires { Around (length src.now) k (3 * w + 4) t × AllLow src.now × (w ≤ 4096) × InRange f }
-    ensures { result ≡ upto (λ j. freeOf (slice_index src.now (fourAt w k j)) (priAt src.now (fourAt w k j) t f)) 16 }
+    ensures { result ≡ upto (λ j. free_of (slice_index src.now (four_at w k j)) (pri_at src.now (four_at w k j) t f)) 16 }
 {
     let c = run(src, w, k);
     let a0 = on(src, w, k, t.p0);
@@ -93,7 +93,7 @@ fn pri(src: &[u16], w: usize, k: usize, t: Taps, f: Strength) -> [u16; 16]
 // With the secondary strength alone.
 fn sec(src: &[u16], w: usize, k: usize, t: Taps, f: Strength) -> [u16; 16]
     requires { Around (length src.now) k (3 * w + 4) t × AllLow src.now × (w ≤ 4096) × InRange f }
-    ensures { result ≡ upto (λ j. freeOf (slice_index src.now (fourAt w k j)) (secAt src.now (fourAt w k j) t f)) 16 }
+    ensures { result ≡ upto (λ j. free_of (slice_index src.now (four_at w k j)) (sec_at src.now (four_at w k j) t f)) 16 }
 {
     let c = run(src, w, k);
     let a0 = on(src, w, k, t.q0);
@@ -110,7 +110,7 @@ fn sec(src: &[u16], w: usize, k: usize, t: Taps, f: Strength) -> [u16; 16]
 // The filtered samples. The taps of a strength 0 are left out.
 fn four(src: &[u16], w: usize, k: usize, t: Taps, f: Strength, g: Strength) -> [u16; 16]
     requires { Around (length src.now) k (3 * w + 4) t × AllLow src.now × (w ≤ 4096) × InRange f × InRange g }
-    ensures { result ≡ upto (λ j. kernelAt src.now (fourAt w k j) t f g) 16 }
+    ensures { result ≡ upto (λ j. kernel_at src.now (four_at w k j) t f g) 16 }
 {
     if f.s == 0 {
         if g.s == 0 {
@@ -127,7 +127,7 @@ fn four(src: &[u16], w: usize, k: usize, t: Taps, f: Strength, g: Strength) -> [
 // Stores them from index `to` on.
 fn store(dst: &mut [u16], w: usize, to: usize, v: [u16; 16])
     requires { (to + (3 * w + 4) ≤ length dst.old) × (w ≤ 4096) }
-    ensures { dst.new ≡ placedRows dst.old w to v 4 4 }
+    ensures { dst.new ≡ placed_rows dst.old w to v 4 4 }
 {
     for i in 0..4usize {
         let at = to + i * w;
@@ -153,8 +153,8 @@ pub fn rows(
     sh2: u32,
 )
     requires all_low { AllLow src.now × (w ≤ 4096) × (dir < 8) × Strong s sh near s2 sh2 }
-    requires around { Around (length src.now) at (3 * w + 4) (tapsIn w dir) × (to + (3 * w + 4) ≤ length dst.old) }
-    ensures { Stored src.now dst.old dst.new w at to (tapsIn w dir) (priIn s sh near) (secIn s2 sh2) 4 4 }
+    requires around { Around (length src.now) at (3 * w + 4) (taps_in w dir) × (to + (3 * w + 4) ≤ length dst.old) }
+    ensures { Stored src.now dst.old dst.new w at to (taps_in w dir) (pri_in s sh near) (sec_in s2 sh2) 4 4 }
 {
     let t = plane_taps::steps::taps(dir, w, 1);
     let f = Strength {

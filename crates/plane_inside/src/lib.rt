@@ -1,11 +1,11 @@
 // The test of a block's place.
 ghost use Rattle.std.specs.Prelude.{◌≡◌, ◌≤◌};
-ghost use Rattle.plane_inside.specs.Inner.{innerBlock};
+ghost use Rattle.plane_inside.specs.Inner.{inner_block};
 
 // Whether a block lies two samples or more inside a plane w by h.
 pub fn inside(w: usize, h: usize, x: usize, y: usize, bw: usize, bh: usize) -> bool
     requires { (x ≤ 4096) × (y ≤ 4096) × (bw ≤ 8) × (bh ≤ 8) }
-    ensures { result ≡ innerBlock w h x y bw bh }
+    ensures { result ≡ inner_block w h x y bw bh }
 {
     if x < 2 {
         return false;

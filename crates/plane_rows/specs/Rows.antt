@@ -2,12 +2,12 @@
 use Rattle.std.specs.Prelude.{◌≡◌, List, ℕ, zero, suc, ◌+◌, ◌-◌, ◌*◌, ◌^◌, ◌≤◌, ◌<◌, get_or, set}
 use Rattle.cdef_spec.specs.Standard.{Tap}
 use Rattle.cdef_spec.specs.Document01.{unmarked}
-use Rattle.cdef_spec.specs.LoopForm.{putBlock}
-use Rattle.filter_rows.specs.Place.{onFrom, backFrom}
+use Rattle.cdef_spec.specs.LoopForm.{put_block}
+use Rattle.filter_rows.specs.Place.{on_from, back_from}
 use Rattle.filter_rows.specs.Pairs.{pair_of}
 use Rattle.filter_rows.specs.declared.Taps.{Taps}
 use Rattle.filter_rows.specs.declared.Strength.{Strength}
-use Rattle.filter_kernel.specs.Kernel.{kernelAt}
+use Rattle.filter_kernel.specs.Kernel.{kernel_at}
 use Rattle.plane_taps.specs.Steps.{Reach}
 use Rattle.plane_taps.specs.Plain.{first_of}
 use Rattle.plane_taps.specs.declared.plain.Part.{Part}
@@ -23,11 +23,11 @@ pub record Strong (s sh near s2 sh2 : ℕ) : Type 0 where
   pub sec : s2 ≤ 240
   pub sec-shift : sh2 ≤ 15
 
-unfoldable pub priIn : ℕ → ℕ → ℕ → Strength
-priIn s sh near = record { s = s; sh = sh; w0 = near; w1 = 6 - near }
+unfoldable pub pri_in : ℕ → ℕ → ℕ → Strength
+pri_in s sh near = record { s = s; sh = sh; w0 = near; w1 = 6 - near }
 
-unfoldable pub secIn : ℕ → ℕ → Strength
-secIn s sh = record { s = s; sh = sh; w0 = 2; w1 = 1 }
+unfoldable pub sec_in : ℕ → ℕ → Strength
+sec_in s sh = record { s = s; sh = sh; w0 = 2; w1 = 1 }
 
 -- ---- one sample
 
@@ -43,18 +43,18 @@ placed d to v from zero = d
 placed d to v from (suc n) = set (placed d to v from n) (to + n) (get_or v (from + n) 0)
 
 -- n rows of m
-unfoldable pub placedRows : List ℕ → ℕ → ℕ → List ℕ → ℕ → ℕ → List ℕ
-placedRows d w to v m zero = d
-placedRows d w to v m (suc n) = placed (placedRows d w to v m n) (to + n * w) v (n * m) m
+unfoldable pub placed_rows : List ℕ → ℕ → ℕ → List ℕ → ℕ → ℕ → List ℕ
+placed_rows d w to v m zero = d
+placed_rows d w to v m (suc n) = placed (placed_rows d w to v m n) (to + n * w) v (n * m) m
 
 -- v has the kernel's samples of n rows of m, from index `at` of the plane on
 pub record KernelRows (l v : List ℕ) (w at : ℕ) (t : Taps) (f g : Strength) (m n : ℕ) : Type 0 where
-  pub all : (i j : ℕ) → i < n → j < m → get_or v (i * m + j) 0 ≡ kernelAt l (at + i * w + j) t f g
+  pub all : (i j : ℕ) → i < n → j < m → get_or v (i * m + j) 0 ≡ kernel_at l (at + i * w + j) t f g
 
 -- the kernel's samples from index `at` of the plane on, as the destination's from row y and column x on
-unfoldable pub insideTap : List ℕ → ℕ → ℕ → Taps → Strength → Strength → ℕ → ℕ → ℕ → ℕ → Tap
-insideTap l w at t f g y x r c = unmarked (kernelAt l (at + ((r - y) * w + (c - x))) t f g)
+unfoldable pub inside_tap : List ℕ → ℕ → ℕ → Taps → Strength → Strength → ℕ → ℕ → ℕ → ℕ → Tap
+inside_tap l w at t f g y x r c = unmarked (kernel_at l (at + ((r - y) * w + (c - x))) t f g)
 
 -- the destination d has become `last`: n rows of `cols` filtered samples, from index `to` on, whatever row y and column x that is
 pub record Stored (l d last : List ℕ) (w at to : ℕ) (t : Taps) (f g : Strength) (cols n : ℕ) : Type 0 where
-  pub block : (y x : ℕ) → to ≡ y * w + x → last ≡ putBlock d w (insideTap l w at t f g y x) y x cols n
+  pub block : (y x : ℕ) → to ≡ y * w + x → last ≡ put_block d w (inside_tap l w at t f g y x) y x cols n

@@ -9,13 +9,13 @@ use Rattle.std.proofs.Math.ListN.{get_or, length-set}
 use Rattle.std.proofs.Math.Seq.{get_or-set_other}
 use Rattle.cdef_spec.specs.Standard.{Tap, sample}
 use Rattle.cdef_spec.specs.Document01.{unmarked, or_else}
-use Rattle.cdef_spec.specs.LoopForm.{put, putRow, putBlock}
+use Rattle.cdef_spec.specs.LoopForm.{put, put_row, put_block}
 use Rattle.filter_rows.specs.Sums.{InRange}
 use Rattle.filter_rows.specs.declared.Taps.{Taps}
 use Rattle.filter_rows.specs.declared.Strength.{Strength}
-use Rattle.filter_kernel.specs.Kernel.{kernelAt}
+use Rattle.filter_kernel.specs.Kernel.{kernel_at}
 use Rattle.plane_taps.specs.Plain.{AllLow}
-use Rattle.plane_rows.specs.Rows.{placed, placedRows, KernelRows, insideTap, Stored}
+use Rattle.plane_rows.specs.Rows.{placed, placed_rows, KernelRows, inside_tap, Stored}
 use Rattle.plane_rows.specs.LaneLaws.{kernel-below}
 
 -- ---- one entry more
@@ -36,15 +36,15 @@ pub placed-next : (d l v : List ℕ) (to j : ℕ) → d ≡ placed l to v 0 j �
 placed-next d l v to j e = let k : 0 + j ≡ j = omega arith in rw (placed-more l to v 0 j, k, e)
 
 module _ (d : List ℕ) (w to : ℕ) (v : List ℕ) (m : ℕ) where
-  pub rows_none : placedRows d w to v m 0 ≡ d
-  unfolding placedRows
+  pub rows_none : placed_rows d w to v m 0 ≡ d
+  unfolding placed_rows
   rows_none = refl
 
-  pub rows_more : (n : ℕ) → placedRows d w to v m (n + 1) ≡ placed (placedRows d w to v m n) (to + n * w) v (n * m) m
-  unfolding placedRows
+  pub rows_more : (n : ℕ) → placed_rows d w to v m (n + 1) ≡ placed (placed_rows d w to v m n) (to + n * w) v (n * m) m
+  unfolding placed_rows
   rows_more n = rw (add-one n)
 
-pub rows_next : (l d last v : List ℕ) (w to i m : ℕ) → d ≡ placedRows l w to v m i → last ≡ placed d (to + i * w) v (i * m) m → last ≡ placedRows l w to v m (i + 1)
+pub rows_next : (l d last v : List ℕ) (w to i m : ℕ) → d ≡ placed_rows l w to v m i → last ≡ placed d (to + i * w) v (i * m) m → last ≡ placed_rows l w to v m (i + 1)
 rows_next l d last v w to i m e h = h ∙ rw (rows_more l w to v m i, e)
 
 -- ---- what a list holds in which entries were placed
@@ -78,10 +78,10 @@ module _ (d : List ℕ) (to : ℕ) (v : List ℕ) (from : ℕ) where
 
 -- c rows of eight more
 module _ (l : List ℕ) (w at : ℕ) (t : Taps) (f g : Strength) where
-  pub kept : (d last v : List ℕ) (i c : ℕ) → KernelRows l d w at t f g 8 i → ((r j : ℕ) → r < c → j < 8 → get_or v (r * 8 + j) 0 ≡ kernelAt l (at + (i + r) * w + j) t f g) → i * 8 + c * 8 ≤ length d → last ≡ placed d (i * 8) v 0 (c * 8) → KernelRows l last w at t f g 8 (i + c)
+  pub kept : (d last v : List ℕ) (i c : ℕ) → KernelRows l d w at t f g 8 i → ((r j : ℕ) → r < c → j < 8 → get_or v (r * 8 + j) 0 ≡ kernel_at l (at + (i + r) * w + j) t f g) → i * 8 + c * 8 ≤ length d → last ≡ placed d (i * 8) v 0 (c * 8) → KernelRows l last w at t f g 8 (i + c)
   kept d last v i c old new room e = record { all = λ r j hr hj. rw e (go r j hr hj (dec_le i r)) }
     where
-      go : (r j : ℕ) → r < i + c → j < 8 → Dec (i ≤ r) → get_or (placed d (i * 8) v 0 (c * 8)) (r * 8 + j) 0 ≡ kernelAt l (at + r * w + j) t f g
+      go : (r j : ℕ) → r < i + c → j < 8 → Dec (i ≤ r) → get_or (placed d (i * 8) v 0 (c * 8)) (r * 8 + j) 0 ≡ kernel_at l (at + r * w + j) t f g
       go r j hr hj (no q) = placed-before d (i * 8) v 0 (r * 8 + j) (c * 8) (omega (arith, q)) ∙ old.all r j (omega (arith, q)) hj
       go r j hr hj (yes q) =
           let a : r * 8 + j ≡ i * 8 + ((r - i) * 8 + j) = omega arith in
@@ -95,8 +95,8 @@ sampled : (v : ℕ) → v < 16384 → unmarked v ≡ sample v
 unfolding unmarked
 sampled v h = rw (ne_eqb v 16384 (λ e. omega (arith, e)))
 
-row-placed : (d v : List ℕ) (w r x from : ℕ) (F : ℕ → ℕ → Tap) (n : ℕ) → ((j : ℕ) → j < n → F r (x + j) ≡ sample (get_or v (from + j) 0)) → placed d (r * w + x) v from n ≡ putRow d w F r x n
-unfolding placed putRow put or_else
+row-placed : (d v : List ℕ) (w r x from : ℕ) (F : ℕ → ℕ → Tap) (n : ℕ) → ((j : ℕ) → j < n → F r (x + j) ≡ sample (get_or v (from + j) 0)) → placed d (r * w + x) v from n ≡ put_row d w F r x n
+unfolding placed put_row put or_else
 row-placed d v w r x from F zero h = refl
 row-placed d v w r x from F (suc n) h =
     let e : r * w + x + n ≡ r * w + (x + n) = omega arith in
@@ -106,22 +106,22 @@ row-placed d v w r x from F (suc n) h =
 
 module _ (l : List ℕ) (low : AllLow l) (w at : ℕ) (t : Taps) (f g : Strength) (rf : InRange f) (rg : InRange g) where
   -- row i and column j, from row y and column x on
-  tap-is : (y x i j : ℕ) → insideTap l w at t f g y x (y + i) (x + j) ≡ sample (kernelAt l (at + (i * w + j)) t f g)
-  unfolding insideTap
+  tap-is : (y x i j : ℕ) → inside_tap l w at t f g y x (y + i) (x + j) ≡ sample (kernel_at l (at + (i * w + j)) t f g)
+  unfolding inside_tap
   tap-is y x i j =
       let a : y + i - y ≡ i = omega arith in
       let b : x + j - x ≡ j = omega arith in
       rw (a, b) (sampled _ (kernel-below l low (at + (i * w + j)) t f g rf rg))
 
-  pub rows_inside : (d v : List ℕ) (to y x m n : ℕ) → to ≡ y * w + x → KernelRows l v w at t f g m n → placedRows d w to v m n ≡ putBlock d w (insideTap l w at t f g y x) y x m n
-  unfolding placedRows putBlock
+  pub rows_inside : (d v : List ℕ) (to y x m n : ℕ) → to ≡ y * w + x → KernelRows l v w at t f g m n → placed_rows d w to v m n ≡ put_block d w (inside_tap l w at t f g y x) y x m n
+  unfolding placed_rows put_block
   rows_inside d v to y x m zero e h = refl
   rows_inside d v to y x m (suc n) e h =
       let a : to + n * w ≡ (y + n) * w + x = omega arith in
       rw (rows_inside d v to y x m n e (record { all = λ i j k. h.all i j (omega arith) }), a)
-      (row-placed _ v w (y + n) x (n * m) (insideTap l w at t f g y x) m (λ j k.
+      (row-placed _ v w (y + n) x (n * m) (inside_tap l w at t f g y x) m (λ j k.
       let b : at + (n * w + j) ≡ at + n * w + j = omega arith in
       tap-is y x n j ∙ ap sample (rw b (sym (h.all n j (omega arith) k)))))
 
-  pub stored : (d last v : List ℕ) (to i n : ℕ) → i ≡ n → KernelRows l v w at t f g 8 i → last ≡ placedRows d w to v 8 n → Stored l d last w at to t f g 8 n
+  pub stored : (d last v : List ℕ) (to i n : ℕ) → i ≡ n → KernelRows l v w at t f g 8 i → last ≡ placed_rows d w to v 8 n → Stored l d last w at to t f g 8 n
   stored d last v to i n e k h = record { block = λ y x p. h ∙ rows_inside d v to y x 8 n p (rw e at k) }

@@ -1,13 +1,13 @@
 // Rows of eight samples of a block two samples or more inside a plane without marks: their taps straight from the plane.
 ghost use Rattle.std.specs.Prelude.{◌≡◌, ℕ, ◌+◌, ◌*◌, ◌≤◌, ◌<◌, get_or, length};
-ghost use Rattle.arith_sample.specs.Sample.{freeOf};
+ghost use Rattle.arith_sample.specs.Sample.{free_of};
 ghost use Rattle.arith_sample.specs.Upto.{upto};
-ghost use Rattle.filter_rows.specs.Sums.{InRange, priAt, secAt, filteredAt};
-ghost use Rattle.filter_kernel.specs.Kernel.{kernelAt};
+ghost use Rattle.filter_rows.specs.Sums.{InRange, pri_at, sec_at, filtered_at};
+ghost use Rattle.filter_kernel.specs.Kernel.{kernel_at};
 ghost use Rattle.plane_taps.specs.Plain.{AllLow};
-ghost use Rattle.plane_taps.specs.Steps.{tapsIn};
+ghost use Rattle.plane_taps.specs.Steps.{taps_in};
 ghost use Rattle.plane_taps.specs.Reach.{Reached6, Around};
-ghost use Rattle.plane_rows.specs.Rows.{Strong, priIn, secIn, placed, placedRows, Stored};
+ghost use Rattle.plane_rows.specs.Rows.{Strong, pri_in, sec_in, placed, placed_rows, Stored};
 
 use filter_limits::Pair;
 use filter_rows::{Strength, Taps};
@@ -17,7 +17,7 @@ use plane_taps::plain;
 // The sample at k, filtered with both strengths.
 fn both_at(src: &[u16], k: usize, t: Taps, f: Strength, g: Strength) -> u16
     requires { (k < length src.now) × Reached6 (length src.now) k t × AllLow src.now × InRange f × InRange g }
-    ensures { result ≡ filteredAt src.now k t f g }
+    ensures { result ≡ filtered_at src.now k t f g }
 {
     let c = src[k];
     let m = plain::first(load(src, k, t.p0), load(src, k, t.p1), c, f);
@@ -31,7 +31,7 @@ fn both_at(src: &[u16], k: usize, t: Taps, f: Strength, g: Strength) -> u16
 // With the primary strength alone.
 fn pri_at(src: &[u16], k: usize, t: Taps, f: Strength) -> u16
     requires { (k < length src.now) × Reached6 (length src.now) k t × AllLow src.now × InRange f }
-    ensures { result ≡ freeOf (get_or src.now k 0) (priAt src.now k t f) }
+    ensures { result ≡ free_of (get_or src.now k 0) (pri_at src.now k t f) }
 {
     let c = src[k];
     let s = plain::pri_sum(load(src, k, t.p0), load(src, k, t.p1), c, f);
@@ -41,7 +41,7 @@ fn pri_at(src: &[u16], k: usize, t: Taps, f: Strength) -> u16
 // With the secondary strength alone.
 fn sec_at(src: &[u16], k: usize, t: Taps, f: Strength) -> u16
     requires { (k < length src.now) × Reached6 (length src.now) k t × AllLow src.now × InRange f }
-    ensures { result ≡ freeOf (get_or src.now k 0) (secAt src.now k t f) }
+    ensures { result ≡ free_of (get_or src.now k 0) (sec_at src.now k t f) }
 {
     let c = src[k];
     let q0 = load(src, k, t.q0);
@@ -54,7 +54,7 @@ fn sec_at(src: &[u16], k: usize, t: Taps, f: Strength) -> u16
 // Rows of eight from k on: filtered with both strengths, with one alone, and as they are.
 fn both_row(src: &[u16], k: usize, t: Taps, f: Strength, g: Strength) -> [u16; 8]
     requires { Around (length src.now) k 8 t × AllLow src.now × InRange f × InRange g }
-    ensures { result ≡ upto (λ j. filteredAt src.now (k + j) t f g) 8 }
+    ensures { result ≡ upto (λ j. filtered_at src.now (k + j) t f g) 8 }
 {
     let mut out = [0u16; 8];
     for j in 0..8usize {
@@ -65,7 +65,7 @@ fn both_row(src: &[u16], k: usize, t: Taps, f: Strength, g: Strength) -> [u16; 8
 
 fn pri_row(src: &[u16], k: usize, t: Taps, f: Strength) -> [u16; 8]
     requires { Around (length src.now) k 8 t × AllLow src.now × InRange f }
-    ensures { result ≡ upto (λ j. freeOf (get_or src.now (k + j) 0) (priAt src.now (k + j) t f)) 8 }
+    ensures { result ≡ upto (λ j. free_of (get_or src.now (k + j) 0) (pri_at src.now (k + j) t f)) 8 }
 {
     let mut out = [0u16; 8];
     for j in 0..8usize {
@@ -76,7 +76,7 @@ fn pri_row(src: &[u16], k: usize, t: Taps, f: Strength) -> [u16; 8]
 
 fn sec_row(src: &[u16], k: usize, t: Taps, f: Strength) -> [u16; 8]
     requires { Around (length src.now) k 8 t × AllLow src.now × InRange f }
-    ensures { result ≡ upto (λ j. freeOf (get_or src.now (k + j) 0) (secAt src.now (k + j) t f)) 8 }
+    ensures { result ≡ upto (λ j. free_of (get_or src.now (k + j) 0) (sec_at src.now (k + j) t f)) 8 }
 {
     let mut out = [0u16; 8];
     for j in 0..8usize {
@@ -99,7 +99,7 @@ fn centre_row(src: &[u16], k: usize) -> [u16; 8]
 // The filtered row. The taps of a strength 0 are left out.
 fn row(src: &[u16], k: usize, t: Taps, f: Strength, g: Strength) -> [u16; 8]
     requires { Around (length src.now) k 8 t × AllLow src.now × InRange f × InRange g }
-    ensures { result ≡ upto (λ j. kernelAt src.now (k + j) t f g) 8 }
+    ensures { result ≡ upto (λ j. kernel_at src.now (k + j) t f g) 8 }
 {
     if f.s == 0 {
         if g.s == 0 {
@@ -127,7 +127,7 @@ fn keep(all: &mut [u16; 64], to: usize, row: [u16; 8])
 // where destination and plane have the same address modulo 4,096 (docs/DECISIONS.md, 77).
 pub fn store(dst: &mut [u16], w: usize, to: usize, all: &[u16; 64], n: usize)
     requires { (n ≤ 8) × ((i : ℕ) → i < n → to + i * w + 8 ≤ length dst.old) }
-    ensures { dst.new ≡ placedRows dst.old w to all.now 8 n }
+    ensures { dst.new ≡ placed_rows dst.old w to all.now 8 n }
 {
     for i in 0..n {
         let at = to + i * w;
@@ -154,8 +154,8 @@ pub fn rows(
     sh2: u32,
 )
     requires all_low { AllLow src.now × (w ≤ 4096) × (n ≤ 8) × (dir < 8) × Strong s sh near s2 sh2 }
-    requires by_index { (i : ℕ) → i < n → Around (length src.now) (at + i * w) 8 (tapsIn w dir) × (to + i * w + 8 ≤ length dst.old) }
-    ensures { Stored src.now dst.old dst.new w at to (tapsIn w dir) (priIn s sh near) (secIn s2 sh2) 8 n }
+    requires by_index { (i : ℕ) → i < n → Around (length src.now) (at + i * w) 8 (taps_in w dir) × (to + i * w + 8 ≤ length dst.old) }
+    ensures { Stored src.now dst.old dst.new w at to (taps_in w dir) (pri_in s sh near) (sec_in s2 sh2) 8 n }
 {
     let t = plane_taps::steps::taps(dir, w, 1);
     let f = Strength {

@@ -1,13 +1,13 @@
 -- Taps that lie in a list of len samples. Definitions only.
 use Rattle.std.specs.Prelude.{ℕ, ◌+◌, ◌^◌, ◌<◌, ◌≤◌}
-use Rattle.filter_rows.specs.Place.{onFrom, backFrom}
+use Rattle.filter_rows.specs.Place.{on_from, back_from}
 use Rattle.filter_rows.specs.declared.Taps.{Taps}
 use Rattle.plane_taps.specs.Steps.{Reach}
 
 -- the tap at an offset from k, and the opposite one
 pub record Reached (len k o : ℕ) : Type 0 where
-  pub on : onFrom k o < len
-  pub back : backFrom k o < len
+  pub on : on_from k o < len
+  pub back : back_from k o < len
 
 pub record Reached6 (len k : ℕ) (t : Taps) : Type 0 where
   pub p0 : Reached len k t.p0

@@ -1,15 +1,15 @@
 -- Where the taps of a row lie.
 use Rattle.std.specs.Prelude.{◌≡◌, ℕ, ◌+◌, ◌%◌, ◌^◌, ◌<◌, ◌≤◌}
 use Rattle.std.proofs.Common.{arith}
-use Rattle.filter_rows.specs.Place.{onFrom, backFrom}
+use Rattle.filter_rows.specs.Place.{on_from, back_from}
 use Rattle.filter_rows.specs.declared.Taps.{Taps}
 use Rattle.plane_taps.specs.StepLaws.{on-near, back-near, on-more, back_more}
 use Rattle.plane_taps.specs.Steps.{Reach, Reach6}
 use Rattle.plane_taps.specs.Reach.{Reached, Reached6, Along, Around}
 
 -- the index from which an offset leads to k
-pub back_any : (k o r : ℕ) → o < 2 ^ 64 → r < 2 ^ 64 → (r + o) % 2 ^ 64 ≡ k → r ≡ backFrom k o
-unfolding backFrom
+pub back_any : (k o r : ℕ) → o < 2 ^ 64 → r < 2 ^ 64 → (r + o) % 2 ^ 64 ≡ k → r ≡ back_from k o
+unfolding back_from
 back_any k o r ho hr e = omega arith
 
 -- ---- one offset
@@ -25,10 +25,10 @@ module _ {len k n o : ℕ} (a : Along len k n o) (j : ℕ) (h : j < n) where
       record { on = omega (arith, p.0, a.high); back = omega (arith, q.0, a.high) }
 
   -- from an index further on
-  pub on-along : onFrom (k + j) o ≡ onFrom k o + j
+  pub on-along : on_from (k + j) o ≡ on_from k o + j
   on-along = on-more a.m k o a.low (omega (arith, along-fits)) a.reach j along-fits
 
-  pub back-along : backFrom (k + j) o ≡ backFrom k o + j
+  pub back-along : back_from (k + j) o ≡ back_from k o + j
   back-along = back_more a.m k o a.low (omega (arith, along-fits)) a.reach j along-fits
 
 -- all n samples of the run lie in the list
@@ -36,10 +36,10 @@ module _ {len k n o : ℕ} (a : Along len k n o) where
   fits : k + a.m < 2 ^ 63
   fits = omega (arith, a.high, a.small)
 
-  pub on-run : onFrom k o + n ≤ len
+  pub on-run : on_from k o + n ≤ len
   on-run = let p = on-near a.m k o a.low fits a.reach in omega (arith, p.0, a.high)
 
-  pub back-run : backFrom k o + n ≤ len
+  pub back-run : back_from k o + n ≤ len
   back-run = let p = back-near a.m k o a.low fits a.reach in omega (arith, p.0, a.high)
 
 -- ---- all six

@@ -4,34 +4,34 @@ use Rattle.std.proofs.Common.{sym, ap, ◌∙◌, inl, inr, mul-le-mul_right, mo
 use Rattle.std.proofs.Math.Logic.{⊎_elim}
 use Rattle.std.proofs.Math.Decide.{dec_le}
 use native.Mathlib.Omega.{arith}
-use Rattle.cdef_spec.specs.CodeForm.{rows, cols, row_of, colOf}
+use Rattle.cdef_spec.specs.CodeForm.{rows, cols, row_of, col_of}
 use Rattle.cdef_spec.specs.PlaceLaws.{steps_low}
-use Rattle.filter_rows.specs.Place.{onFrom, backFrom}
-use Rattle.plane_taps.specs.Steps.{wrappedStep, stepBy, tapsBy, tapsIn, Reach, Reach6}
+use Rattle.filter_rows.specs.Place.{on_from, back_from}
+use Rattle.plane_taps.specs.Steps.{wrapped_step, step_by, taps_by, taps_in, Reach, Reach6}
 
 -- ---- an offset of at most m
 
 module _ (m k o : ℕ) (lo : m ≤ k) (hi : k + m < 2 ^ 63) (n : Reach m o) where
-  pub on-near : (onFrom k o ≤ k + m) × (k ≤ onFrom k o + m)
-  unfolding onFrom
+  pub on-near : (on_from k o ≤ k + m) × (k ≤ on_from k o + m)
+  unfolding on_from
   on-near = ⊎_elim (λ w. (omega arith, omega arith)) (λ w. (omega arith, omega arith)) n.reach
 
-  pub back-near : (backFrom k o ≤ k + m) × (k ≤ backFrom k o + m)
-  unfolding backFrom
+  pub back-near : (back_from k o ≤ k + m) × (k ≤ back_from k o + m)
+  unfolding back_from
   back-near = ⊎_elim (λ w. (omega arith, omega arith)) (λ w. (omega arith, omega arith)) n.reach
 
   -- the index from which the offset leads to k
-  pub back_is : (r : ℕ) → r < 2 ^ 64 → (r + o) % 2 ^ 64 ≡ k → r ≡ backFrom k o
-  unfolding backFrom
+  pub back_is : (r : ℕ) → r < 2 ^ 64 → (r + o) % 2 ^ 64 ≡ k → r ≡ back_from k o
+  unfolding back_from
   back_is r h e = ⊎_elim (λ w. omega arith) (λ w. omega arith) n.reach
 
   -- from an index further on
-  pub on-more : (j : ℕ) → k + j + m < 2 ^ 63 → onFrom (k + j) o ≡ onFrom k o + j
-  unfolding onFrom
+  pub on-more : (j : ℕ) → k + j + m < 2 ^ 63 → on_from (k + j) o ≡ on_from k o + j
+  unfolding on_from
   on-more j h = ⊎_elim (λ w. omega arith) (λ w. omega arith) n.reach
 
-  pub back_more : (j : ℕ) → k + j + m < 2 ^ 63 → backFrom (k + j) o ≡ backFrom k o + j
-  unfolding backFrom
+  pub back_more : (j : ℕ) → k + j + m < 2 ^ 63 → back_from (k + j) o ≡ back_from k o + j
+  unfolding back_from
   back_more j h = ⊎_elim (λ w. omega arith) (λ w. omega arith) n.reach
 
 -- ---- a wrapped difference s - m: it is near, and leads from k to t forward, to u back
@@ -54,16 +54,16 @@ module _ (s m : ℕ) (hs : s ≤ 2 * m) (hm : m ≤ 2 ^ 32) where
       go (no l) = inr (omega (arith, less-down (omega arith)), omega (arith, less-down (omega arith)))
 
   module _ (k : ℕ) (hk : m ≤ k) (hi : k ≤ 2 ^ 40) where
-    pub leads-on : (t : ℕ) → k + s ≡ t + m → onFrom k ((s + (2 ^ 64 - m)) % 2 ^ 64) ≡ t
-    unfolding onFrom
+    pub leads-on : (t : ℕ) → k + s ≡ t + m → on_from k ((s + (2 ^ 64 - m)) % 2 ^ 64) ≡ t
+    unfolding on_from
     leads-on t e = go (dec_le m s)
       where
         go : Dec (m ≤ s) → (k + (s + (2 ^ 64 - m)) % 2 ^ 64) % 2 ^ 64 ≡ t
         go (yes l) = let q : k + (s - m) ≡ t = omega arith in rw (less-up l, q) (mod-eq_of_lt (omega arith))
         go (no l) = let q : k + (2 ^ 64 - (m - s)) ≡ t + 2 ^ 64 = omega arith in rw (less-down (omega arith), q) (past-wrap t (omega arith))
 
-    pub leads-back : (u : ℕ) → k + m ≡ u + s → backFrom k ((s + (2 ^ 64 - m)) % 2 ^ 64) ≡ u
-    unfolding backFrom
+    pub leads-back : (u : ℕ) → k + m ≡ u + s → back_from k ((s + (2 ^ 64 - m)) % 2 ^ 64) ≡ u
+    unfolding back_from
     leads-back u e = go (dec_le m s)
       where
         go : Dec (m ≤ s) → (k + (2 ^ 64 - (s + (2 ^ 64 - m)) % 2 ^ 64)) % 2 ^ 64 ≡ u
@@ -76,12 +76,12 @@ module _ (w p : ℕ) (hw : w ≤ 4096) (hp : p ≤ 4096) where
   step-low : (r2 c2 : ℕ) → r2 ≤ 4 → c2 ≤ 4 → r2 * w + c2 * p ≤ 2 * (2 * w + 2 * p)
   step-low r2 c2 hr hc = omega (arith, mul-le-mul_right w hr, mul-le-mul_right p hc)
 
-  near_by : (dir k : ℕ) → dir < 8 → k < 2 → Reach (2 * w + 2 * p) (stepBy w p dir k)
-  unfolding stepBy wrappedStep
-  near_by dir k hd hk = let l = steps_low dir k hd hk in less-near (row_of dir k * w + colOf dir k * p) (2 * w + 2 * p) (step-low (row_of dir k) (colOf dir k) l.0 l.1) (omega arith)
+  near_by : (dir k : ℕ) → dir < 8 → k < 2 → Reach (2 * w + 2 * p) (step_by w p dir k)
+  unfolding step_by wrapped_step
+  near_by dir k hd hk = let l = steps_low dir k hd hk in less-near (row_of dir k * w + col_of dir k * p) (2 * w + 2 * p) (step-low (row_of dir k) (col_of dir k) l.0 l.1) (omega arith)
 
-  pub taps-near : (dir : ℕ) → dir < 8 → Reach6 (2 * w + 2 * p) (tapsBy w p dir)
-  unfolding tapsBy
+  pub taps-near : (dir : ℕ) → dir < 8 → Reach6 (2 * w + 2 * p) (taps_by w p dir)
+  unfolding taps_by
   taps-near dir h = record {
     p0 = near_by dir 0 h (omega arith);
     p1 = near_by dir 1 h (omega arith);
@@ -92,15 +92,15 @@ module _ (w p : ℕ) (hw : w ≤ 4096) (hp : p ≤ 4096) where
   }
 
   module _ (r2 c2 : ℕ) (hr : r2 ≤ 4) (hc : c2 ≤ 4) (k : ℕ) (hk : 2 * w + 2 * p ≤ k) (hi : k ≤ 2 ^ 40) where
-    pub step-on : (t : ℕ) → k + (r2 * w + c2 * p) ≡ t + (2 * w + 2 * p) → onFrom k (wrappedStep w p r2 c2) ≡ t
-    unfolding wrappedStep
+    pub step-on : (t : ℕ) → k + (r2 * w + c2 * p) ≡ t + (2 * w + 2 * p) → on_from k (wrapped_step w p r2 c2) ≡ t
+    unfolding wrapped_step
     step-on t e = leads-on (r2 * w + c2 * p) (2 * w + 2 * p) (step-low r2 c2 hr hc) (omega arith) k hk hi t e
 
-    pub step_back : (t : ℕ) → k + (2 * w + 2 * p) ≡ t + (r2 * w + c2 * p) → backFrom k (wrappedStep w p r2 c2) ≡ t
-    unfolding wrappedStep
+    pub step_back : (t : ℕ) → k + (2 * w + 2 * p) ≡ t + (r2 * w + c2 * p) → back_from k (wrapped_step w p r2 c2) ≡ t
+    unfolding wrapped_step
     step_back t e = leads-back (r2 * w + c2 * p) (2 * w + 2 * p) (step-low r2 c2 hr hc) (omega arith) k hk hi t e
 
-pub taps-reach : (w dir : ℕ) → w ≤ 4096 → dir < 8 → Reach6 (2 * w + 2) (tapsIn w dir)
+pub taps-reach : (w dir : ℕ) → w ≤ 4096 → dir < 8 → Reach6 (2 * w + 2) (taps_in w dir)
 taps-reach w dir hw h = taps-near w 1 hw (omega arith) dir h
 
 -- ---- in a plane: row y and column x
@@ -125,17 +125,17 @@ module _ (w y x r2 c2 : ℕ) (hw : w ≤ 4096) (hy : 2 ≤ y) (hh : y ≤ 4096) 
   low : y * w + x ≤ 2 ^ 40
   low = omega (arith, mul-le-mul_right w hh)
 
-  pub on-lands : onFrom (y * w + x) (wrappedStep w 1 r2 c2) ≡ (y + r2 - 2) * w + (x + c2 - 2)
+  pub on-lands : on_from (y * w + x) (wrapped_step w 1 r2 c2) ≡ (y + r2 - 2) * w + (x + c2 - 2)
   on-lands = step-on w 1 hw (omega arith) r2 c2 hr hc (y * w + x) far-in low _ (omega (arith, rows-sum))
 
-  pub back-lands : backFrom (y * w + x) (wrappedStep w 1 r2 c2) ≡ (y + (4 - r2) - 2) * w + (x + (4 - c2) - 2)
+  pub back-lands : back_from (y * w + x) (wrapped_step w 1 r2 c2) ≡ (y + (4 - r2) - 2) * w + (x + (4 - c2) - 2)
   back-lands = step_back w 1 hw (omega arith) r2 c2 hr hc (y * w + x) far-in low _ (omega (arith, rows-sum, rows_both))
 
 -- ---- the steps by comparisons
 
 module _ (w p r : ℕ) (hw : w ≤ 4096) (hp : p ≤ 4096) (hr : r < 2 ^ 64) where
-  pub near-is : (dir : ℕ) → dir < 8 → (r + w) % 2 ^ 64 ≡ (cond (nat_le 1 dir) 1 0 + cond (nat_le 4 dir) 1 0) * w + cond (nat_le dir 4) 1 0 * p → r ≡ stepBy w p dir 0
-  unfolding stepBy wrappedStep rows cols
+  pub near-is : (dir : ℕ) → dir < 8 → (r + w) % 2 ^ 64 ≡ (cond (nat_le 1 dir) 1 0 + cond (nat_le 4 dir) 1 0) * w + cond (nat_le dir 4) 1 0 * p → r ≡ step_by w p dir 0
+  unfolding step_by wrapped_step rows cols
   near-is zero h e = omega arith
   near-is (suc zero) h e = omega arith
   near-is (suc (suc zero)) h e = omega arith
@@ -146,8 +146,8 @@ module _ (w p r : ℕ) (hw : w ≤ 4096) (hp : p ≤ 4096) (hr : r < 2 ^ 64) whe
   near-is (suc (suc (suc (suc (suc (suc (suc zero))))))) h e = omega arith
   near-is (suc (suc (suc (suc (suc (suc (suc (suc d)))))))) h e = absurd (omega arith)
 
-  pub far-is : (dir row : ℕ) → dir < 8 → row ≡ min dir 4 → (r + (2 * w + 2 * p)) % 2 ^ 64 ≡ row * w + (4 + row - dir) * p → r ≡ stepBy w p dir 1
-  unfolding stepBy wrappedStep rows cols
+  pub far-is : (dir row : ℕ) → dir < 8 → row ≡ min dir 4 → (r + (2 * w + 2 * p)) % 2 ^ 64 ≡ row * w + (4 + row - dir) * p → r ≡ step_by w p dir 1
+  unfolding step_by wrapped_step rows cols
   far-is zero row h q e = let g = rw q at e in omega arith
   far-is (suc zero) row h q e = let g = rw q at e in omega arith
   far-is (suc (suc zero)) row h q e = let g = rw q at e in omega arith

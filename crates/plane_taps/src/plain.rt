@@ -2,7 +2,7 @@
 ghost use Rattle.std.specs.Prelude.{◌≡◌, ◌<◌, ◌≤◌};
 ghost use Rattle.filter_limits.specs.Limits.{HeldPair};
 ghost use Rattle.filter_rows.specs.Sums.{InRange};
-ghost use Rattle.plane_taps.specs.Plain.{Low, Bounded, pairPlain, priPlain, secPlain, lowTwo, highTwo, first_of, last_of};
+ghost use Rattle.plane_taps.specs.Plain.{Low, Bounded, pair_plain, pri_plain, sec_plain, low_two, high_two, first_of, last_of};
 
 use filter_limits::Pair;
 use filter_rows::Strength;
@@ -18,7 +18,7 @@ pub struct Part {
 // A tap and its opposite, constrained.
 pub fn pair_sum(p: Pair, c: u16, s: u16, sh: u32) -> i16
     requires { HeldPair p × (c ≤ 16384) × (s ≤ 240) × (sh ≤ 15) }
-    ensures { result ≡ pairPlain p c s sh }
+    ensures { result ≡ pair_plain p c s sh }
 {
     arith_sample::add(
         arith_sample::constrain_tap(p.on, c, s, sh),
@@ -29,7 +29,7 @@ pub fn pair_sum(p: Pair, c: u16, s: u16, sh: u32) -> i16
 // The primary sum.
 pub fn pri_sum(p0: Pair, p1: Pair, c: u16, f: Strength) -> i16
     requires { HeldPair p0 × HeldPair p1 × (c ≤ 16384) × InRange f }
-    ensures { result ≡ priPlain p0 p1 c f }
+    ensures { result ≡ pri_plain p0 p1 c f }
 {
     filter_rows::both::weigh(pair_sum(p0, c, f.s, f.sh), pair_sum(p1, c, f.s, f.sh), f)
 }
@@ -37,7 +37,7 @@ pub fn pri_sum(p0: Pair, p1: Pair, c: u16, f: Strength) -> i16
 // The secondary sum.
 pub fn sec_sum(q0: Pair, q1: Pair, r0: Pair, r1: Pair, c: u16, f: Strength) -> i16
     requires { HeldPair q0 × HeldPair q1 × HeldPair r0 × HeldPair r1 × (c ≤ 16384) × InRange f }
-    ensures { result ≡ secPlain q0 q1 r0 r1 c f }
+    ensures { result ≡ sec_plain q0 q1 r0 r1 c f }
 {
     let a = arith_sample::add(pair_sum(q0, c, f.s, f.sh), pair_sum(r0, c, f.s, f.sh));
     let b = arith_sample::add(pair_sum(q1, c, f.s, f.sh), pair_sum(r1, c, f.s, f.sh));
@@ -47,7 +47,7 @@ pub fn sec_sum(q0: Pair, q1: Pair, r0: Pair, r1: Pair, c: u16, f: Strength) -> i
 // The least of two pairs.
 fn low_two(p: Pair, q: Pair) -> u16
     requires { Low p × Low q }
-    ensures { (result ≡ lowTwo p q) × (result < 16384) }
+    ensures { (result ≡ low_two p q) × (result < 16384) }
 {
     arith_sample::least(
         arith_sample::least(p.on, p.back),
@@ -58,7 +58,7 @@ fn low_two(p: Pair, q: Pair) -> u16
 // The greatest of them.
 fn high_two(p: Pair, q: Pair) -> u16
     requires { Low p × Low q }
-    ensures { (result ≡ highTwo p q) × (result < 16384) }
+    ensures { (result ≡ high_two p q) × (result < 16384) }
 {
     arith_sample::most(
         arith_sample::most(p.on, p.back),

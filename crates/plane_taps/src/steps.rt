@@ -1,6 +1,6 @@
 // The taps of a direction as offsets, computed without a jump: rows are w entries apart and columns p, in a plane 1.
 ghost use Rattle.std.specs.Prelude.{◌≡◌, ◌<◌, ◌≤◌, if◌then◌else◌};
-ghost use Rattle.plane_taps.specs.Steps.{stepBy, tapsBy};
+ghost use Rattle.plane_taps.specs.Steps.{step_by, taps_by};
 
 use filter_rows::Taps;
 
@@ -13,7 +13,7 @@ fn one_if(b: bool) -> usize
 // The near step: rows -1, 0, 0, 0, 1, 1, 1, 1 and columns 1, 1, 1, 1, 1, 0, 0, 0.
 fn near(dir: usize, w: usize, p: usize) -> usize
     requires { (dir < 8) × (w ≤ 4096) × (p ≤ 4096) }
-    ensures { result ≡ stepBy w p dir 0 }
+    ensures { result ≡ step_by w p dir 0 }
 {
     let row = one_if(1 <= dir) + one_if(4 <= dir);
     let col = one_if(dir <= 4);
@@ -23,7 +23,7 @@ fn near(dir: usize, w: usize, p: usize) -> usize
 // The far step: rows -2, -1, 0, 1, 2, 2, 2, 2 and columns 2, 2, 2, 2, 2, 1, 0, -1.
 fn far(dir: usize, w: usize, p: usize) -> usize
     requires { (dir < 8) × (w ≤ 4096) × (p ≤ 4096) }
-    ensures { result ≡ stepBy w p dir 1 }
+    ensures { result ≡ step_by w p dir 1 }
 {
     let row = arith_numbers::lesser(dir, 4);
     std::num::wrapping_sub_usize(row * w + (4 + row - dir) * p, 2 * w + 2 * p)
@@ -32,7 +32,7 @@ fn far(dir: usize, w: usize, p: usize) -> usize
 // The offsets of a direction, of the one 2 further and of the one 6 further.
 pub fn taps(dir: usize, w: usize, p: usize) -> Taps
     requires { (dir < 8) × (w ≤ 4096) × (p ≤ 4096) }
-    ensures { result ≡ tapsBy w p dir }
+    ensures { result ≡ taps_by w p dir }
 {
     let q = (dir + 2) % 8;
     let r = (dir + 6) % 8;

@@ -22,14 +22,14 @@ pub record Counted (w h : ℕ) (n : Counts) : Type 0 where
   pub width_room : n.width ≤ 4096
 
 -- two totals are the same
-unfoldable pub sameTotal : ℤ → ℤ → Bool
-sameTotal (pos a) (pos b) = eqb a b
-sameTotal (negsuc a) (negsuc b) = eqb a b
-sameTotal (pos a) (negsuc b) = false
-sameTotal (negsuc a) (pos b) = false
+unfoldable pub same_total : ℤ → ℤ → Bool
+same_total (pos a) (pos b) = eqb a b
+same_total (negsuc a) (negsuc b) = eqb a b
+same_total (pos a) (negsuc b) = false
+same_total (negsuc a) (pos b) = false
 
 -- in how many of the first n units the measured total differs from the tried one of a trial number
 unfoldable pub differ : List ℤ → List ℤ → ℕ → ℕ → ℕ
 differ tried measured trial zero = 0
 differ tried measured trial (suc u) =
-    differ tried measured trial u + cond (sameTotal (get_or tried (12 * u + trial) (pos 0)) (get_or measured u (pos 0))) 0 1
+    differ tried measured trial u + cond (same_total (get_or tried (12 * u + trial) (pos 0)) (get_or measured u (pos 0))) 0 1

@@ -6,8 +6,8 @@ use Prim.Native.Nat.{ℕ, zero, suc, ◌+◌, ◌-◌, ◌*◌, ◌/◌, ◌%◌
 use Rattle.std.proofs.Math.Nat.{mod-le}
 use Rattle.std.proofs.Math.ListN.{length-set}
 use Rattle.still_pgm.specs.declared.header.Header.{Header}
-use Rattle.still_pgm.specs.Sizes.{step_of, padded, faultOf, isSound}
-use Rattle.still_pgm.specs.Planes.{stored, sampleAt, paddedSample, decodedPlane, byte_of, fileByte}
+use Rattle.still_pgm.specs.Sizes.{step_of, padded, fault_of, is_sound}
+use Rattle.still_pgm.specs.Planes.{stored, sample_at, padded_sample, decoded_plane, byte_of, file_byte}
 
 -- ---- values stored from the front
 
@@ -28,17 +28,17 @@ module _ (f : ℕ → ℕ) (l : List ℕ) where
 -- ---- samples
 
 module _ (file : List ℕ) (start step k : ℕ) where
-  pub sample-one : (b : ℕ) → step ≡ 1 → b ≡ get_or file (start + k) 0 → b ≡ sampleAt file start step k
-  unfolding sampleAt
+  pub sample-one : (b : ℕ) → step ≡ 1 → b ≡ get_or file (start + k) 0 → b ≡ sample_at file start step k
+  unfolding sample_at
   sample-one b e g = rw e g
 
-  pub sample-two : (a b : ℕ) → (step ≡ 1 → ⊥) → a ≡ get_or file (start + 2 * k) 0 → b ≡ get_or file (start + 2 * k + 1) 0 → a * 256 + b ≡ sampleAt file start step k
-  unfolding sampleAt
+  pub sample-two : (a b : ℕ) → (step ≡ 1 → ⊥) → a ≡ get_or file (start + 2 * k) 0 → b ≡ get_or file (start + 2 * k + 1) 0 → a * 256 + b ≡ sample_at file start step k
+  unfolding sample_at
   sample-two a b n g h = rw (ne_eqb step 1 n, g, h)
 
 -- sample k of a plane, from its row, its column and the bytes of a sample
-pub padded-is : (file : List ℕ) (h : Header) (pitch k step row column v : ℕ) → step ≡ step_of h.maximum → row ≡ min (k / pitch) (h.height - 1) → column ≡ min (k % pitch) (h.width - 1) → v ≡ sampleAt file h.start step (row * h.width + column) → v ≡ paddedSample file h pitch k
-unfolding paddedSample
+pub padded-is : (file : List ℕ) (h : Header) (pitch k step row column v : ℕ) → step ≡ step_of h.maximum → row ≡ min (k / pitch) (h.height - 1) → column ≡ min (k % pitch) (h.width - 1) → v ≡ sample_at file h.start step (row * h.width + column) → v ≡ padded_sample file h pitch k
+unfolding padded_sample
 padded-is file h pitch k step row column v e r c g = rw (← e, ← r, ← c) g
 
 -- a row and a column of the picture lie among its samples
@@ -51,18 +51,18 @@ place-room w h row column a b c d =
 -- ---- decoding
 
 module _ (file : List ℕ) (h : Header) (l : List ℕ) where
-  pub decoded-sound : (a b : ℕ) (m : List ℕ) → isSound (faultOf (length file) h) ≡ true → a ≡ padded h.width → b ≡ padded h.height → m ≡ stored (paddedSample file h a) (a * b) l → m ≡ decodedPlane file h l
-  unfolding decodedPlane
+  pub decoded-sound : (a b : ℕ) (m : List ℕ) → is_sound (fault_of (length file) h) ≡ true → a ≡ padded h.width → b ≡ padded h.height → m ≡ stored (padded_sample file h a) (a * b) l → m ≡ decoded_plane file h l
+  unfolding decoded_plane
   decoded-sound a b m s e f g = rw (s, ← e, ← f) g
 
-  pub decoded-wrong : isSound (faultOf (length file) h) ≡ false → l ≡ decodedPlane file h l
-  unfolding decodedPlane
+  pub decoded-wrong : is_sound (fault_of (length file) h) ≡ false → l ≡ decoded_plane file h l
+  unfolding decoded_plane
   decoded-wrong s = rw s
 
 -- ---- encoding
 
-pub byte-is : (plane : List ℕ) (width pitch step k sample v : ℕ) → sample ≡ get_or plane (k / step / width * pitch + k / step % width) 0 → v ≡ byte_of sample (eqb (k % step + 1) step) → v ≡ fileByte plane width pitch step k
-unfolding fileByte
+pub byte-is : (plane : List ℕ) (width pitch step k sample v : ℕ) → sample ≡ get_or plane (k / step / width * pitch + k / step % width) 0 → v ≡ byte_of sample (eqb (k % step + 1) step) → v ≡ file_byte plane width pitch step k
+unfolding file_byte
 byte-is plane width pitch step k sample v e g = rw (← e) g
 
 -- the position of a byte's sample in a plane with rows of at most 4,096

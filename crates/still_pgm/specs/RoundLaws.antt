@@ -12,15 +12,15 @@ use Rattle.std.proofs.Math.ListN.{get_or}
 use Rattle.still_pgm.specs.declared.header.Header.{Header}
 use Rattle.still_pgm.specs.Sizes.{step_of, padded}
 use Rattle.still_pgm.specs.SizesLaws.{Taken}
-use Rattle.still_pgm.specs.Planes.{stored, sampleAt, paddedSample, byte_of, fileByte}
+use Rattle.still_pgm.specs.Planes.{stored, sample_at, padded_sample, byte_of, file_byte}
 use Rattle.still_pgm.specs.PlanesLaws.{length-stored}
 
 -- ---- a value that was stored
 
-getD-stored : (f : ℕ → ℕ) (l : List ℕ) (n k : ℕ) → k < n → n ≤ length l → get_or (stored f n l) k 0 ≡ f k
+get_or-stored : (f : ℕ → ℕ) (l : List ℕ) (n k : ℕ) → k < n → n ≤ length l → get_or (stored f n l) k 0 ≡ f k
 unfolding stored
-getD-stored f l zero k a b = absurd (omega arith)
-getD-stored f l (suc n) k a b = go (ℕ_discrete k n) (λ c. getD-stored f l n k c (omega arith))
+get_or-stored f l zero k a b = absurd (omega arith)
+get_or-stored f l (suc n) k a b = go (ℕ_discrete k n) (λ c. get_or-stored f l n k c (omega arith))
   where
     go : Dec (k ≡ n) → (k < n → get_or (stored f n l) k 0 ≡ f k) → get_or (set (stored f n l) n (f n)) k 0 ≡ f k
     go (yes e) ih = rw e (get_or-set_same (stored f n l) n (f n) 0 (omega (arith, length-stored f l n)))
@@ -49,15 +49,15 @@ module _ (w h pitch q : ℕ) (low : 0 < w) (wide : w ≤ pitch) (inside : q < h 
 -- ---- the bytes of a sample
 
 module _ (file : List ℕ) (start k : ℕ) (bytes : (i : ℕ) → get_or file i 0 < 256) where
-  one_byte : byte_of (sampleAt file start 1 (k / 1)) (eqb (k % 1 + 1) 1) ≡ get_or file (start + k) 0
-  unfolding byte_of sampleAt
+  one_byte : byte_of (sample_at file start 1 (k / 1)) (eqb (k % 1 + 1) 1) ≡ get_or file (start + k) 0
+  unfolding byte_of sample_at
   one_byte =
       let a : k / 1 ≡ k = omega arith in
       let b : k % 1 + 1 ≡ 1 = omega arith in
       rw (a, b) (omega (arith, bytes (start + k)))
 
-  two_bytes : byte_of (sampleAt file start 2 (k / 2)) (eqb (k % 2 + 1) 2) ≡ get_or file (start + k) 0
-  unfolding byte_of sampleAt
+  two_bytes : byte_of (sample_at file start 2 (k / 2)) (eqb (k % 2 + 1) 2) ≡ get_or file (start + k) 0
+  unfolding byte_of sample_at
   two_bytes = go (ℕ_discrete (k % 2) 1)
     where
       go : Dec (k % 2 ≡ 1) → cond (eqb (k % 2 + 1) 2) ((get_or file (start + 2 * (k / 2)) 0 * 256 + get_or file (start + 2 * (k / 2) + 1) 0) % 256) ((get_or file (start + 2 * (k / 2)) 0 * 256 + get_or file (start + 2 * (k / 2) + 1) 0) / 256) ≡ get_or file (start + k) 0
@@ -73,24 +73,24 @@ module _ (file : List ℕ) (start k : ℕ) (bytes : (i : ℕ) → get_or file i 
 
 module _ (file : List ℕ) (h : Header) (l : List ℕ) (t : Taken h.width h.height) (fits : padded h.width * padded h.height ≤ length l) where
   abbrev decoded : List ℕ
-  decoded = stored (paddedSample file h (padded h.width)) (padded h.width * padded h.height) l
+  decoded = stored (padded_sample file h (padded h.width)) (padded h.width * padded h.height) l
 
   by-sample : (step k : ℕ) → 0 < step → k < h.height * h.width * step
-      → fileByte decoded h.width (padded h.width) step k ≡ byte_of (sampleAt file h.start (step_of h.maximum) (k / step)) (eqb (k % step + 1) step)
-  unfolding fileByte paddedSample
+      → file_byte decoded h.width (padded h.width) step k ≡ byte_of (sample_at file h.start (step_of h.maximum) (k / step)) (eqb (k % step + 1) step)
+  unfolding file_byte padded_sample
   by-sample step k low inside =
       let q : ℕ = k / step in
       let a : q < h.height * h.width = (div-lt_iff_lt-mul low).1 inside in
       let wide : h.width ≤ padded h.width = omega arith in
       let tall : h.height ≤ padded h.height = omega arith in
-      let b = getD-stored (paddedSample file h (padded h.width)) l (padded h.width * padded h.height) (q / h.width * padded h.width + q % h.width) (place-low h.width h.height (padded h.width) q t.width_low wide a (padded h.height) tall) fits in
+      let b = get_or-stored (padded_sample file h (padded h.width)) l (padded h.width * padded h.height) (q / h.width * padded h.width + q % h.width) (place-low h.width h.height (padded h.width) q t.width_low wide a (padded h.height) tall) fits in
       rw (b, place-back h.width h.height (padded h.width) q t.width_low wide a)
 
   -- each byte of the samples comes back
-  pub round : ((i : ℕ) → get_or file i 0 < 256) → (k : ℕ) → k < h.height * h.width * step_of h.maximum → fileByte decoded h.width (padded h.width) (step_of h.maximum) k ≡ get_or file (h.start + k) 0
+  pub round : ((i : ℕ) → get_or file i 0 < 256) → (k : ℕ) → k < h.height * h.width * step_of h.maximum → file_byte decoded h.width (padded h.width) (step_of h.maximum) k ≡ get_or file (h.start + k) 0
   unfolding step_of
   round bytes k inside = go (leb h.maximum 255) refl inside
     where
-      go : (b : Bool) → leb h.maximum 255 ≡ b → k < h.height * h.width * cond b 1 2 → fileByte decoded h.width (padded h.width) (cond b 1 2) k ≡ get_or file (h.start + k) 0
+      go : (b : Bool) → leb h.maximum 255 ≡ b → k < h.height * h.width * cond b 1 2 → file_byte decoded h.width (padded h.width) (cond b 1 2) k ≡ get_or file (h.start + k) 0
       go true e i = by-sample 1 k (omega arith) i ∙ rw e (one_byte file h.start k bytes)
       go false e i = by-sample 2 k (omega arith) i ∙ rw e (two_bytes file h.start k bytes)

@@ -22,16 +22,16 @@ abbrev pub padded : ℕ → ℕ
 padded side = (side + 7) / 8 * 8
 
 -- a side of 1 to 4,096
-unfoldable pub isSide : ℕ → Bool
-isSide side = leb 1 side && leb side 4096
+unfoldable pub is_side : ℕ → Bool
+is_side side = leb 1 side && leb side 4096
 
 -- two sides, and at most 786,432 samples once padded
 unfoldable pub is_taken : ℕ → ℕ → Bool
-is_taken w h = isSide w && (isSide h && leb (padded w * padded h) 786432)
+is_taken w h = is_side w && (is_side h && leb (padded w * padded h) 786432)
 
 -- the first thing that is wrong with a file of n bytes
-unfoldable pub faultOf : ℕ → Header → Fault
-faultOf n h =
+unfoldable pub fault_of : ℕ → Header → Fault
+fault_of n h =
     cond h.found
     (cond (eqb (depth_of h.maximum) 0) Maximum
     (cond (is_taken h.width h.height)
@@ -39,9 +39,9 @@ faultOf n h =
     Size))
     NoHeader
 
-abbrev pub isSound : Fault → Bool
-isSound Sound = true
-isSound NoHeader = false
-isSound Maximum = false
-isSound Size = false
-isSound Length = false
+abbrev pub is_sound : Fault → Bool
+is_sound Sound = true
+is_sound NoHeader = false
+is_sound Maximum = false
+is_sound Size = false
+is_sound Length = false

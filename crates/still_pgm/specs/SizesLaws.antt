@@ -7,7 +7,7 @@ use borrow.Author.Tests.{eq-eqb, ne_eqb, eqb-true, leb-true}
 use Rattle.still_pgm.specs.declared.header.Header.{Header}
 use Rattle.still_pgm.specs.declared.sizes.Fault.TheVariants.{Sound, NoHeader, Maximum, Size, Length}
 use Rattle.still_text.specs.TextLaws.{and_both}
-use Rattle.still_pgm.specs.Sizes.{depth_of, step_of, padded, isSide, is_taken, faultOf, isSound}
+use Rattle.still_pgm.specs.Sizes.{depth_of, step_of, padded, is_side, is_taken, fault_of, is_sound}
 
 pub depth-none : (m : ℕ) → (m ≡ 255 → ⊥) → (m ≡ 511 → ⊥) → (m ≡ 1023 → ⊥) → (m ≡ 2047 → ⊥) → (m ≡ 4095 → ⊥) → 0 ≡ depth_of m
 unfolding depth_of
@@ -21,8 +21,8 @@ step_range m = go (leb m 255)
     go true = omega arith
     go false = omega arith
 
-pub side-range : (side : ℕ) → isSide side ≡ true → (0 < side) × (side ≤ 4096)
-unfolding isSide
+pub side-range : (side : ℕ) → is_side side ≡ true → (0 < side) × (side ≤ 4096)
+unfolding is_side
 side-range side e = let p : (leb 1 side ≡ true) × (leb side 4096 ≡ true) = and_both _ _ e in (omega (arith, leb-true 1 side p.0), leb-true side 4096 p.1)
 
 -- the room of padded sides
@@ -52,35 +52,35 @@ taken w h e =
 -- ---- what is wrong with a file
 
 module _ (n : ℕ) (h : Header) where
-  pub fault-header : h.found ≡ false → NoHeader ≡ faultOf n h
-  unfolding faultOf
+  pub fault-header : h.found ≡ false → NoHeader ≡ fault_of n h
+  unfolding fault_of
   fault-header f = rw f
 
-  pub fault-maximum : h.found ≡ true → depth_of h.maximum ≡ 0 → Maximum ≡ faultOf n h
-  unfolding faultOf
+  pub fault-maximum : h.found ≡ true → depth_of h.maximum ≡ 0 → Maximum ≡ fault_of n h
+  unfolding fault_of
   fault-maximum f d = rw (f, d)
 
-  pub fault-size : h.found ≡ true → (depth_of h.maximum ≡ 0 → ⊥) → is_taken h.width h.height ≡ false → Size ≡ faultOf n h
-  unfolding faultOf
+  pub fault-size : h.found ≡ true → (depth_of h.maximum ≡ 0 → ⊥) → is_taken h.width h.height ≡ false → Size ≡ fault_of n h
+  unfolding fault_of
   fault-size f d t = rw (f, ne_eqb (depth_of h.maximum) 0 d, t)
 
-  pub fault-length : h.found ≡ true → (depth_of h.maximum ≡ 0 → ⊥) → is_taken h.width h.height ≡ true → (n ≡ h.start + h.width * h.height * step_of h.maximum → ⊥) → Length ≡ faultOf n h
-  unfolding faultOf
+  pub fault-length : h.found ≡ true → (depth_of h.maximum ≡ 0 → ⊥) → is_taken h.width h.height ≡ true → (n ≡ h.start + h.width * h.height * step_of h.maximum → ⊥) → Length ≡ fault_of n h
+  unfolding fault_of
   fault-length f d t l = rw (f, ne_eqb (depth_of h.maximum) 0 d, t, ne_eqb n (h.start + h.width * h.height * step_of h.maximum) l)
 
-  pub fault-none : h.found ≡ true → (depth_of h.maximum ≡ 0 → ⊥) → is_taken h.width h.height ≡ true → n ≡ h.start + h.width * h.height * step_of h.maximum → Sound ≡ faultOf n h
-  unfolding faultOf
+  pub fault-none : h.found ≡ true → (depth_of h.maximum ≡ 0 → ⊥) → is_taken h.width h.height ≡ true → n ≡ h.start + h.width * h.height * step_of h.maximum → Sound ≡ fault_of n h
+  unfolding fault_of
   fault-none f d t l = rw (f, ne_eqb (depth_of h.maximum) 0 d, t, eq-eqb n (h.start + h.width * h.height * step_of h.maximum) l)
 
   -- a sound file has sides that are accepted, and its length
-  pub sound-taken : isSound (faultOf n h) ≡ true → (is_taken h.width h.height ≡ true) × (n ≡ h.start + h.width * h.height * step_of h.maximum)
-  unfolding faultOf
+  pub sound-taken : is_sound (fault_of n h) ≡ true → (is_taken h.width h.height ≡ true) × (n ≡ h.start + h.width * h.height * step_of h.maximum)
+  unfolding fault_of
   sound-taken e =
       let l : ℕ = h.start + h.width * h.height * step_of h.maximum in
       let p = go h.found (eqb (depth_of h.maximum) 0) (is_taken h.width h.height) (eqb n l) e in
       (p.0, eqb-true n l p.1)
     where
-      go : (f d t l : Bool) → isSound (cond f (cond d Maximum (cond t (cond l Sound Length) Size)) NoHeader) ≡ true → (t ≡ true) × (l ≡ true)
+      go : (f d t l : Bool) → is_sound (cond f (cond d Maximum (cond t (cond l Sound Length) Size)) NoHeader) ≡ true → (t ≡ true) × (l ≡ true)
       go true false true true e = (refl, refl)
       go true false true false e = (refl, e)
       go true false false true e = (e, refl)

@@ -1,6 +1,6 @@
 // The header of a binary PGM: P5, width, height and maximum, separated by blanks and comments, and one blank before the samples.
 ghost use Rattle.std.specs.Prelude.{◌≡◌, ◌&&◌};
-ghost use Rattle.still_pgm.specs.Header.{word_at, headerOf, isP5};
+ghost use Rattle.still_pgm.specs.Header.{word_at, header_of, is_p5};
 
 use still_text::{numbers, text};
 
@@ -35,7 +35,7 @@ fn word_at(file: &[u8], from: usize) -> Word
 }
 
 fn is_p5(file: &[u8]) -> bool
-    ensures { result ≡ isP5 file.now }
+    ensures { result ≡ is_p5 file.now }
 {
     text::byte_at(file, 0) == b'P' && text::byte_at(file, 1) == b'5'
 }
@@ -53,7 +53,7 @@ fn all_hold(a: bool, b: bool, c: bool) -> bool
 }
 
 pub fn header_of(file: &[u8]) -> Header
-    ensures { result ≡ headerOf file.now }
+    ensures { result ≡ header_of file.now }
 {
     let w = word_at(file, 2);
     let h = word_at(file, w.next);

@@ -1,6 +1,6 @@
 // Which pictures are accepted: the maximum, the sides and the length of a file; and the padded sizes.
 ghost use Rattle.std.specs.Prelude.{◌≤◌, ◌≡◌, length};
-ghost use Rattle.still_pgm.specs.Sizes.{depth_of, step_of, padded, isSide, is_taken, faultOf, isSound};
+ghost use Rattle.still_pgm.specs.Sizes.{depth_of, step_of, padded, is_side, is_taken, fault_of, is_sound};
 
 use crate::header::Header;
 
@@ -15,7 +15,7 @@ pub enum Fault {
 }
 
 pub fn is_sound(f: Fault) -> bool
-    ensures { result ≡ isSound f }
+    ensures { result ≡ is_sound f }
 {
     match f {
         Fault::Sound => true,
@@ -60,7 +60,7 @@ pub fn padded_side(side: usize) -> usize
 
 // A side of 1 to 4,096.
 fn is_side(side: usize) -> bool
-    ensures { result ≡ isSide side }
+    ensures { result ≡ is_side side }
 {
     if side == 0 {
         return false;
@@ -83,7 +83,7 @@ fn is_taken(width: usize, height: usize) -> bool
 
 // The first thing that is wrong.
 pub fn fault_of(file: &[u8], h: Header) -> Fault
-    ensures { result ≡ faultOf (length file.now) h }
+    ensures { result ≡ fault_of (length file.now) h }
 {
     if !h.found {
         return Fault::NoHeader;

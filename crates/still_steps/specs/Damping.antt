@@ -2,7 +2,7 @@
 use Rattle.std.specs.Prelude.{ℕ, min, cond, List, [], ◌∷◌, eqb}
 use Rattle.cdef_spec.specs.declared.SignalledDamping.{SignalledDamping}
 use Rattle.cdef_spec.specs.Answers.{Result, taken, refused}
-use Rattle.cdef_spec.specs.BlockCalls.{dampingOutcome}
+use Rattle.cdef_spec.specs.BlockCalls.{damping_outcome}
 use Rattle.still_text.specs.declared.numbers.Number.{Number}
 use Rattle.still_text.specs.declared.numbers.Number.TheVariants.{Value, NoNumber}
 use Rattle.still_text.specs.Number.{number_of}
@@ -18,10 +18,10 @@ ofResult (refused n) = Rejected n
 abbrev pub lettered : ℕ → Number → DampingText
 lettered letter NoNumber = NotDamping
 lettered letter (Value n) =
-    cond (eqb letter 113) (ofResult (dampingOutcome n))
+    cond (eqb letter 113) (ofResult (damping_outcome n))
     (cond (eqb letter 100) (Signalled (record { 0 = min n 255 })) NotDamping)
 
 -- q and a quality index, or d and a signalled damping
-unfoldable pub dampingOf : List ℕ → DampingText
-dampingOf [] = NotDamping
-dampingOf (letter ∷ s) = lettered letter (number_of s)
+unfoldable pub damping_of : List ℕ → DampingText
+damping_of [] = NotDamping
+damping_of (letter ∷ s) = lettered letter (number_of s)

@@ -1,13 +1,13 @@
 -- Totals compared.
 use Rattle.std.specs.Prelude.{◌≡◌, refl, Bool, true, false, cond, List, ℕ, zero, suc, ◌+◌, ◌*◌, ◌≤◌, ◌<◌, get_or, ℤ, pos, negsuc}
 use Rattle.std.proofs.Common.{ap, add-one, arith, eq-eqb, ne_eqb}
-use Rattle.still_lists.specs.Lists.{sameTotal, differ}
+use Rattle.still_lists.specs.Lists.{same_total, differ}
 
-pub same-is : (a b : ℤ) → a ≡ b → sameTotal a b ≡ true
-unfolding sameTotal
+pub same-is : (a b : ℤ) → a ≡ b → same_total a b ≡ true
+unfolding same_total
 same-is a b e = rw e (go b)
   where
-    go : (b : ℤ) → sameTotal b b ≡ true
+    go : (b : ℤ) → same_total b b ≡ true
     go (pos n) = eq-eqb n n refl
     go (negsuc n) = eq-eqb n n refl
 
@@ -15,21 +15,21 @@ pub differ-none : (tried measured : List ℤ) (t : ℕ) → differ tried measure
 unfolding differ
 differ-none tried measured t = refl
 
-pub differ-more : (tried measured : List ℤ) (t u n r : ℕ) → n ≡ differ tried measured t u → r ≡ n + cond (sameTotal (get_or tried (12 * u + t) (pos 0)) (get_or measured u (pos 0))) 0 1 → r ≡ differ tried measured t (u + 1)
+pub differ-more : (tried measured : List ℤ) (t u n r : ℕ) → n ≡ differ tried measured t u → r ≡ n + cond (same_total (get_or tried (12 * u + t) (pos 0)) (get_or measured u (pos 0))) 0 1 → r ≡ differ tried measured t (u + 1)
 unfolding differ
 differ-more tried measured t u n r e f = rw (add-one u, ← e) f
 
 pub differ-low : (tried measured : List ℤ) (t u : ℕ) → differ tried measured t u ≤ u
 unfolding differ
 differ-low tried measured t zero = omega arith
-differ-low tried measured t (suc u) = go (sameTotal (get_or tried (12 * u + t) (pos 0)) (get_or measured u (pos 0))) (differ-low tried measured t u)
+differ-low tried measured t (suc u) = go (same_total (get_or tried (12 * u + t) (pos 0)) (get_or measured u (pos 0))) (differ-low tried measured t u)
   where
     go : (b : Bool) → differ tried measured t u ≤ u → differ tried measured t u + cond b 0 1 ≤ suc u
     go true h = omega arith
     go false h = omega arith
 
-pub other-is : (a b : ℤ) → (a ≡ b → ⊥) → sameTotal a b ≡ false
-unfolding sameTotal
+pub other-is : (a b : ℤ) → (a ≡ b → ⊥) → same_total a b ≡ false
+unfolding same_total
 other-is (pos a) (pos b) f = ne_eqb a b (λ e. f (ap pos e))
 other-is (negsuc a) (negsuc b) f = ne_eqb a b (λ e. f (ap negsuc e))
 other-is (pos a) (negsuc b) f = refl

@@ -1,7 +1,7 @@
 // A damping out of text.
 ghost use Rattle.std.specs.Prelude.{min, ◌≡◌};
-ghost use Rattle.cdef_spec.specs.BlockCalls.{dampingOutcome};
-ghost use Rattle.still_steps.specs.Damping.{ofResult, dampingOf};
+ghost use Rattle.cdef_spec.specs.BlockCalls.{damping_outcome};
+ghost use Rattle.still_steps.specs.Damping.{ofResult, damping_of};
 
 use cdef_spec::{DampingAnswer, SignalledDamping};
 use still_text::numbers;
@@ -27,7 +27,7 @@ pub fn small(n: usize) -> u8
 
 // The signalled damping of a quality index, by its call.
 fn of_index(index: u32) -> DampingText
-    ensures { result ≡ ofResult (dampingOutcome index) }
+    ensures { result ≡ ofResult (damping_outcome index) }
 {
     match cdef_blocks::numbers::damping(index) {
         DampingAnswer::Damping(d) => DampingText::Signalled(d),
@@ -37,7 +37,7 @@ fn of_index(index: u32) -> DampingText
 
 // q and a quality index, or d and a signalled damping.
 pub fn damping_of(text: &[u8]) -> DampingText
-    ensures { result ≡ dampingOf text.now }
+    ensures { result ≡ damping_of text.now }
 {
     if text.len() == 0 {
         return DampingText::NotDamping;

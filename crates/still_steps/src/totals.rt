@@ -1,11 +1,11 @@
 // Totals compared.
 ghost use Rattle.std.specs.Prelude.{◌+◌, ◌*◌, ◌≤◌, ◌<◌, ◌≡◌, cond, length};
-ghost use Rattle.still_lists.specs.Lists.{sameTotal, differ};
+ghost use Rattle.still_lists.specs.Lists.{same_total, differ};
 
 // A count, one more where two totals differ.
 fn counted(count: usize, tried: i64, measured: i64) -> usize
     requires { count < 4096 }
-    ensures { result ≡ count + cond (sameTotal tried measured) 0 1 }
+    ensures { result ≡ count + cond (same_total tried measured) 0 1 }
 {
     if tried == measured {
         return count;

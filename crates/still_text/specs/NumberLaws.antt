@@ -3,11 +3,11 @@ use Rattle.std.specs.Prelude.{◌≡◌, List, ℕ, ◌+◌, min, length}
 use Rattle.std.proofs.Common.{arith}
 use borrow.Author.Tests.{eq-eqb, ne_eqb}
 use Rattle.still_text.specs.declared.numbers.Number.TheVariants.{Value, NoNumber}
-use Rattle.still_text.specs.Text.{digitCount, decimal, most}
+use Rattle.still_text.specs.Text.{digit_count, decimal, most}
 use Rattle.still_text.specs.Number.{number_of}
 
-module _ (s : List ℕ) (next : ℕ) (e : next ≡ 0 + digitCount s) where
-  count : digitCount s ≡ next
+module _ (s : List ℕ) (next : ℕ) (e : next ≡ 0 + digit_count s) where
+  count : digit_count s ≡ next
   count = omega arith
 
   pub number-empty : next ≡ 0 → NoNumber ≡ number_of s

@@ -1,6 +1,6 @@
 // Decimal numbers.
 ghost use Rattle.std.specs.Prelude.{◌+◌, ◌-◌, ◌*◌, ◌≤◌, min, ◌≡◌, drop};
-ghost use Rattle.still_text.specs.Text.{most, decimal, digitCount};
+ghost use Rattle.still_text.specs.Text.{most, decimal, digit_count};
 ghost use Rattle.still_text.specs.Number.{number_of};
 
 use crate::text;
@@ -35,7 +35,7 @@ fn with_digit(value: usize, b: u8) -> usize
 }
 
 pub fn digits_at(file: &[u8], from: usize) -> Digits
-    ensures { (result.value ≡ min most (decimal 0 (drop from file.now))) × (result.next ≡ from + digitCount (drop from file.now)) }
+    ensures { (result.value ≡ min most (decimal 0 (drop from file.now))) × (result.next ≡ from + digit_count (drop from file.now)) }
 {
     let mut value = 0;
     let mut next = from;

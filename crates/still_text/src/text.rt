@@ -1,6 +1,6 @@
 // The bytes of a text: digits, blanks, comments.
 ghost use Rattle.std.specs.Prelude.{◌+◌, ◌≡◌, false, get_or, drop};
-ghost use Rattle.still_text.specs.Text.{isDigit, isBlank, passed, inComment, blanks};
+ghost use Rattle.still_text.specs.Text.{is_digit, is_blank, passed, in_comment, blanks};
 
 // The byte at a position, 0 past the end.
 pub fn byte_at(text: &[u8], at: usize) -> u8
@@ -13,14 +13,14 @@ pub fn byte_at(text: &[u8], at: usize) -> u8
 }
 
 pub fn is_digit(b: u8) -> bool
-    ensures { result ≡ isDigit b }
+    ensures { result ≡ is_digit b }
 {
     b'0' <= b && b <= b'9'
 }
 
 // A space, a tab, a line's end or another blank between them.
 pub fn is_blank(b: u8) -> bool
-    ensures { result ≡ isBlank b }
+    ensures { result ≡ is_blank b }
 {
     b == b' ' || b'\t' <= b && b <= b'\r'
 }
@@ -40,7 +40,7 @@ fn is_passed(comment: bool, b: u8) -> bool
 
 // Whether the byte after this one is in a comment: one ends with its line.
 fn comment_after(comment: bool, b: u8) -> bool
-    ensures { result ≡ inComment comment b }
+    ensures { result ≡ in_comment comment b }
 {
     if comment {
         return b != b'\n' && b != b'\r';

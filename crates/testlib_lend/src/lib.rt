@@ -1,11 +1,11 @@
 // Passes the first n pairs of an array as a slice to the calls that take one, for test programs.
 // A function that borrows an array of structs as a slice is proved by hand; covered code passes the array by value.
 ghost use Rattle.std.specs.Prelude.{◌≡◌, true, ◌≤◌, take};
-ghost use Rattle.cdef_spec.specs.Answers.{readAnswer};
-ghost use Rattle.cdef_spec.specs.Picture.{lumaPicture, chromaPicture};
-ghost use Rattle.cdef_spec.specs.FrameCalls.{applyingOutcome};
+ghost use Rattle.cdef_spec.specs.Answers.{read_answer};
+ghost use Rattle.cdef_spec.specs.Picture.{luma_picture, chroma_picture};
+ghost use Rattle.cdef_spec.specs.FrameCalls.{applying_outcome};
 ghost use Rattle.cdef_spec.specs.Demand3.{Agrees};
-ghost use Rattle.agree_lists.specs.Agree.{isAgreed, agreeOutcome};
+ghost use Rattle.agree_lists.specs.Agree.{is_agreed, agree_outcome};
 
 use agree_lists::Agreement;
 use cdef_spec::{Answer, DampingChoice, UnitPair, Visible};
@@ -25,8 +25,8 @@ pub fn apply_luma(
     damping: DampingChoice,
 ) -> Answer
     requires { n ≤ 4100 }
-    ensures { applyingOutcome (lumaPicture depth width height skip.now dirs.now vars.now) damping
-        snapshot.now (take n a) dst.old ≡ record { answer = readAnswer result; plane = dst.new } }
+    ensures { applying_outcome (luma_picture depth width height skip.now dirs.now vars.now) damping
+        snapshot.now (take n a) dst.old ≡ record { answer = read_answer result; plane = dst.new } }
 {
     cdef::applying::apply_luma(
         dst,
@@ -62,7 +62,7 @@ pub fn agree_luma(
     damping: DampingChoice,
 ) -> Agreement
     requires { n ≤ 128 }
-    ensures { (agreeOutcome (lumaPicture depth width height skip.now dirs.now vars.now) damping visible
+    ensures { (agree_outcome (luma_picture depth width height skip.now dirs.now vars.now) damping visible
         snapshot.now original.now (take n a) tried.old dst.old measured.old
         scratch.old ≡ record {
           answer = result;
@@ -71,8 +71,8 @@ pub fn agree_luma(
           measured = measured.new;
           scratch
               = scratch.new;
-        }) × (isAgreed result ≡ true
-        → Agrees (lumaPicture depth width height skip.now dirs.now vars.now) (take n a) tried.new
+        }) × (is_agreed result ≡ true
+        → Agrees (luma_picture depth width height skip.now dirs.now vars.now) (take n a) tried.new
         measured.new) }
 {
     cdef_agree::luma::agree_luma(
@@ -114,7 +114,7 @@ pub fn agree_chroma(
     damping: DampingChoice,
 ) -> Agreement
     requires { n ≤ 128 }
-    ensures { (agreeOutcome (chromaPicture depth width height sx sy skip.now dirs.now) damping visible
+    ensures { (agree_outcome (chroma_picture depth width height sx sy skip.now dirs.now) damping visible
         snapshot.now original.now (take n a) tried.old dst.old measured.old
         scratch.old ≡ record {
           answer = result;
@@ -123,7 +123,7 @@ pub fn agree_chroma(
           measured = measured.new;
           scratch
               = scratch.new;
-        }) × (isAgreed result ≡ true → Agrees (chromaPicture depth width height sx sy skip.now dirs.now)
+        }) × (is_agreed result ≡ true → Agrees (chroma_picture depth width height sx sy skip.now dirs.now)
         (take n a) tried.new measured.new) }
 {
     cdef_agree::chroma::agree_chroma(

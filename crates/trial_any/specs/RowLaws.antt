@@ -6,18 +6,18 @@ use Rattle.std.proofs.lemmas.List.{length-replicate, get_or-replicate}
 use Rattle.cdef_spec.specs.Standard.{sample, missing}
 use Rattle.cdef_spec.specs.Document01.{unmarked, or_else}
 use Rattle.cdef_spec.specs.GeometryLaws.{row_of}
-use Rattle.cdef_spec.specs.LoopForm.{putRow, putBlock}
+use Rattle.cdef_spec.specs.LoopForm.{put_row, put_block}
 use Rattle.cdef_spec.specs.PlaneLaws.{row_same, block_in, block_more}
-use Rattle.filter_block.specs.Store.{windowTap}
+use Rattle.filter_block.specs.Store.{window_tap}
 use Rattle.filter_rows.specs.declared.Taps.{Taps}
 use Rattle.filter_rows.specs.declared.Strength.{Strength}
 use Rattle.filter_rows.specs.Sums.{Near6, InRange}
-use Rattle.filter_kernel.specs.Kernel.{kernelAt}
-use Rattle.trial_runs.specs.Runs.{runTap}
+use Rattle.filter_kernel.specs.Kernel.{kernel_at}
+use Rattle.trial_runs.specs.Runs.{run_tap}
 use Rattle.trial_runs.specs.RunLaws.{run_more}
 use Rattle.trial_strengths.specs.declared.Twelve.{Twelve}
 use Rattle.trial_strengths.specs.Strengths.{Ready}
-use Rattle.trial_any.specs.Any.{none, tapsBy, primaryBy, secondaryBy, kernelTap, anyTap}
+use Rattle.trial_any.specs.Any.{none, taps_by, primary_by, secondary_by, kernel_tap, any_tap}
 
 -- of two that are in range, the one that is taken
 taken : {A : Type 0} (P : A → Type 0) (b : Bool) (x y : A) → P x → P y → P (cond b x y)
@@ -29,20 +29,20 @@ unfolding none
 none_in = record { s = omega arith; sh = omega arith; w0 = omega arith; w1 = omega arith }
 
 module _ (u : Twelve) (r : Ready u) where
-  pub taps-in : (i : ℕ) → Near6 (tapsBy u i)
-  unfolding tapsBy
+  pub taps-in : (i : ℕ) → Near6 (taps_by u i)
+  unfolding taps_by
   taps-in i = taken Near6 (eqb i 0) _ _ r.zero r.own
 
-  pub primary-in : (i : ℕ) → InRange (primaryBy u i)
-  unfolding primaryBy
+  pub primary-in : (i : ℕ) → InRange (primary_by u i)
+  unfolding primary_by
   primary-in i = taken InRange (eqb i 0) _ _ none_in (taken InRange (eqb i 1) _ _ r.p1 (taken InRange (eqb i 2) _ _ r.p2 r.p3))
 
-  pub secondary-in : (j : ℕ) → InRange (secondaryBy u j)
-  unfolding secondaryBy
+  pub secondary-in : (j : ℕ) → InRange (secondary_by u j)
+  unfolding secondary_by
   secondary-in j = taken InRange (eqb j 0) _ _ none_in (taken InRange (eqb j 1) _ _ r.s1 r.s2)
 
 -- one entry more of a trial block
-pub entry_more : (d l v : List ℕ) (t j : ℕ) → d ≡ putRow l 64 (runTap v 0) t 0 j → set d (t * 64 + j) (get_or v j 0) ≡ putRow l 64 (runTap v 0) t 0 (j + 1)
+pub entry_more : (d l v : List ℕ) (t j : ℕ) → d ≡ put_row l 64 (run_tap v 0) t 0 j → set d (t * 64 + j) (get_or v j 0) ≡ put_row l 64 (run_tap v 0) t 0 (j + 1)
 entry_more d l v t j e = let z : t * 64 + 0 + j ≡ t * 64 + j = omega arith in rw z at (run_more d l v t 0 j e)
 
 -- a sample or a mark, stored over a mark
@@ -59,35 +59,35 @@ pub small : (w h : ℕ) → w ≤ 8 → h ≤ 8 → h * w ≤ 64
 small w h hw hh = omega (arith, mul-le-mul hh hw)
 
 module _ (win : List ℕ) (o : Taps) (f g : Strength) (w h : ℕ) (hw : w ≤ 8) (hh : h ≤ 8) where
-  window-entry : (r c : ℕ) → or_else 16384 (windowTap win o f g 0 0 r c) ≡ kernelAt win ((r + 2) * 12 + 2 + c) o f g
-  unfolding windowTap
+  window-entry : (r c : ℕ) → or_else 16384 (window_tap win o f g 0 0 r c) ≡ kernel_at win ((r + 2) * 12 + 2 + c) o f g
+  unfolding window_tap
   window-entry r c =
       let a : r - 0 ≡ r = omega arith in
       let b : c - 0 ≡ c = omega arith in
       rw (a, b) (over-mark _)
 
   -- entry c of the room that the block filter's rows were stored in
-  room-entry : (room : List ℕ) → room ≡ putBlock (replicate 64 16384) w (windowTap win o f g 0 0) 0 0 w h → (c : ℕ) → c < h * w → get_or room c 0 ≡ kernelAt win ((c / w + 2) * 12 + 2 + c % w) o f g
+  room-entry : (room : List ℕ) → room ≡ put_block (replicate 64 16384) w (window_tap win o f g 0 0) 0 0 w h → (c : ℕ) → c < h * w → get_or room c 0 ≡ kernel_at win ((c / w + 2) * 12 + 2 + c % w) o f g
   room-entry room e c hc =
       let r = row_of w h c (rw (mul_comm w h) hc) in
       let k : c / w * w + c % w ≡ c = div-add-mod' c w in
       let l : c < 64 = omega (arith, small w h hw hh) in
       let m : ◌≡◌ {A = ℕ} (get_or (replicate 64 16384) c 0) 16384 = get_or-replicate 64 c 16384 0 l in
-      let b = block_in w (windowTap win o f g 0 0) (replicate 64 16384) 0 0 w h (c / w) (c % w) r.1 (omega arith) (omega arith) (omega (arith, r.0)) (omega arith) (omega (arith, r.1)) (rw k (omega (arith, length-replicate {A = ℕ} 64 16384))) in
-      rw e (ap (λ (i : ℕ). get_or (putBlock (replicate 64 16384) w (windowTap win o f g 0 0) 0 0 w h) i 0) (sym k) ∙ b ∙ rw (k, m) (window-entry (c / w) (c % w)))
+      let b = block_in w (window_tap win o f g 0 0) (replicate 64 16384) 0 0 w h (c / w) (c % w) r.1 (omega arith) (omega arith) (omega (arith, r.0)) (omega arith) (omega (arith, r.1)) (rw k (omega (arith, length-replicate {A = ℕ} 64 16384))) in
+      rw e (ap (λ (i : ℕ). get_or (put_block (replicate 64 16384) w (window_tap win o f g 0 0) 0 0 w h) i 0) (sym k) ∙ b ∙ rw (k, m) (window-entry (c / w) (c % w)))
 
   -- the trial block
-  pub trial-is : (l last room : List ℕ) (t : ℕ) → room ≡ putBlock (replicate 64 16384) w (windowTap win o f g 0 0) 0 0 w h → last ≡ putRow l 64 (runTap room 0) t 0 (h * w)
-      → last ≡ putRow l 64 (kernelTap win o f g w) t 0 (h * w)
-  unfolding runTap kernelTap
-  trial-is l last room t e q = q ∙ row_same l 64 (runTap room 0) (kernelTap win o f g w) t 0 (h * w) (λ c a b. let z : c - 0 ≡ c = omega arith in rw z (ap sample (room-entry room e c (omega arith))))
+  pub trial-is : (l last room : List ℕ) (t : ℕ) → room ≡ put_block (replicate 64 16384) w (window_tap win o f g 0 0) 0 0 w h → last ≡ put_row l 64 (run_tap room 0) t 0 (h * w)
+      → last ≡ put_row l 64 (kernel_tap win o f g w) t 0 (h * w)
+  unfolding run_tap kernel_tap
+  trial-is l last room t e q = q ∙ row_same l 64 (run_tap room 0) (kernel_tap win o f g w) t 0 (h * w) (λ c a b. let z : c - 0 ≡ c = omega arith in rw z (ap sample (room-entry room e c (omega arith))))
 
 -- one trial block more
-pub trials-more : (win : List ℕ) (u : Twelve) (w n : ℕ) (l d last : List ℕ) (t : ℕ) (o : Taps) (f g : Strength) → o ≡ tapsBy u (t % 4) → f ≡ primaryBy u (t % 4) → g ≡ secondaryBy u (t / 4)
-    → d ≡ putBlock l 64 (anyTap win u w) 0 0 n t → last ≡ putRow d 64 (kernelTap win o f g w) t 0 n → last ≡ putBlock l 64 (anyTap win u w) 0 0 n (t + 1)
-unfolding anyTap
+pub trials-more : (win : List ℕ) (u : Twelve) (w n : ℕ) (l d last : List ℕ) (t : ℕ) (o : Taps) (f g : Strength) → o ≡ taps_by u (t % 4) → f ≡ primary_by u (t % 4) → g ≡ secondary_by u (t / 4)
+    → d ≡ put_block l 64 (any_tap win u w) 0 0 n t → last ≡ put_row d 64 (kernel_tap win o f g w) t 0 n → last ≡ put_block l 64 (any_tap win u w) 0 0 n (t + 1)
+unfolding any_tap
 trials-more win u w n l d last t o f g eo ef eg e h =
     let z : 0 + t ≡ t = omega arith in
     h
-    ∙ row_same d 64 (kernelTap win o f g w) (anyTap win u w) t 0 n (λ c a b. rw (eo, ef, eg))
-    ∙ rw (block_more l 64 (anyTap win u w) 0 0 n t, z, e)
+    ∙ row_same d 64 (kernel_tap win o f g w) (any_tap win u w) t 0 n (λ c a b. rw (eo, ef, eg))
+    ∙ rw (block_more l 64 (any_tap win u w) 0 0 n t, z, e)

@@ -3,22 +3,22 @@ use Rattle.std.specs.Prelude.{◌≡◌, refl, List, ℕ, zero, suc, ◌+◌, �
 use Rattle.std.proofs.Common.{sym, ap, ◌∙◌, ⊎_elim, div-add-mod', mod-lt, mul-le-mul, mul-le-mul_right, div-lt_iff_lt-mul, mul_comm, arith}
 use Rattle.std.proofs.Math.Decide.{dec_lt}
 use Rattle.cdef_spec.specs.Standard.{Tap}
-use Rattle.cdef_spec.specs.LoopForm.{putRow, putBlock}
+use Rattle.cdef_spec.specs.LoopForm.{put_row, put_block}
 use Rattle.cdef_spec.specs.PlaneLaws.{block_same}
 use Rattle.cdef_spec.specs.declared.TrialWay.{TrialWay}
 use Rattle.cdef_spec.specs.declared.WorkingDamping.{WorkingDamping}
 use Rattle.arith_sample.specs.Bounds.{Held, Marked}
 use Rattle.filter_rows.specs.declared.Taps.{Taps}
-use Rattle.plane_taps.specs.Steps.{tapsBy}
+use Rattle.plane_taps.specs.Steps.{taps_by}
 use Rattle.plane_taps.specs.StepLaws.{taps-near}
 use Rattle.plane_taps.specs.Reach.{Around}
 use Rattle.plane_taps.specs.ReachLaws.{around-of}
 use Rattle.trial_strengths.specs.declared.Twelve.{Twelve}
-use Rattle.trial_strengths.specs.Strengths.{twelveOf}
+use Rattle.trial_strengths.specs.Strengths.{twelve_of}
 use Rattle.trial_strengths.specs.StrengthLaws.{twelve-ready}
 use Rattle.trial_strips.specs.Strips.{Strips}
-use Rattle.trial_sixteen.specs.Sixteen.{rawTap, Strong}
-use Rattle.trial_marks.specs.Trial.{trialTap, Tame}
+use Rattle.trial_sixteen.specs.Sixteen.{raw_tap, Strong}
+use Rattle.trial_marks.specs.Trial.{trial_tap, Tame}
 use Rattle.trial_marks.specs.TrialLaws.{trial-is, same-twelve}
 use Rattle.arith_numbers.specs.Packed.{Packed}
 use Rattle.arith_numbers.specs.PackedLaws.{width_low, runs-are, area, few}
@@ -31,7 +31,7 @@ module _ (w h : ℕ) (k : Packed w h) where
   pitch-low = omega (arith, rows-low, (width_low w h k).1)
 
   -- run i of the block in its strips, and the taps of a direction around it
-  pub run-around : (dir i : ℕ) → dir < 8 → i < w * h / 16 → Around 480 (2 * ((h + 4) * w) + 2 * w + i * 16) 16 (tapsBy w ((h + 4) * w) dir)
+  pub run-around : (dir i : ℕ) → dir < 8 → i < w * h / 16 → Around 480 (2 * ((h + 4) * w) + 2 * w + i * 16) 16 (taps_by w ((h + 4) * w) dir)
   run-around dir i hd hi =
       around-of (taps-near w ((h + 4) * w) (omega (arith, (width_low w h k).1)) (omega (arith, pitch-low)) dir hd) 480 (2 * ((h + 4) * w) + 2 * w + i * 16) 16
       (omega arith) (omega (arith, (width_low w h k).1, area w h k, runs-are w h k)) (omega arith)
@@ -56,20 +56,20 @@ module _ {win s : List ℕ} {w n : ℕ} (st : Strips win w n s) (hw : 0 < w) (hn
   strips-held = record { all = strip-held }
 
 -- no entries stored
-pub block_none : (d : List ℕ) (f : ℕ → ℕ → Tap) (y x n : ℕ) → putBlock d 64 f y x 0 n ≡ d
-unfolding putBlock putRow
+pub block_none : (d : List ℕ) (f : ℕ → ℕ → Tap) (y x n : ℕ) → put_block d 64 f y x 0 n ≡ d
+unfolding put_block put_row
 block_none d f y x zero = refl
 block_none d f y x (suc n) = block_none d f y x n
 
 -- the strengths of the twelve lie in range
-pub strong-twelve : (way : TrialWay) (dir : ℕ) (damping : WorkingDamping) (depth : ℕ) → dir < 8 → depth ≤ 12 → Strong (twelveOf way dir damping depth)
+pub strong-twelve : (way : TrialWay) (dir : ℕ) (damping : WorkingDamping) (depth : ℕ) → dir < 8 → depth ≤ 12 → Strong (twelve_of way dir damping depth)
 strong-twelve way dir damping depth hd hi =
     let r = twelve-ready way dir damping depth hd hi in
     record { p1 = r.p1; p2 = r.p2; p3 = r.p3; s1 = r.s1; s2 = r.s2; same = same-twelve way dir damping depth }
 
 -- what is stored run by run from the strips is the window's trial
-pub runs-trial : (d last win l : List ℕ) (w h : ℕ) (k : Packed w h) → Strips win w (h + 4) l → Marked win → (u : Twelve) (dir : ℕ) → dir < 8 → Tame u dir → (own none : Taps) → own ≡ tapsBy w ((h + 4) * w) dir → none ≡ tapsBy w ((h + 4) * w) 0
-    → last ≡ putBlock d 64 (rawTap l (2 * ((h + 4) * w) + 2 * w) own none u) 0 0 (w * h / 16 * 16) 12 → last ≡ putBlock d 64 (trialTap win u w) 0 0 (h * w) 12
+pub runs-trial : (d last win l : List ℕ) (w h : ℕ) (k : Packed w h) → Strips win w (h + 4) l → Marked win → (u : Twelve) (dir : ℕ) → dir < 8 → Tame u dir → (own none : Taps) → own ≡ taps_by w ((h + 4) * w) dir → none ≡ taps_by w ((h + 4) * w) 0
+    → last ≡ put_block d 64 (raw_tap l (2 * ((h + 4) * w) + 2 * w) own none u) 0 0 (w * h / 16 * 16) 12 → last ≡ put_block d 64 (trial_tap win u w) 0 0 (h * w) 12
 runs-trial d last win l w h k st m u dir hd q own none eo ez e =
     let b = width_low w h k in
-    e ∙ rw (eo, ez, runs-are w h k) (block_same d 64 _ (trialTap win u w) 0 0 (h * w) 12 (λ t c a g x y. trial-is st m b.0 b.1 (omega (arith, k.height)) hd q h t c refl (omega arith)))
+    e ∙ rw (eo, ez, runs-are w h k) (block_same d 64 _ (trial_tap win u w) 0 0 (h * w) 12 (λ t c a g x y. trial-is st m b.0 b.1 (omega (arith, k.height)) hd q h t c refl (omega arith)))

@@ -2,10 +2,10 @@
 ghost use Rattle.std.specs.Prelude.{◌≡◌, ◌≤◌, ◌<◌, length};
 ghost use Rattle.cdef_spec.specs.Words.{table};
 ghost use Rattle.cdef_spec.specs.Document01.{Plane};
-ghost use Rattle.cdef_spec.specs.BlockCalls.{trialPlace};
+ghost use Rattle.cdef_spec.specs.BlockCalls.{trial_place};
 ghost use Rattle.arith_sample.specs.Bounds.{Marked};
 ghost use Rattle.arith_sample.specs.Upto.{upto};
-ghost use Rattle.filter_window.specs.Window.{planeOf, windowAt};
+ghost use Rattle.filter_window.specs.Window.{plane_of, window_at};
 ghost use Rattle.filter_window.specs.Spans.{InPlane};
 
 use cdef_spec::{Block, TrialWay, WorkingDamping};
@@ -22,8 +22,8 @@ pub fn trial_window(
 )
     requires out_len { (length out.old ≡ 768) × (b.width ≤ 8) × (b.height ≤ 8) × Marked win.now }
     requires dir_bound { (dir < 8) × (damping.0 ≤ 31) × (8 ≤ depth) × (depth ≤ 12) }
-    ensures { (p : Plane) → win.now ≡ upto (windowAt p b) 144
-        → out.new ≡ table 768 (trialPlace p b way dir damping depth out.old) }
+    ensures { (p : Plane) → win.now ≡ upto (window_at p b) 144
+        → out.new ≡ table 768 (trial_place p b way dir damping depth out.old) }
 {
     let u = trial_strengths::strengths(way, dir, damping, depth);
     if damping.0 <= 12 {
@@ -47,9 +47,9 @@ pub fn cdef_block_candidates(
     damping: WorkingDamping,
     depth: u8,
 )
-    requires in_plane { InPlane src.now w h b × Marked (upto (windowAt (planeOf src.now w h) b) 144) × (length out.old ≡ 768) }
+    requires in_plane { InPlane src.now w h b × Marked (upto (window_at (plane_of src.now w h) b) 144) × (length out.old ≡ 768) }
     requires dir_bound { (dir < 8) × (damping.0 ≤ 31) × (8 ≤ depth) × (depth ≤ 12) }
-    ensures { out.new ≡ table 768 (trialPlace (planeOf src.now w h) b way dir damping depth out.old) }
+    ensures { out.new ≡ table 768 (trial_place (plane_of src.now w h) b way dir damping depth out.old) }
 {
     let win = filter_window::window(src, w, h, b);
     trial_window(out, &win, b, way, dir, damping, depth);

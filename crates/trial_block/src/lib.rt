@@ -2,12 +2,12 @@
 pub mod block; // block.rt: the trial of a block of a plane
 
 ghost use Rattle.std.specs.Prelude.{◌≡◌, true, ℕ, ◌+◌, ◌*◌, ◌≤◌, ◌<◌, length};
-ghost use Rattle.cdef_spec.specs.LoopForm.{putBlock};
+ghost use Rattle.cdef_spec.specs.LoopForm.{put_block};
 ghost use Rattle.arith_sample.specs.Bounds.{Held, Marked};
 ghost use Rattle.plane_taps.specs.Reach.{Around};
-ghost use Rattle.trial_sums.specs.Raw.{secRaw};
-ghost use Rattle.trial_sixteen.specs.Sixteen.{rawTap, Strong};
-ghost use Rattle.trial_marks.specs.Trial.{trialTap, Tame};
+ghost use Rattle.trial_sums.specs.Raw.{sec_raw};
+ghost use Rattle.trial_sixteen.specs.Sixteen.{raw_tap, Strong};
+ghost use Rattle.trial_marks.specs.Trial.{trial_tap, Tame};
 ghost use Rattle.arith_numbers.specs.Packed.{Packed};
 
 use filter_rows::Taps;
@@ -26,8 +26,8 @@ fn runs(
 )
     requires out_len { (length out.old ≡ 768) × (n ≤ 4) × Held l.now × Strong u }
     requires by_index { (i : ℕ) → i < n → Around (length l.now) (from + i * 16) 16 own × Around (length l.now) (from + i * 16) 16 zero }
-    requires sh_value { same ≡ true → (i s sh : ℕ) → secRaw l.now i own s sh ≡ secRaw l.now i zero s sh }
-    ensures { out.new ≡ putBlock out.old 64 (rawTap l.now from own zero u) 0 0 (n * 16) 12 }
+    requires sh_value { same ≡ true → (i s sh : ℕ) → sec_raw l.now i own s sh ≡ sec_raw l.now i zero s sh }
+    ensures { out.new ≡ put_block out.old 64 (raw_tap l.now from own zero u) 0 0 (n * 16) 12 }
 {
     for i in 0..n {
         trial_sixteen::sixteen(out, l, from, i * 16, own, zero, same, u);
@@ -37,7 +37,7 @@ fn runs(
 // All twelve trial blocks of a block w by h, from its window. Marks count as the values that they are, which changes nothing with these strengths.
 fn by_strips(out: &mut [u16], w: usize, h: usize, win: &[u16; 144], dir: usize, u: Twelve)
     requires { (length out.old ≡ 768) × Packed w h × Marked win.now × (dir < 8) × Strong u × Tame u dir }
-    ensures { out.new ≡ putBlock out.old 64 (trialTap win.now u w) 0 0 (h * w) 12 }
+    ensures { out.new ≡ put_block out.old 64 (trial_tap win.now u w) 0 0 (h * w) 12 }
 {
     let n = h + 4;
     let l = trial_strips::strips(win, w, n);

@@ -9,19 +9,19 @@ use Rattle.std.proofs.Math.IntN.{pos, +ℤ_idl, zero-*ℤ, suc_ℤ-*ℤ}
 use Rattle.std.proofs.Math.ListN.{get_or}
 use Rattle.std.specs.Int.Signed.{mag}
 use Rattle.arith_sample.specs.Bounds.{Held}
-use Rattle.arith_sample.specs.Sample.{orCentre, size_of, conOf, roundOf, movedOf, overOf, underOf, finishOf, freeOf}
+use Rattle.arith_sample.specs.Sample.{or_centre, size_of, con_of, round_of, moved_of, over_of, under_of, finish_of, free_of}
 use Rattle.arith_sample.specs.SampleLaws.{centre-mark, centre-tap, centre-marked, con-below, con-above, held-nat, finish-mark, finish-on, free-mark, free_on}
-use Rattle.filter_limits.specs.Limits.{most_of, lowestOf, highestOf}
+use Rattle.filter_limits.specs.Limits.{most_of, lowest_of, highest_of}
 use Rattle.filter_limits.specs.LimitsLaws.{unmarked-le}
-use Rattle.filter_rows.specs.Place.{onFrom, backFrom, tapOn, tapBack}
-use Rattle.filter_rows.specs.Pairs.{pair_of, pairsOf, weighed}
+use Rattle.filter_rows.specs.Place.{on_from, back_from, tap_on, tap_back}
+use Rattle.filter_rows.specs.Pairs.{pair_of, pairs_of, weighed}
 use Rattle.filter_rows.specs.PairsLaws.{con-self, lowest-is, highest-is}
-use Rattle.filter_rows.specs.Sums.{pair_at, priAt, sideAt, secAt, lowAt, highAt, filteredAt}
+use Rattle.filter_rows.specs.Sums.{pair_at, pri_at, side_at, sec_at, low_at, high_at, filtered_at}
 use Rattle.filter_rows.specs.declared.Taps.{Taps}
 use Rattle.filter_rows.specs.declared.Strength.{Strength}
-use Rattle.plane_taps.specs.Plain.{pairPlain, priPlain}
-use Rattle.trial_sums.specs.Raw.{side_of, priRaw, nearRaw, secRaw}
-use Rattle.trial_sixteen.specs.Sixteen.{raisedRaw, clippedRaw}
+use Rattle.plane_taps.specs.Plain.{pair_plain, pri_plain}
+use Rattle.trial_sums.specs.Raw.{side_of, pri_raw, near_raw, sec_raw}
+use Rattle.trial_sixteen.specs.Sixteen.{raised_raw, clipped_raw}
 use Rattle.arith_sample.specs.Bounds.{Marked}
 use Rattle.arith_sample.specs.BoundLaws.{marked-held}
 use Rattle.trial_marks.specs.Marks.{Quiet, Side}
@@ -36,13 +36,13 @@ size-far a s sh q h =
     omega arith
 
 module _ (t c s sh : ℕ) (q : Quiet s sh) where
-  con-on-mark : t ≡ 16384 → c < 4096 → conOf t c s sh ≡ pos 0
+  con-on-mark : t ≡ 16384 → c < 4096 → con_of t c s sh ≡ pos 0
   con-on-mark e h = con-above t c s sh (omega arith) ∙ ap pos (size-far _ s sh q (omega arith))
 
-  con-by-mark : t < 4096 → c ≡ 16384 → conOf t c s sh ≡ pos 0
+  con-by-mark : t < 4096 → c ≡ 16384 → con_of t c s sh ≡ pos 0
   con-by-mark h e = con-below t c s sh (omega arith) ∙ ap (λ (n : ℕ). neg_ℤ (pos n)) (size-far _ s sh q (omega arith))
 
-  pub con-marked : (t < 4096) ⊎ (t ≡ 16384) → (c < 4096) ⊎ (c ≡ 16384) → conOf t c s sh ≡ conOf (orCentre t c) c s sh
+  pub con-marked : (t < 4096) ⊎ (t ≡ 16384) → (c < 4096) ⊎ (c ≡ 16384) → con_of t c s sh ≡ con_of (or_centre t c) c s sh
   con-marked (inl h) (inl k) = rw (centre-tap t c (λ e. omega arith) (λ e. omega arith))
   con-marked (inl h) (inr k) = con-by-mark h k ∙ sym (rw (centre-marked t c (λ e. omega arith) k) (con-self c s sh))
   con-marked (inr h) (inl k) = con-on-mark h k ∙ sym (rw (centre-mark t c h) (con-self c s sh))
@@ -54,16 +54,16 @@ one-scale : (z : ℤ) → pos 1 *ℤ z ≡ z
 one-scale z = suc_ℤ-*ℤ (pos 0) z ∙ ap (λ (x : ℤ). x +ℤ z) (zero-*ℤ z) ∙ +ℤ_idl z
 
 module _ (win : List ℕ) (m : Marked win) (k : ℕ) (t : Taps) where
-  pair-raw : (o s sh : ℕ) → Quiet s sh → pairPlain (pair_of win k o) (get_or win k 0) s sh ≡ pair_at win k o (get_or win k 0) s sh
-  unfolding pairPlain pair_of pair_at tapOn tapBack
-  pair-raw o s sh q = rw (con-marked (get_or win (onFrom k o) 0) (get_or win k 0) s sh q (m.all (onFrom k o)) (m.all k), con-marked (get_or win (backFrom k o) 0) (get_or win k 0) s sh q (m.all (backFrom k o)) (m.all k))
+  pair-raw : (o s sh : ℕ) → Quiet s sh → pair_plain (pair_of win k o) (get_or win k 0) s sh ≡ pair_at win k o (get_or win k 0) s sh
+  unfolding pair_plain pair_of pair_at tap_on tap_back
+  pair-raw o s sh q = rw (con-marked (get_or win (on_from k o) 0) (get_or win k 0) s sh q (m.all (on_from k o)) (m.all k), con-marked (get_or win (back_from k o) 0) (get_or win k 0) s sh q (m.all (back_from k o)) (m.all k))
 
-  pub pri-raw : (f : Strength) → Quiet f.s f.sh → priRaw win k t f ≡ priAt win k t f
-  unfolding priRaw priPlain weighed priAt
+  pub pri-raw : (f : Strength) → Quiet f.s f.sh → pri_raw win k t f ≡ pri_at win k t f
+  unfolding pri_raw pri_plain weighed pri_at
   pri-raw f q = rw (pair-raw t.p0 f.s f.sh q, pair-raw t.p1 f.s f.sh q)
 
-  pub sec-raw : (g : Strength) → Side g → secRaw win k t g.s g.sh ≡ secAt win k t g
-  unfolding secRaw nearRaw side_of secAt sideAt
+  pub sec-raw : (g : Strength) → Side g → sec_raw win k t g.s g.sh ≡ sec_at win k t g
+  unfolding sec_raw near_raw side_of sec_at side_at
   sec-raw g q =
       let s : ℕ = g.s in
       let sh : ℕ = g.sh in
@@ -73,42 +73,42 @@ module _ (win : List ℕ) (m : Marked win) (k : ℕ) (t : Taps) where
 
 -- ---- a marked centre: the sums are 0
 
-or-mark : (t c : ℕ) → c ≡ 16384 → orCentre t c ≡ c
+or-mark : (t c : ℕ) → c ≡ 16384 → or_centre t c ≡ c
 or-mark t c e = go (ℕ_discrete t 16384)
   where
-    go : Dec (t ≡ 16384) → orCentre t c ≡ c
+    go : Dec (t ≡ 16384) → or_centre t c ≡ c
     go (yes h) = centre-mark t c h
     go (no h) = centre-marked t c h e
 
 module _ (win : List ℕ) (k : ℕ) (t : Taps) (e : get_or win k 0 ≡ 16384) where
   pair-off : (o s sh : ℕ) → pair_at win k o (get_or win k 0) s sh ≡ pos 0
-  unfolding pair_at tapOn tapBack
+  unfolding pair_at tap_on tap_back
   pair-off o s sh = let c : ℕ = get_or win k 0 in
-      rw (or-mark (get_or win (onFrom k o) 0) c e, or-mark (get_or win (backFrom k o) 0) c e, con-self c s sh)
+      rw (or-mark (get_or win (on_from k o) 0) c e, or-mark (get_or win (back_from k o) 0) c e, con-self c s sh)
 
-  pub pri-off : (f : Strength) → priAt win k t f ≡ pos 0
-  unfolding priAt
+  pub pri-off : (f : Strength) → pri_at win k t f ≡ pos 0
+  unfolding pri_at
   pri-off f = rw (pair-off t.p0 f.s f.sh, pair-off t.p1 f.s f.sh) (ap pos (omega arith))
 
-  pub sec-off : (f : Strength) → secAt win k t f ≡ pos 0
-  unfolding secAt sideAt
+  pub sec-off : (f : Strength) → sec_at win k t f ≡ pos 0
+  unfolding sec_at side_at
   sec-off f = rw (pair-off t.q0 f.s f.sh, pair-off t.r0 f.s f.sh, pair-off t.q1 f.s f.sh, pair-off t.r1 f.s f.sh) (ap pos (omega arith))
 
 -- ---- the sample
 
-still : (c : ℕ) → movedOf c (pos 0) ≡ pos c
-unfolding movedOf roundOf
+still : (c : ℕ) → moved_of c (pos 0) ≡ pos c
+unfolding moved_of round_of
 still c = ap pos (omega arith)
 
-over-still : (c lo : ℕ) → lo ≤ c → overOf (pos c) lo ≡ pos c
-unfolding overOf
+over-still : (c lo : ℕ) → lo ≤ c → over_of (pos c) lo ≡ pos c
+unfolding over_of
 over-still c lo h = rw (le-ltb c lo h)
 
-raised_is : (win : List ℕ) (k : ℕ) (z : ℤ) → (get_or win k 0 ≡ 16384 → z ≡ pos 0) → raisedRaw win k z ≡ freeOf (get_or win k 0) z
-unfolding raisedRaw
+raised_is : (win : List ℕ) (k : ℕ) (z : ℤ) → (get_or win k 0 ≡ 16384 → z ≡ pos 0) → raised_raw win k z ≡ free_of (get_or win k 0) z
+unfolding raised_raw
 raised_is win k z h = go (ℕ_discrete (get_or win k 0) 16384)
   where
-    go : Dec (get_or win k 0 ≡ 16384) → mag (overOf (movedOf (get_or win k 0) z) 0) ≡ freeOf (get_or win k 0) z
+    go : Dec (get_or win k 0 ≡ 16384) → mag (over_of (moved_of (get_or win k 0) z) 0) ≡ free_of (get_or win k 0) z
     go (no n) = sym (free_on (get_or win k 0) z n)
     go (yes e) = rw (h e, still (get_or win k 0), over-still (get_or win k 0) 0 (omega arith)) (sym (free-mark (get_or win k 0) (pos 0) e))
 
@@ -119,47 +119,47 @@ module _ (win : List ℕ) (h : Held win) (k : ℕ) (t : Taps) where
   c = get_or win k 0
 
   abbrev lo : ℕ
-  lo = lowestOf (pairsOf win k t) c
+  lo = lowest_of (pairs_of win k t) c
 
   abbrev hi : ℕ
-  hi = highestOf (pairsOf win k t) c
+  hi = highest_of (pairs_of win k t) c
 
   least-le : lo ≤ c
-  unfolding lowestOf
+  unfolding lowest_of
   least-le = omega arith
 
   most-le : (o : ℕ) → most_of (pair_of win k o) ≤ 16384
   unfolding most_of pair_of
   most-le o =
-      let a : ℕ = get_or win (onFrom k o) 0 in
-      let b : ℕ = get_or win (backFrom k o) 0 in
-      omega (arith, unmarked-le a, unmarked-le b, h.all (onFrom k o), h.all (backFrom k o))
+      let a : ℕ = get_or win (on_from k o) 0 in
+      let b : ℕ = get_or win (back_from k o) 0 in
+      omega (arith, unmarked-le a, unmarked-le b, h.all (on_from k o), h.all (back_from k o))
 
   most-is : c ≡ 16384 → hi ≡ 16384
-  unfolding highestOf pairsOf
+  unfolding highest_of pairs_of
   most-is e = omega (arith, most-le t.p0, most-le t.p1, most-le t.q0, most-le t.q1, most-le t.r0, most-le t.r1)
 
-  clipped-is : (z : ℤ) → (get_or win k 0 ≡ 16384 → z ≡ pos 0) → clippedRaw win k t z ≡ finishOf (get_or win k 0) z (lowAt win k t) (highAt win k t)
-  unfolding clippedRaw
+  clipped-is : (z : ℤ) → (get_or win k 0 ≡ 16384 → z ≡ pos 0) → clipped_raw win k t z ≡ finish_of (get_or win k 0) z (low_at win k t) (high_at win k t)
+  unfolding clipped_raw
   clipped-is z q = go (ℕ_discrete (get_or win k 0) 16384)
     where
-      go : Dec (c ≡ 16384) → mag (underOf (overOf (movedOf c z) lo) hi) ≡ finishOf c z (lowAt win k t) (highAt win k t)
-      go (no n) = rw (lowest-is win k t h n, highest-is win k t h n) (sym (finish-on c z (lowAt win k t) (highAt win k t) n))
+      go : Dec (c ≡ 16384) → mag (under_of (over_of (moved_of c z) lo) hi) ≡ finish_of c z (low_at win k t) (high_at win k t)
+      go (no n) = rw (lowest-is win k t h n, highest-is win k t h n) (sym (finish-on c z (low_at win k t) (high_at win k t) n))
       go (yes e) =
           let a : min c hi ≡ c = omega (arith, most-is e) in
-          rw (q e, still c, held-nat (pos c) lo hi, over-still c lo least-le) (a ∙ sym (finish-mark c (pos 0) (lowAt win k t) (highAt win k t) e))
+          rw (q e, still c, held-nat (pos c) lo hi, over-still c lo least-le) (a ∙ sym (finish-mark c (pos 0) (low_at win k t) (high_at win k t) e))
 
 -- ---- the sample by its raw sums
 
 module _ (win : List ℕ) (m : Marked win) (k : ℕ) (t : Taps) where
-  pub raised-pri : (f : Strength) → Quiet f.s f.sh → raisedRaw win k (priRaw win k t f) ≡ freeOf (get_or win k 0) (priAt win k t f)
-  raised-pri f q = rw (pri-raw win m k t f q) (raised_is win k (priAt win k t f) (λ e. pri-off win k t e f))
+  pub raised-pri : (f : Strength) → Quiet f.s f.sh → raised_raw win k (pri_raw win k t f) ≡ free_of (get_or win k 0) (pri_at win k t f)
+  raised-pri f q = rw (pri-raw win m k t f q) (raised_is win k (pri_at win k t f) (λ e. pri-off win k t e f))
 
-  pub raised-sec : (g : Strength) → Side g → raisedRaw win k (secRaw win k t g.s g.sh) ≡ freeOf (get_or win k 0) (secAt win k t g)
-  raised-sec g q = rw (sec-raw win m k t g q) (raised_is win k (secAt win k t g) (λ e. sec-off win k t e g))
+  pub raised-sec : (g : Strength) → Side g → raised_raw win k (sec_raw win k t g.s g.sh) ≡ free_of (get_or win k 0) (sec_at win k t g)
+  raised-sec g q = rw (sec-raw win m k t g q) (raised_is win k (sec_at win k t g) (λ e. sec-off win k t e g))
 
-  pub clipped-both : (f g : Strength) → Quiet f.s f.sh → Side g → clippedRaw win k t (priRaw win k t f +ℤ secRaw win k t g.s g.sh) ≡ filteredAt win k t f g
-  unfolding filteredAt
+  pub clipped-both : (f g : Strength) → Quiet f.s f.sh → Side g → clipped_raw win k t (pri_raw win k t f +ℤ sec_raw win k t g.s g.sh) ≡ filtered_at win k t f g
+  unfolding filtered_at
   clipped-both f g q r =
       rw (pri-raw win m k t f q, sec-raw win m k t g r)
-      (clipped-is win (marked-held m) k t (priAt win k t f +ℤ secAt win k t g) (λ e. rw (pri-off win k t e f, sec-off win k t e g)))
+      (clipped-is win (marked-held m) k t (pri_at win k t f +ℤ sec_at win k t g) (λ e. rw (pri-off win k t e f, sec-off win k t e g)))

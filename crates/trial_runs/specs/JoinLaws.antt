@@ -8,12 +8,12 @@ use Rattle.std.proofs.Math.ListN.{get_or}
 use Rattle.std.proofs.Math.Seq.{ext_get_or}
 use Rattle.cdef_spec.specs.Standard.{Tap}
 use Rattle.cdef_spec.specs.Document01.{or_else}
-use Rattle.cdef_spec.specs.LoopForm.{putRow, putBlock}
+use Rattle.cdef_spec.specs.LoopForm.{put_row, put_block}
 use Rattle.cdef_spec.specs.PlaneLaws.{length-put-block, block_in, block_out}
 
 -- entries of a row from the first on, then those after them
-pub row-join : (d : List ℕ) (w : ℕ) (f : ℕ → ℕ → Tap) (r a n : ℕ) → putRow (putRow d w f r 0 a) w f r a n ≡ putRow d w f r 0 (a + n)
-unfolding putRow
+pub row-join : (d : List ℕ) (w : ℕ) (f : ℕ → ℕ → Tap) (r a n : ℕ) → put_row (put_row d w f r 0 a) w f r a n ≡ put_row d w f r 0 (a + n)
+unfolding put_row
 row-join d w f r a zero = let z : a + 0 ≡ a = omega arith in rw z
 row-join d w f r a (suc n) =
     let z : a + suc n ≡ suc (a + n) = omega arith in
@@ -23,13 +23,13 @@ row-join d w f r a (suc n) =
 module _ (d : List ℕ) (w : ℕ) (f : ℕ → ℕ → Tap) (y x m m2 n : ℕ) (hx : x + m + m2 ≤ w) where
   -- the first block, then the second
   unfoldable left : List ℕ
-  left = putBlock d w f y x m n
+  left = put_block d w f y x m n
 
   unfoldable two : List ℕ
-  two = putBlock left w f y (x + m) m2 n
+  two = put_block left w f y (x + m) m2 n
 
   unfoldable one : List ℕ
-  one = putBlock d w f y x (m + m2) n
+  one = put_block d w f y x (m + m2) n
 
   length-left : length left ≡ length d
   unfolding left
@@ -55,7 +55,7 @@ module _ (d : List ℕ) (w : ℕ) (f : ℕ → ℕ → Tap) (y x m m2 n : ℕ) (
     unfolding two left one
     inside a b lo hi = go (dec_lt c (x + m)) ∙ sym (block_in w f d y x (m + m2) n r c hc (omega arith) a b lo hi hl)
       where
-        go : Dec (c < x + m) → get_or (putBlock left w f y (x + m) m2 n) (r * w + c) 0 ≡ or_else (get_or d (r * w + c) 0) (f r c)
+        go : Dec (c < x + m) → get_or (put_block left w f y (x + m) m2 n) (r * w + c) 0 ≡ or_else (get_or d (r * w + c) 0) (f r c)
         go (yes h) =
             block_out w f left y (x + m) m2 n r c hc hx (λ i j k l. omega arith)
             ∙ block_in w f d y x m n r c hc (omega arith) a b lo h hl
@@ -73,7 +73,7 @@ module _ (d : List ℕ) (w : ℕ) (f : ℕ → ℕ → Tap) (y x m m2 n : ℕ) (
         go (yes a) (yes b) (no k) _ = outside (λ a b e h. k e)
         go (yes a) (yes b) (yes e) (no k) = outside (λ a b e h. k h)
 
-  pub block-join : 0 < w → putBlock (putBlock d w f y x m n) w f y (x + m) m2 n ≡ putBlock d w f y x (m + m2) n
+  pub block-join : 0 < w → put_block (put_block d w f y x m n) w f y (x + m) m2 n ≡ put_block d w f y x (m + m2) n
   unfolding two left one
   block-join hw =
       ext_get_or 0 two one (length_two ∙ sym length-one)
@@ -84,7 +84,7 @@ module _ (d : List ℕ) (w : ℕ) (f : ℕ → ℕ → Tap) (y x m m2 n : ℕ) (
       ∙ ap (λ (i : ℕ). get_or one i 0) e)
 
 -- a run of sixteen columns more, of blocks 64 wide
-pub run_join : (d l : List ℕ) (f : ℕ → ℕ → Tap) (i n : ℕ) → (i + 1) * 16 ≤ 64 → d ≡ putBlock l 64 f 0 0 (i * 16) n → putBlock d 64 f 0 (i * 16) 16 n ≡ putBlock l 64 f 0 0 ((i + 1) * 16) n
+pub run_join : (d l : List ℕ) (f : ℕ → ℕ → Tap) (i n : ℕ) → (i + 1) * 16 ≤ 64 → d ≡ put_block l 64 f 0 0 (i * 16) n → put_block d 64 f 0 (i * 16) 16 n ≡ put_block l 64 f 0 0 ((i + 1) * 16) n
 run_join d l f i n h e =
     let z : (i + 1) * 16 ≡ i * 16 + 16 = omega arith in
     let o : 0 + i * 16 ≡ i * 16 = omega arith in

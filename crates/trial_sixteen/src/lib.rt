@@ -1,10 +1,10 @@
 // Sixteen samples of the twelve trial blocks, from their sums.
 ghost use Rattle.std.specs.Prelude.{◌≡◌, true, ℕ, ◌+◌, ◌≤◌, length};
-ghost use Rattle.cdef_spec.specs.LoopForm.{putBlock};
+ghost use Rattle.cdef_spec.specs.LoopForm.{put_block};
 ghost use Rattle.arith_sample.specs.Bounds.{Held, Within};
 ghost use Rattle.plane_taps.specs.Reach.{Around};
-ghost use Rattle.trial_sums.specs.Raw.{secRaw, SecKnown};
-ghost use Rattle.trial_sixteen.specs.Sixteen.{rawTap, Strong, PriWithin, firstRuns, fourRuns};
+ghost use Rattle.trial_sums.specs.Raw.{sec_raw, SecKnown};
+ghost use Rattle.trial_sixteen.specs.Sixteen.{raw_tap, Strong, PriWithin, first_runs, four_runs};
 
 use filter_rows::Taps;
 use trial_strengths::Twelve;
@@ -35,7 +35,7 @@ fn zero_sums(
 // The four trials without a secondary strength: the samples unfiltered, then by each of the three primary sums.
 fn first_four(out: &mut [u16], k: usize, c: &[u16; 16], p: PriSums)
     requires { (length out.old ≡ 768) × (k + 16 ≤ 64) × Held c.now × PriWithin p }
-    ensures { out.new ≡ firstRuns out.old c.now p k }
+    ensures { out.new ≡ first_runs out.old c.now p k }
 {
     trial_runs::put_run(out, 0, k, *c);
     trial_runs::put_free(out, 1, k, c, &p.p1);
@@ -57,7 +57,7 @@ fn four(
 )
     requires out_len { (length out.old ≡ 768) × (t ≤ 8) × (k + 16 ≤ 64) }
     requires held { Held c.now × Within z.now 7680 × Within s.now 7680 × PriWithin p × Held lo.now × Held hi.now }
-    ensures { out.new ≡ fourRuns out.old c.now z.now s.now p lo.now
+    ensures { out.new ≡ four_runs out.old c.now z.now s.now p lo.now
         hi.now t k }
 {
     trial_runs::put_free(out, t, k, c, z);
@@ -80,8 +80,8 @@ pub fn sixteen(
 )
     requires out_len { (length out.old ≡ 768) × (k + 16 ≤ 64) × Held l.now × Strong u × Around (length l.now) (from + k) 16 own
         × Around (length l.now) (from + k) 16 zero }
-    requires sh_value { same ≡ true → (i s sh : ℕ) → secRaw l.now i own s sh ≡ secRaw l.now i zero s sh }
-    ensures { out.new ≡ putBlock out.old 64 (rawTap l.now from own zero u) 0 k 16 12 }
+    requires sh_value { same ≡ true → (i s sh : ℕ) → sec_raw l.now i own s sh ≡ sec_raw l.now i zero s sh }
+    ensures { out.new ≡ put_block out.old 64 (raw_tap l.now from own zero u) 0 k 16 12 }
 {
     let at = from + k;
     let c = trial_sums::centre(l, at);

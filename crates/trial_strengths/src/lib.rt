@@ -1,6 +1,6 @@
 // The filter parameters of the twelve trials.
 ghost use Rattle.std.specs.Prelude.{◌≡◌, ◌≤◌, ◌<◌};
-ghost use Rattle.trial_strengths.specs.Strengths.{adjustedBy, twelveOf};
+ghost use Rattle.trial_strengths.specs.Strengths.{adjusted_by, twelve_of};
 
 use cdef_spec::{TrialWay, WorkingDamping};
 use filter_rows::{Strength, Taps};
@@ -21,7 +21,7 @@ pub struct Twelve {
 // A primary strength, in luma adjusted by the variance.
 fn adjusted(way: TrialWay, s: u32) -> u32
     requires { s ≤ 240 }
-    ensures { result ≡ adjustedBy way s }
+    ensures { result ≡ adjusted_by way s }
 {
     match way {
         TrialWay::Luma(var) => arith_strength::adjust_pri(s, var),
@@ -31,7 +31,7 @@ fn adjusted(way: TrialWay, s: u32) -> u32
 
 pub fn strengths(way: TrialWay, dir: u8, damping: WorkingDamping, depth: u8) -> Twelve
     requires { (dir < 8) × (damping.0 ≤ 31) × (8 ≤ depth) × (depth ≤ 12) }
-    ensures { result ≡ twelveOf way dir damping depth }
+    ensures { result ≡ twelve_of way dir damping depth }
 {
     let d = filter_kernel::from_one(damping);
     let shift = (depth - 8) as u32;

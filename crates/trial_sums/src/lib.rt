@@ -5,7 +5,7 @@ ghost use Rattle.arith_sample.specs.Upto.{upto};
 ghost use Rattle.filter_limits.specs.Limits.{HeldPair};
 ghost use Rattle.filter_rows.specs.Sums.{InRange};
 ghost use Rattle.plane_taps.specs.Reach.{Around};
-ghost use Rattle.trial_sums.specs.Raw.{side_of, priRaw, PriKnown, NearKnown, SecKnown};
+ghost use Rattle.trial_sums.specs.Raw.{side_of, pri_raw, PriKnown, NearKnown, SecKnown};
 
 use filter_limits::Pair;
 use filter_rows::{Strength, Taps};
@@ -65,7 +65,7 @@ fn pri_three(t: &[u16], at: usize, o: Taps, f: Strength, g: Strength, h: Strengt
 
 fn pri_one(t: &[u16], at: usize, o: Taps, f: Strength) -> [i16; 16]
     requires { Around (length t.now) at 16 o × Held t.now × InRange f }
-    ensures { result ≡ upto (λ j. priRaw t.now (at + j) o f) 16 }
+    ensures { result ≡ upto (λ j. pri_raw t.now (at + j) o f) 16 }
 {
     let mut p = [0i16; 16];
     for j in 0..16usize {

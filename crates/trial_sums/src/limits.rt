@@ -2,7 +2,7 @@
 ghost use Rattle.arith_sample.specs.Bounds.{Held};
 ghost use Rattle.plane_taps.specs.Reach.{Reached6, Around};
 ghost use Rattle.std.specs.Prelude.{◌<◌, ◌≡◌, length};
-ghost use Rattle.filter_rows.specs.Pairs.{pairsOf};
+ghost use Rattle.filter_rows.specs.Pairs.{pairs_of};
 ghost use Rattle.trial_sums.specs.Raw.{LimitsKnown};
 
 use filter_limits::Pairs;
@@ -17,7 +17,7 @@ pub struct Limits {
 
 fn load_pairs(t: &[u16], k: usize, o: Taps) -> Pairs
     requires { Reached6 (length t.now) k o }
-    ensures { result ≡ pairsOf t.now k o }
+    ensures { result ≡ pairs_of t.now k o }
 {
     Pairs {
         p0: load::load(t, k, o.p0),

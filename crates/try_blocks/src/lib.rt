@@ -1,9 +1,9 @@
 // The trial blocks of a block of a plane, and its visible part.
 ghost use Rattle.std.specs.Prelude.{◌≡◌, List, ℕ, ◌*◌, ◌/◌, ◌≤◌, ◌<◌, length};
-ghost use Rattle.cdef_spec.specs.Picture.{blockWidth, blockHeight, visibleRows, visibleCols};
-ghost use Rattle.frame_shape.specs.Frame.{Shaped, pictureOf};
+ghost use Rattle.cdef_spec.specs.Picture.{block_width, block_height, visible_rows, visible_cols};
+ghost use Rattle.frame_shape.specs.Frame.{Shaped, picture_of};
 ghost use Rattle.frame_shape.specs.Lent.{Listed, Sampled, Seen, InForce};
-ghost use Rattle.try_blocks.specs.TrialBlocks.{trialBlocks, visiblePart};
+ghost use Rattle.try_blocks.specs.TrialBlocks.{trial_blocks, visible_part};
 
 use cdef_spec::{Block, SignalledDamping, Visible};
 use frame_shape::{Frame, geometry, params};
@@ -28,7 +28,7 @@ pub fn make_trials(
 )
     requires shaped { Shaped f × Sampled f snapshot.now × InForce d × (by < f.height / 8) × (bx < f.width / 8) × (length blocks.old ≡ 768) }
     requires by_index { (s : List ℕ) × Listed f s dirs.now vars.now }
-    ensures { (s : List ℕ) → blocks.new ≡ trialBlocks (pictureOf f s dirs.now vars.now) d
+    ensures { (s : List ℕ) → blocks.new ≡ trial_blocks (picture_of f s dirs.now vars.now) d
         snapshot.now by bx blocks.old }
 {
     let b = geometry::block_of(f, by, bx);
@@ -46,9 +46,9 @@ pub fn make_trials(
 // The visible part of a block that begins inside the visible area.
 pub fn visible_part(f: Frame, v: Visible, by: usize, bx: usize) -> Block
     requires shaped { Shaped f × Seen f v × (by < f.height / 8) × (bx < f.width / 8) }
-    requires by_index { (s : List ℕ) × (ds : List ℕ) × (vs : List ℕ) × (by * blockHeight (pictureOf f s ds vs) ≤ visibleRows (pictureOf f s ds vs) v)
-        × (bx * blockWidth (pictureOf f s ds vs) ≤ visibleCols (pictureOf f s ds vs) v) }
-    ensures { (s ds vs : List ℕ) → result ≡ visiblePart (pictureOf f s ds vs) v by bx }
+    requires by_index { (s : List ℕ) × (ds : List ℕ) × (vs : List ℕ) × (by * block_height (picture_of f s ds vs) ≤ visible_rows (picture_of f s ds vs) v)
+        × (bx * block_width (picture_of f s ds vs) ≤ visible_cols (picture_of f s ds vs) v) }
+    ensures { (s ds vs : List ℕ) → result ≡ visible_part (picture_of f s ds vs) v by bx }
 {
     let b = geometry::block_of(f, by, bx);
     let rows = geometry::visible_rows(f, v) - b.y;

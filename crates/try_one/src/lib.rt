@@ -1,9 +1,9 @@
 // Trying: one block of a plane.
 ghost use Rattle.std.specs.Prelude.{◌≡◌, ◌+◌, ◌*◌, ◌/◌, ◌<◌, length};
-ghost use Rattle.cdef_spec.specs.Distance.{constantsOf};
+ghost use Rattle.cdef_spec.specs.Distance.{constants_of};
 ghost use Rattle.cdef_spec.specs.LoopForm.{signed};
-ghost use Rattle.frame_shape.specs.Frame.{pictureOf};
-ghost use Rattle.try_one.specs.Trying.{Ready, triedBlocks};
+ghost use Rattle.frame_shape.specs.Frame.{picture_of};
+ghost use Rattle.try_one.specs.Trying.{Ready, tried_blocks};
 
 use cdef_spec::{DistanceConstants, SignalledDamping, Visible};
 use frame_shape::{Frame, geometry};
@@ -24,11 +24,11 @@ pub fn try_block(
     bx: usize,
     c: DistanceConstants,
 )
-    requires ready { Ready f v d snapshot.now original.now skip.now dirs.now vars.now × (c ≡ constantsOf f.depth) × (by < f.height / 8)
+    requires ready { Ready f v d snapshot.now original.now skip.now dirs.now vars.now × (c ≡ constants_of f.depth) × (by < f.height / 8)
         × (bx < f.width / 8) × (length blocks.old ≡ 768) }
-    requires totals_value { totals.old ≡ signed (triedBlocks (pictureOf f skip.now dirs.now vars.now) d v snapshot.now original.now by bx) }
+    requires totals_value { totals.old ≡ signed (tried_blocks (picture_of f skip.now dirs.now vars.now) d v snapshot.now original.now by bx) }
     ensures { totals.new ≡ signed
-        (triedBlocks (pictureOf f skip.now dirs.now vars.now) d v snapshot.now original.now by
+        (tried_blocks (picture_of f skip.now dirs.now vars.now) d v snapshot.now original.now by
         (bx + 1)) }
 {
     if !geometry::counted(f, v, skip, by, bx) {

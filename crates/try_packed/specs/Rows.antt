@@ -10,5 +10,5 @@ unfolding at
 rows_of s start pitch rows cols = upto (λ k. at s start pitch (k / cols) (k % cols)) (rows * cols)
 
 -- the plain squares between such a block of an original and trial block t, which lies at t * 64 and has cols samples a row
-unfoldable pub packedDistances : List ℕ → ℕ → ℕ → List ℕ → ℕ → ℕ → ℕ → ℕ
-packedDistances original start pitch blocks rows cols t = squares rows cols (at original start pitch) (at blocks (t * 64) cols)
+unfoldable pub packed_distances : List ℕ → ℕ → ℕ → List ℕ → ℕ → ℕ → ℕ → ℕ
+packed_distances original start pitch blocks rows cols t = squares rows cols (at original start pitch) (at blocks (t * 64) cols)

@@ -2,11 +2,11 @@
 // Runs of sixteen samples are the same loop for 4 by 4, 4 by 8, 8 by 4 and 8 by 8.
 ghost use Rattle.std.specs.Prelude.{◌≡◌, ℕ, ◌+◌, ◌*◌, ◌≤◌, ◌<◌, get_or, length, take};
 ghost use Rattle.cdef_spec.specs.Words.{sum};
-ghost use Rattle.cdef_spec.specs.Distance.{squaredDifference};
+ghost use Rattle.cdef_spec.specs.Distance.{squared_difference};
 ghost use Rattle.arith_numbers.specs.Packed.{Packed};
 ghost use Rattle.arith_sample.specs.Upto.{upto};
 ghost use Rattle.distance_sums.specs.Blocks.{Within};
-ghost use Rattle.try_packed.specs.Rows.{rows_of, packedDistances};
+ghost use Rattle.try_packed.specs.Rows.{rows_of, packed_distances};
 
 // The samples of a block of `rows` by `cols` at `start`, with a row pitch, row after row.
 fn pack(s: &[u16], start: usize, pitch: usize, rows: usize, cols: usize) -> [u16; 64]
@@ -33,7 +33,7 @@ fn pack(s: &[u16], start: usize, pitch: usize, rows: usize, cols: usize) -> [u16
 fn run_squares(a: &[u16; 64], k: usize, s: &[u16], from: usize) -> u32
     requires k_bound { (k + 16 ≤ 64) × (from + 16 ≤ length s.now) }
     requires by_index { (j : ℕ) → j < 16 → (get_or a.now (k + j) 0 < 4096) × (get_or s.now (from + j) 0 < 4096) }
-    ensures { result ≡ sum 16 (λ j. squaredDifference (get_or a.now (k + j) 0) (get_or s.now (from + j) 0)) }
+    ensures { result ≡ sum 16 (λ j. squared_difference (get_or a.now (k + j) 0) (get_or s.now (from + j) 0)) }
 {
     let mut t = 0u32;
     for j in 0..16usize {
@@ -46,7 +46,7 @@ fn run_squares(a: &[u16; 64], k: usize, s: &[u16], from: usize) -> u32
 fn squares_of(a: &[u16; 64], n: usize, s: &[u16], from: usize) -> u32
     requires n_bound { (n ≤ 4) × ((i : ℕ) → i < n → from + i * 16 + 16 ≤ length s.now) }
     requires by_index { (k : ℕ) → k < n * 16 → (get_or a.now k 0 < 4096) × (get_or s.now (from + k) 0 < 4096) }
-    ensures { result ≡ sum (n * 16) (λ k. squaredDifference (get_or a.now k 0) (get_or s.now (from + k) 0)) }
+    ensures { result ≡ sum (n * 16) (λ k. squared_difference (get_or a.now k 0) (get_or s.now (from + k) 0)) }
 {
     let mut t = 0u32;
     for i in 0..n {
@@ -65,7 +65,7 @@ pub fn packed_distances(
     cols: usize,
 ) -> [u64; 12]
     requires { Packed cols rows × Within original.now at pitch rows cols 4096 × ((t : ℕ) → t < 12 → Within blocks.now (t * 64) cols rows cols 4096) }
-    ensures { result ≡ upto (packedDistances original.now at pitch blocks.now rows cols) 12 }
+    ensures { result ≡ upto (packed_distances original.now at pitch blocks.now rows cols) 12 }
 {
     let a = pack(original, at, pitch, rows, cols);
     let n = cols * rows / 16;

@@ -1,12 +1,12 @@
 // Trying: per unit of a plane, the twelve totals of distances between the original and the trial blocks of the snapshot.
 ghost use Rattle.std.specs.Prelude.{◌≡◌, ◌+◌, ◌*◌, ◌/◌, ◌%◌, ◌<◌, pos, length};
 ghost use Rattle.cdef_spec.specs.Words.{table};
-ghost use Rattle.cdef_spec.specs.Distance.{constantsOf};
-ghost use Rattle.cdef_spec.specs.Picture.{units, triedTotal};
+ghost use Rattle.cdef_spec.specs.Distance.{constants_of};
+ghost use Rattle.cdef_spec.specs.Picture.{units, tried_total};
 ghost use Rattle.cdef_spec.specs.LoopForm.{signed};
-ghost use Rattle.frame_shape.specs.Frame.{Shaped, pictureOf};
-ghost use Rattle.frame_shape.specs.Lent.{unitsOf, Listed, Sampled, Seen, InForce};
-ghost use Rattle.try_one.specs.Trying.{Ready, triedRows};
+ghost use Rattle.frame_shape.specs.Frame.{Shaped, picture_of};
+ghost use Rattle.frame_shape.specs.Lent.{units_of, Listed, Sampled, Seen, InForce};
+ghost use Rattle.try_one.specs.Trying.{Ready, tried_rows};
 
 use cdef_spec::{DistanceConstants, SignalledDamping, Visible};
 use frame_shape::Frame;
@@ -26,11 +26,11 @@ fn try_row(
     by: usize,
     c: DistanceConstants,
 )
-    requires ready { Ready f v d snapshot.now original.now skip.now dirs.now vars.now × (c ≡ constantsOf f.depth) × (by < f.height / 8)
+    requires ready { Ready f v d snapshot.now original.now skip.now dirs.now vars.now × (c ≡ constants_of f.depth) × (by < f.height / 8)
         × (length blocks.old ≡ 768) }
-    requires totals_value { totals.old ≡ signed (triedRows (pictureOf f skip.now dirs.now vars.now) d v snapshot.now original.now by) }
+    requires totals_value { totals.old ≡ signed (tried_rows (picture_of f skip.now dirs.now vars.now) d v snapshot.now original.now by) }
     ensures { totals.new ≡ signed
-        (triedRows (pictureOf f skip.now dirs.now vars.now) d v snapshot.now original.now
+        (tried_rows (picture_of f skip.now dirs.now vars.now) d v snapshot.now original.now
         (by + 1)) }
 {
     for bx in 0..f.width / 8 {
@@ -53,9 +53,9 @@ pub fn try_plane(
     d: SignalledDamping,
 )
     requires { Shaped f × Listed f skip.now dirs.now vars.now × Sampled f snapshot.now × Sampled f original.now × Seen f v × InForce d
-        × (length totals.old ≡ 12 * unitsOf f) }
-    ensures { totals.new ≡ table (12 * units (pictureOf f skip.now dirs.now vars.now))
-        (λ k. pos (triedTotal (pictureOf f skip.now dirs.now vars.now) d v snapshot.now
+        × (length totals.old ≡ 12 * units_of f) }
+    ensures { totals.new ≡ table (12 * units (picture_of f skip.now dirs.now vars.now))
+        (λ k. pos (tried_total (picture_of f skip.now dirs.now vars.now) d v snapshot.now
         original.now (k / 12) (k % 12))) }
 {
     arith_totals::clear_totals(totals);

@@ -2,30 +2,30 @@
 use Rattle.std.specs.Prelude.{◌≡◌, refl, Bool, true, false, List, ℕ, ◌*◌, ◌^◌, ◌≤◌, ◌<◌, get_or}
 use Rattle.std.proofs.Common.{sym, ap, ◌∙◌, lt_of_lt_of_le, pow_mono}
 use Rattle.cdef_spec.specs.declared.DistanceConstants.{DistanceConstants}
-use Rattle.cdef_spec.specs.LoopForm.{addTurns}
-use Rattle.arith_sample.specs.Upto.{upto, upto-ext, getD-upto}
+use Rattle.cdef_spec.specs.LoopForm.{add_turns}
+use Rattle.arith_sample.specs.Upto.{upto, upto-ext, get_or-upto}
 use Rattle.arith_totals.specs.FoldLaws.{turns_same}
 use Rattle.distance_sums.specs.Blocks.{at, cell, block_of, Within}
 use Rattle.distance_sums.specs.BlockLaws.{block-cell}
 use Rattle.distance_block.specs.WeightedLaws.{weighted-same}
-use Rattle.distance_visible.specs.Cut.{cutDistance}
+use Rattle.distance_visible.specs.Cut.{cut_distance}
 use Rattle.distance_visible.specs.CutLaws.{cut-whole}
-use Rattle.try_whole.specs.Whole.{wholeDistances}
-use Rattle.try_packed.specs.Rows.{packedDistances}
-use Rattle.try_totals.specs.Totals.{trialDistances}
+use Rattle.try_whole.specs.Whole.{whole_distances}
+use Rattle.try_packed.specs.Rows.{packed_distances}
+use Rattle.try_totals.specs.Totals.{trial_distances}
 
 -- a whole luma block
 pub whole_same : (c : DistanceConstants) (rows cols : ℕ) (original a : List ℕ) (start pitch : ℕ) (blocks : List ℕ) (step : ℕ) → rows ≡ 8 → cols ≡ 8 → step ≡ 8 → a ≡ block_of original start pitch
-    → upto (wholeDistances c a blocks) 12 ≡ upto (trialDistances true c rows cols original start pitch blocks step) 12
-unfolding wholeDistances trialDistances
+    → upto (whole_distances c a blocks) 12 ≡ upto (trial_distances true c rows cols original start pitch blocks step) 12
+unfolding whole_distances trial_distances
 whole_same c rows cols original a start pitch blocks step er ec es ea =
     upto-ext _ _ 12
     (λ t h. rw (ea, es) (weighted-same c _ _ _ _ (block-cell original start pitch) (λ m n hm hn. refl)) ∙ sym (cut-whole c rows cols (at original start pitch) (at blocks (t * 64) step) er ec))
 
 -- a chroma block whose rows are the trial blocks' whole rows
 pub packed-same : (c : DistanceConstants) (rows cols : ℕ) (original : List ℕ) (start pitch : ℕ) (blocks : List ℕ) (step : ℕ) → step ≡ cols
-    → upto (packedDistances original start pitch blocks rows cols) 12 ≡ upto (trialDistances false c rows cols original start pitch blocks step) 12
-unfolding packedDistances trialDistances cutDistance
+    → upto (packed_distances original start pitch blocks rows cols) 12 ≡ upto (trial_distances false c rows cols original start pitch blocks step) 12
+unfolding packed_distances trial_distances cut_distance
 packed-same c rows cols original start pitch blocks step es = upto-ext _ _ 12 (λ t h. rw es)
 
 pub within-12 : (s : List ℕ) (start pitch rows cols step depth : ℕ) → pitch ≡ step → depth ≤ 12 → Within s start pitch rows cols (2 ^ depth) → Within s start step rows cols 4096
@@ -34,8 +34,8 @@ within-12 s start pitch rows cols step depth es d w =
     record { held = v.held; low = λ i j hi hj. lt_of_lt_of_le (v.low i j hi hj) (pow_mono {i = depth} {j = 12} d) }
 
 -- the totals, from the distances in a list
-pub listed-turns : (l : List ℕ) (base : ℕ) (f : ℕ → ℕ) (d : List ℕ) → d ≡ upto f 12 → addTurns l base (λ t. get_or d t 0) 12 ≡ addTurns l base f 12
-listed-turns l base f d e = turns_same l base _ _ 12 (λ t h. rw e (getD-upto f 12 t 0 h))
+pub listed-turns : (l : List ℕ) (base : ℕ) (f : ℕ → ℕ) (d : List ℕ) → d ≡ upto f 12 → add_turns l base (λ t. get_or d t 0) 12 ≡ add_turns l base f 12
+listed-turns l base f d e = turns_same l base _ _ 12 (λ t h. rw e (get_or-upto f 12 t 0 h))
 
 pub listed-low : (m : ℕ) (f : ℕ → ℕ) (d : List ℕ) → d ≡ upto f 12 → ((k : ℕ) → k < 12 → f k < m) → (t : ℕ) → t < 12 → get_or d t 0 < m
-listed-low m f d e low t h = rw (e, getD-upto f 12 t 0 h) (low t h)
+listed-low m f d e low t h = rw (e, get_or-upto f 12 t 0 h) (low t h)

@@ -1,11 +1,11 @@
 // Twelve distances added to totals.
 ghost use Rattle.std.specs.Prelude.{◌≡◌, ℕ, ◌+◌, ◌*◌, ◌^◌, ◌≤◌, ◌<◌, length};
-ghost use Rattle.cdef_spec.specs.LoopForm.{signed, addTurns};
+ghost use Rattle.cdef_spec.specs.LoopForm.{signed, add_turns};
 ghost use Rattle.arith_sample.specs.Upto.{upto};
 ghost use Rattle.arith_totals.specs.Turns.{plain_of, Low};
 ghost use Rattle.distance_weight.specs.Weighing.{OfDepth};
 ghost use Rattle.distance_sums.specs.Blocks.{Within};
-ghost use Rattle.try_totals.specs.Totals.{trialDistances};
+ghost use Rattle.try_totals.specs.Totals.{trial_distances};
 
 use cdef_spec::DistanceConstants;
 
@@ -24,7 +24,7 @@ fn cut_distances(
     requires rows_bound { (rows ≤ 8) × (cols ≤ 8) }
     requires by_index { (depth : ℕ) × OfDepth c depth × Within original.now at pitch rows cols (2 ^ depth)
         × ((t : ℕ) → t < 12 → Within blocks.now (t * 64) step rows cols (2 ^ depth)) }
-    ensures { result ≡ upto (trialDistances luma c rows cols original.now at pitch blocks.now step) 12 }
+    ensures { result ≡ upto (trial_distances luma c rows cols original.now at pitch blocks.now step) 12 }
 {
     let mut d = [0u64; 12];
     for t in 0..12usize {
@@ -59,7 +59,7 @@ fn distances(
     requires rows_bound { (rows ≤ 8) × (cols ≤ 8) × (cols ≤ step) × (step ≤ 8) }
     requires by_index { (depth : ℕ) × OfDepth c depth × Within original.now at pitch rows cols (2 ^ depth)
         × ((t : ℕ) → t < 12 → Within blocks.now (t * 64) step rows cols (2 ^ depth)) }
-    ensures { result ≡ upto (trialDistances luma c rows cols original.now at pitch blocks.now step) 12 }
+    ensures { result ≡ upto (trial_distances luma c rows cols original.now at pitch blocks.now step) 12 }
 {
     if luma {
         if rows + cols == 16 {
@@ -94,7 +94,7 @@ pub fn add_trials(
     requires by_index { (depth : ℕ) × OfDepth c depth × Within original.now at pitch rows cols (2 ^ depth)
         × ((t : ℕ) → t < 12 → Within blocks.now (t * 64) step rows cols (2 ^ depth)) }
     ensures { totals.new ≡ signed
-        (addTurns (plain_of totals.old) base (trialDistances luma c rows cols original.now at pitch blocks.now step)
+        (add_turns (plain_of totals.old) base (trial_distances luma c rows cols original.now at pitch blocks.now step)
         12) }
 {
     let d = distances(original, at, pitch, blocks, step, rows, cols, luma, c);

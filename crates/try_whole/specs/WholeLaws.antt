@@ -4,14 +4,14 @@ use Rattle.std.proofs.Common.{sym, ap, ◌∙◌, arith}
 use Rattle.std.specs.Float.Ieee.{nan}
 use Rattle.cdef_spec.specs.declared.DistanceConstants.{DistanceConstants}
 use Rattle.cdef_spec.specs.Words.{sum}
-use Rattle.cdef_spec.specs.Distance.{squaredDifference, squaresLimit, squares, spread, weight}
-use Rattle.arith_sample.specs.Upto.{getD-upto}
+use Rattle.cdef_spec.specs.Distance.{squared_difference, squares_limit, squares, spread, weight}
+use Rattle.arith_sample.specs.Upto.{get_or-upto}
 use Rattle.distance_weight.specs.Weighing.{OfDepth}
 use Rattle.distance_weight.specs.WeighingLaws.{times-weight}
-use Rattle.distance_sums.specs.Blocks.{at, cell, block_of, Below, Within, weightedBy}
+use Rattle.distance_sums.specs.Blocks.{at, cell, block_of, Below, Within, weighted_by}
 use Rattle.distance_sums.specs.BlockLaws.{block-cell, block-below, squares-same, squares-64}
 use Rattle.distance_block.specs.WeightedLaws.{spread_same, spread-high, squares-high}
-use Rattle.try_whole.specs.Whole.{wholeDistances, spreadsOf, errorsOf, weightsOf, timesAt, Weighed}
+use Rattle.try_whole.specs.Whole.{whole_distances, spreads_of, errors_of, weights_of, times_at, Weighed}
 
 -- ---- trial block t
 
@@ -32,41 +32,41 @@ module _ (a blocks : List ℕ) (depth t : ℕ) (flat : depth ≤ 12) (b : Below 
   pub spread-so : (x : List ℕ) (r : ℕ) → x ≡ block → r ≡ spread (cell x) → r ≡ spread (at blocks (t * 64) 8)
   spread-so x r e f = f ∙ rw e trial-spread
 
-  pub error-so : (x : List ℕ) (r : ℕ) → x ≡ block → r ≡ sum 64 (λ k. squaredDifference (get_or a k 0) (get_or x k 0)) → r ≡ squares 8 8 (cell a) (at blocks (t * 64) 8)
+  pub error-so : (x : List ℕ) (r : ℕ) → x ≡ block → r ≡ sum 64 (λ k. squared_difference (get_or a k 0) (get_or x k 0)) → r ≡ squares 8 8 (cell a) (at blocks (t * 64) 8)
   error-so x r e f = f ∙ rw e (squares-64 a block ∙ trial-error)
 
   -- and their limits
-  pub spread-limit : spread (at blocks (t * 64) 8) ≤ squaresLimit depth
+  pub spread-limit : spread (at blocks (t * 64) 8) ≤ squares_limit depth
   spread-limit = rw (← trial-spread) (spread-high block depth trial-below)
 
-  pub error-limit : squares 8 8 (cell a) (at blocks (t * 64) 8) ≤ squaresLimit depth
+  pub error-limit : squares 8 8 (cell a) (at blocks (t * 64) 8) ≤ squares_limit depth
   error-limit = rw (← trial-error) (squares-high a depth b block trial-below)
 
 -- ---- from the sums and the weights, as the code computes them
 
 module _ (c : DistanceConstants) (depth : ℕ) (a blocks : List ℕ) (o : OfDepth c depth) (b : Below a (2 ^ depth)) (h : (t : ℕ) → t < 12 → Within blocks (t * 64) 8 8 8 (2 ^ depth)) (x : ℕ) (ex : x ≡ spread (cell a)) where
-  pub own-limit : x ≤ squaresLimit depth
+  pub own-limit : x ≤ squares_limit depth
   own-limit = rw ex (spread-high a depth b)
 
-  pub spreads-limit : (s : List ℕ) → s ≡ spreadsOf blocks → (t : ℕ) → t < 12 → get_or s t 0 ≤ squaresLimit depth
-  unfolding spreadsOf
-  spreads-limit s es t l = rw (es, getD-upto (λ t. spread (at blocks (t * 64) 8)) 12 t 0 l) (spread-limit a blocks depth t o.flat b (h t l))
+  pub spreads-limit : (s : List ℕ) → s ≡ spreads_of blocks → (t : ℕ) → t < 12 → get_or s t 0 ≤ squares_limit depth
+  unfolding spreads_of
+  spreads-limit s es t l = rw (es, get_or-upto (λ t. spread (at blocks (t * 64) 8)) 12 t 0 l) (spread-limit a blocks depth t o.flat b (h t l))
 
-  module _ (s e : List ℕ) (w : List Float) (es : s ≡ spreadsOf blocks) (ee : e ≡ errorsOf a blocks) (ew : w ≡ weightsOf c x s) where
+  module _ (s e : List ℕ) (w : List Float) (es : s ≡ spreads_of blocks) (ee : e ≡ errors_of a blocks) (ew : w ≡ weights_of c x s) where
     error-at : (t : ℕ) → t < 12 → get_or e t 0 ≡ squares 8 8 (cell a) (at blocks (t * 64) 8)
-    unfolding errorsOf
-    error-at t l = rw (ee, getD-upto (λ t. squares 8 8 (cell a) (at blocks (t * 64) 8)) 12 t 0 l)
+    unfolding errors_of
+    error-at t l = rw (ee, get_or-upto (λ t. squares 8 8 (cell a) (at blocks (t * 64) 8)) 12 t 0 l)
 
     spread_at : (t : ℕ) → t < 12 → get_or s t 0 ≡ spread (at blocks (t * 64) 8)
-    unfolding spreadsOf
-    spread_at t l = rw (es, getD-upto (λ t. spread (at blocks (t * 64) 8)) 12 t 0 l)
+    unfolding spreads_of
+    spread_at t l = rw (es, get_or-upto (λ t. spread (at blocks (t * 64) 8)) 12 t 0 l)
 
     weight-at : (t : ℕ) → t < 12 → get_or w t nan ≡ weight c x (get_or s t 0)
-    unfolding weightsOf
-    weight-at t l = rw (ew, getD-upto (λ t. weight c x (get_or s t 0)) 12 t nan l)
+    unfolding weights_of
+    weight-at t l = rw (ew, get_or-upto (λ t. weight c x (get_or s t 0)) 12 t nan l)
 
-    times-at : (t : ℕ) → t < 12 → timesAt e w t ≡ wholeDistances c a blocks t
-    unfolding timesAt wholeDistances weightedBy
+    times-at : (t : ℕ) → t < 12 → times_at e w t ≡ whole_distances c a blocks t
+    unfolding times_at whole_distances weighted_by
     times-at t l = times-weight c x (get_or s t 0) (get_or e t 0) (get_or w t nan) (weight-at t l) ∙ rw (ex, spread_at t l, error-at t l)
 
     pub weighed : Weighed c a blocks e w

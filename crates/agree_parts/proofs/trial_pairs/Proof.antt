@@ -5,7 +5,7 @@ use native.Mathlib.Omega.{arith}
 use borrow.Author.Rules.{rules}
 use lib.ListN.{get_or, length}
 use Rattle.cdef_spec.specs.Words.{every}
-use Rattle.cdef_spec.specs.Document01.{isTrialPair}
+use Rattle.cdef_spec.specs.Document01.{is_trial_pair}
 use Rattle.agree_parts.specs.PartLaws.{every-none, every_more, many-pairs, few-pairs}
 use Rattle.agree_parts.proofs.trial_pairs.Statement.{statement}
 use Rattle.agree_parts.proofs.trial_pairs.Tie as tie
@@ -16,7 +16,7 @@ use Rattle.agree_parts.proofs.both.Reads as both-reads
 use Rattle.arith_trials.proofs.is_trial_pair.Reads as is-trial-pair-reads
 
 abbrev invariant-loop : tie.invariant-loop
-invariant-loop pris secs all₀ u₀ u-end all u = (all ≡ every u (λ u. isTrialPair (record { primary = get_or pris u 0; secondary = get_or secs u 0 }))) × (u ≤ length pris) × (u-end ≡ length pris)
+invariant-loop pris secs all₀ u₀ u-end all u = (all ≡ every u (λ u. is_trial_pair (record { primary = get_or pris u 0; secondary = get_or secs u 0 }))) × (u ≤ length pris) × (u-end ≡ length pris)
 
 abbrev decreases-loop : tie.decreases-loop
 decreases-loop pris secs all₀ u₀ u-end all u = length pris - u

@@ -5,7 +5,7 @@ use borrow.Author.Rules.{rules}
 use mathlib.Core.List.{[]}
 use Prim.Native.Nat.{◌/◌, ◌^◌}
 use lib.ListN.{length}
-use Rattle.cdef_spec.specs.FrameCalls.{pairsOf}
+use Rattle.cdef_spec.specs.FrameCalls.{pairs_of}
 use Rattle.frame_shape.specs.BlockLaws.{number-low, counts-low}
 use Rattle.apply_blocks.specs.BlockLaws.{pair-low, unit-in, skipped, off, on}
 use Rattle.apply_blocks.specs.FilterLaws.{number_small}
@@ -43,7 +43,7 @@ shared-slice-read-if1 : tie.Need-shared-slice-read-if1
 shared-slice-read-if1 c = (number c.before.before.before.before.before.before.before.before.before).0
 
 returns : tie.Need-returns
-returns c = let a = c.before.before.before.before.before.before.before.before.before.before.args in skipped a.f a.skip.now a.dirs.now a.vars.now a.d a.snapshot.now (pairsOf a.pris.now a.secs.now) a.by a.bx a.dst.now c.if1.true
+returns c = let a = c.before.before.before.before.before.before.before.before.before.before.args in skipped a.f a.skip.now a.dirs.now a.vars.now a.d a.snapshot.now (pairs_of a.pris.now a.secs.now) a.by a.bx a.dst.now c.if1.true
 
 unit-at-requires : tie.Need-unit-at-requires
 unit-at-requires c κs = let s = c.before.before.before.before.before.before.before.before.before.before in let k = counts-low s.args.f s.requires.0.0 [] [] [] s.args.by s.args.bx s.requires.1.2 s.requires.1.3 in (s.requires.0.0, omega (arith, k.0, k.1), omega (arith, k.0, k.1))
@@ -55,7 +55,7 @@ is-off-requires : tie.Need-is-off-requires
 is-off-requires c κs = search rules
 
 returns-2 : tie.Need-returns-2
-returns-2 c = let a = c.before.before.before.before.before.before.before.before.before.before.before.before.before.before.args in off a.f a.skip.now a.dirs.now a.vars.now a.d a.snapshot.now (pairsOf a.pris.now a.secs.now) a.by a.bx a.dst.now _ _ _ (c.before.before.before.unit-at.ensures a.skip.now a.dirs.now a.vars.now) c.before.before.pair_of.ensures c.before.is-off.ensures c.if2.true
+returns-2 c = let a = c.before.before.before.before.before.before.before.before.before.before.before.before.before.before.args in off a.f a.skip.now a.dirs.now a.vars.now a.d a.snapshot.now (pairs_of a.pris.now a.secs.now) a.by a.bx a.dst.now _ _ _ (c.before.before.before.unit-at.ensures a.skip.now a.dirs.now a.vars.now) c.before.before.pair_of.ensures c.before.is-off.ensures c.if2.true
 
 filter-with-requires : tie.Need-filter-with-requires
 filter-with-requires c κs = let s = c.before.before.before.before.before.before.before.before.before.before.before.before.before.before.before in let a = s.args in let q = s.requires.0 in
@@ -66,7 +66,7 @@ same_length : tie.Need-same-length
 same_length c = search rules
 
 returns-3 : tie.Need-returns-3
-returns-3 c = let a = c.before.before.before.before.before.before.before.before.before.before.before.before.before.before.before.before.before.before.args in on a.f a.skip.now a.dirs.now a.vars.now a.d a.snapshot.now (pairsOf a.pris.now a.secs.now) a.by a.bx a.dst.now _ _ _ (c.before.before.before.before.before.before.before.unit-at.ensures a.skip.now a.dirs.now a.vars.now) c.before.before.before.before.before.before.pair_of.ensures c.before.before.before.before.before.is-off.ensures c.before.before.before.before.if2.false c.before.before.before.before.before.before.before.before.if1.false _ (c.before.before.filter-with.ensures a.skip.now)
+returns-3 c = let a = c.before.before.before.before.before.before.before.before.before.before.before.before.before.before.before.before.before.before.args in on a.f a.skip.now a.dirs.now a.vars.now a.d a.snapshot.now (pairs_of a.pris.now a.secs.now) a.by a.bx a.dst.now _ _ _ (c.before.before.before.before.before.before.before.unit-at.ensures a.skip.now a.dirs.now a.vars.now) c.before.before.before.before.before.before.pair_of.ensures c.before.before.before.before.before.is-off.ensures c.before.before.before.before.if2.false c.before.before.before.before.before.before.before.before.if1.false _ (c.before.before.filter-with.ensures a.skip.now)
 
 pub apply-block-spec : {M : Type 1} → statement M
 apply-block-spec =

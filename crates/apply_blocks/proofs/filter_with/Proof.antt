@@ -5,7 +5,7 @@ use native.Mathlib.Omega.{arith}
 use borrow.Author.Rules.{rules}
 use mathlib.Core.List.{[]}
 use Prim.Native.Nat.{◌/◌, ◌^◌}
-use Rattle.frame_shape.specs.Lent.{blocksOf}
+use Rattle.frame_shape.specs.Lent.{blocks_of}
 use Rattle.frame_shape.specs.BlockLaws.{number-low, counts-low, block-sides, sample-low, sample-byte}
 use Rattle.frame_shape.specs.UsableLaws.{usable, depth-kept}
 use Rattle.apply_blocks.specs.FilterLaws.{number_small, in-plane, room, filtered-is}
@@ -19,7 +19,7 @@ use Rattle.frame_shape.proofs.geometry.block_of.Reads as block-of-reads
 use Rattle.frame_shape.proofs.params.params_for.Reads as params-for-reads
 
 -- the block's index
-number : (s : tie.Start) → let a = s.args in (a.by * (a.f.width / 8) + a.bx < blocksOf a.f) × (a.by * (a.f.width / 8) + a.bx < 2 ^ 20)
+number : (s : tie.Start) → let a = s.args in (a.by * (a.f.width / 8) + a.bx < blocks_of a.f) × (a.by * (a.f.width / 8) + a.bx < 2 ^ 20)
 number s =
     let a = s.args in
     (number-low a.f s.requires.0.0 [] [] [] a.by a.bx s.requires.1.1.2 s.requires.1.1.3, number_small a.f s.requires.0.0 [] [] [] a.by a.bx s.requires.1.1.2 s.requires.1.1.3)

@@ -6,10 +6,10 @@ use borrow.Author.Rules.{rules}
 use mathlib.Core.List.{[]}
 use Prim.Native.Nat.{◌/◌}
 use lib.ListN.{length}
-use Rattle.cdef_spec.specs.FrameCalls.{pairsOf}
-use Rattle.frame_shape.specs.Frame.{pictureOf}
+use Rattle.cdef_spec.specs.FrameCalls.{pairs_of}
+use Rattle.frame_shape.specs.Frame.{picture_of}
 use Rattle.frame_shape.specs.FrameLaws.{width_is, height-is}
-use Rattle.apply_plane.specs.Apply.{rowsApplied}
+use Rattle.apply_plane.specs.Apply.{rows_applied}
 use Rattle.apply_plane.specs.ApplyLaws.{rows_none, rows-turn, plane-is}
 use Rattle.apply_plane.proofs.apply_plane.Statement.{statement}
 use Rattle.apply_plane.proofs.apply_plane.Tie as tie
@@ -20,7 +20,7 @@ use Rattle.frame_shape.proofs.geometry.plane_height.Reads as plane-height-reads
 use Rattle.frame_shape.proofs.geometry.plane_width.Reads as plane-width-reads
 
 abbrev invariant-loop : tie.invariant-loop
-invariant-loop dst₀ snapshot f skip dirs vars pris secs d w h by₀ by_end dst by = (dst ≡ rowsApplied (pictureOf f skip dirs vars) d snapshot (pairsOf pris secs) dst₀ by) × (length dst ≡ length dst₀) × (by ≤ f.height / 8)
+invariant-loop dst₀ snapshot f skip dirs vars pris secs d w h by₀ by_end dst by = (dst ≡ rows_applied (picture_of f skip dirs vars) d snapshot (pairs_of pris secs) dst₀ by) × (length dst ≡ length dst₀) × (by ≤ f.height / 8)
 
 abbrev decreases-loop : tie.decreases-loop
 decreases-loop dst₀ snapshot f skip dirs vars pris secs d w h by₀ by_end dst by = f.height / 8 - by
@@ -45,11 +45,11 @@ loop-less : tie.Need-loop-smaller invariant-loop decreases-loop
 loop-less c = omega arith
 
 loop-again : tie.Need-loop-preserved invariant-loop decreases-loop
-unfolding pictureOf
+unfolding picture_of
 loop-again c =
     let p = c.before.before.before.before.before in
     let a = c.before.before.before.before.before.before.before.before.before.before.before.before.before.before.before.before.args in
-    (rows-turn (pictureOf a.f a.skip.now a.dirs.now a.vars.now) a.d a.snapshot.now (pairsOf a.pris.now a.secs.now) a.dst.now p.loop.dst _ p.loop.by p.loop.invariant.0 c.before.before.apply-row.ensures, c.before.before.apply-row.auto.0 ∙ p.loop.invariant.1, omega arith)
+    (rows-turn (picture_of a.f a.skip.now a.dirs.now a.vars.now) a.d a.snapshot.now (pairs_of a.pris.now a.secs.now) a.dst.now p.loop.dst _ p.loop.by p.loop.invariant.0 c.before.before.apply-row.ensures, c.before.before.apply-row.auto.0 ∙ p.loop.invariant.1, omega arith)
 
 same_length : tie.Need-same-length invariant-loop decreases-loop
 same_length c = c.before.loop.invariant.1

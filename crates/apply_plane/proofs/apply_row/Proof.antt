@@ -5,9 +5,9 @@ use native.Mathlib.Omega.{arith}
 use borrow.Author.Rules.{rules}
 use Prim.Native.Nat.{◌/◌}
 use lib.ListN.{length}
-use Rattle.cdef_spec.specs.FrameCalls.{pairsOf}
-use Rattle.frame_shape.specs.Frame.{pictureOf}
-use Rattle.apply_plane.specs.Apply.{rowApplied}
+use Rattle.cdef_spec.specs.FrameCalls.{pairs_of}
+use Rattle.frame_shape.specs.Frame.{picture_of}
+use Rattle.apply_plane.specs.Apply.{row_applied}
 use Rattle.apply_plane.specs.ApplyLaws.{row-none, row-turn}
 use Rattle.apply_plane.proofs.apply_row.Statement.{statement}
 use Rattle.apply_plane.proofs.apply_row.Tie as tie
@@ -16,7 +16,7 @@ use Rattle.apply_plane.proofs.apply_row.Lts as lts
 use Rattle.apply_blocks.proofs.apply_block.Reads as apply-block-reads
 
 abbrev invariant-loop : tie.invariant-loop
-invariant-loop dst₀ snapshot f w h skip dirs vars pris secs d by bx₀ bx-end dst bx = (dst ≡ rowApplied (pictureOf f skip dirs vars) d snapshot (pairsOf pris secs) by dst₀ bx) × (length dst ≡ length dst₀) × (bx ≤ f.width / 8)
+invariant-loop dst₀ snapshot f w h skip dirs vars pris secs d by bx₀ bx-end dst bx = (dst ≡ row_applied (picture_of f skip dirs vars) d snapshot (pairs_of pris secs) by dst₀ bx) × (length dst ≡ length dst₀) × (bx ≤ f.width / 8)
 
 abbrev decreases-loop : tie.decreases-loop
 decreases-loop dst₀ snapshot f w h skip dirs vars pris secs d by bx₀ bx-end dst bx = f.width / 8 - bx
@@ -37,7 +37,7 @@ loop-again : tie.Need-loop-preserved invariant-loop decreases-loop
 loop-again c =
     let p = c.before.before.before.before.before in
     let a = c.before.before.before.before.before.before.before.before.before.before.before.before.before.before.args in
-    (row-turn (pictureOf a.f a.skip.now a.dirs.now a.vars.now) a.d a.snapshot.now (pairsOf a.pris.now a.secs.now) a.by a.dst.now p.loop.dst _ p.loop.bx p.loop.invariant.0 c.before.before.apply-block.ensures, c.before.before.apply-block.auto.0 ∙ p.loop.invariant.1, omega arith)
+    (row-turn (picture_of a.f a.skip.now a.dirs.now a.vars.now) a.d a.snapshot.now (pairs_of a.pris.now a.secs.now) a.by a.dst.now p.loop.dst _ p.loop.bx p.loop.invariant.0 c.before.before.apply-block.ensures, c.before.before.apply-block.auto.0 ∙ p.loop.invariant.1, omega arith)
 
 same_length : tie.Need-same-length invariant-loop decreases-loop
 same_length c = c.before.loop.invariant.1

@@ -3,7 +3,7 @@ use mathlib.Core.Path.{◌≡◌}
 use mathlib.Core.Logic.{⊎_elim}
 use native.Mathlib.Omega.{arith}
 use Prim.Native.Nat.{◌/◌, min}
-use Rattle.cdef_spec.specs.Document01.{qualityDamping}
+use Rattle.cdef_spec.specs.Document01.{quality_damping}
 use Rattle.arith_damping.proofs.cdef_damping.Statement.{statement}
 use Rattle.arith_damping.proofs.cdef_damping.Tie as tie
 
@@ -18,7 +18,7 @@ add-t5 : tie.Need-overflow-add-t5
 add-t5 c = omega (arith, step_is c.before)
 
 returns : tie.Need-returns
-returns c = unfold qualityDamping in rw (step_is c.before)
+returns c = unfold quality_damping in rw (step_is c.before)
 
 pub cdef-damping-spec : {M : Type 1} → statement M
 cdef-damping-spec = tie.close (tie.spec cast-t4 add-t5 returns)

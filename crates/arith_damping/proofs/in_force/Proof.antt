@@ -1,5 +1,5 @@
 -- `arith_damping::in_force` meets its contract.
-use Rattle.cdef_spec.specs.Document01.{inForce}
+use Rattle.cdef_spec.specs.Document01.{in_force}
 use borrow.Author.Rules.{rules}
 use Rattle.arith_damping.proofs.in_force.Statement.{statement}
 use Rattle.arith_damping.proofs.in_force.Tie as tie
@@ -11,10 +11,10 @@ enum_told : tie.Need-enum-told
 enum_told c = search rules
 
 returns : tie.Need-returns
-returns c = unfold inForce in rw c.before.choice.given.1
+returns c = unfold in_force in rw c.before.choice.given.1
 
 returns-2 : tie.Need-returns-2
-returns-2 c = unfold inForce in rw c.enum_told.given.1
+returns-2 c = unfold in_force in rw c.enum_told.given.1
 
 pub in-force-spec : {M : Type 1} → statement M
 in-force-spec = tie.close (tie.spec enum-known-choice enum_told returns returns-2)

@@ -4,7 +4,7 @@ use mathlib.Core.Logic.{⊎_elim}
 use Prim.Native.Nat.{◌-◌, ◌%◌, ◌≤◌, max, min}
 use native.Mathlib.Nat.{mul-le-mul, mod-eq_of_lt}
 use native.Mathlib.Omega.{arith}
-use Rattle.cdef_spec.specs.Distance.{squaredDifference}
+use Rattle.cdef_spec.specs.Distance.{squared_difference}
 use borrow.Author.Rules.{rules}
 use Rattle.arith_numbers.proofs.squared_difference.Statement.{statement}
 use Rattle.arith_numbers.proofs.squared_difference.Tie as tie
@@ -29,7 +29,7 @@ mul-result : tie.Need-overflow-mul-result
 mul-result c = omega (arith, mul-le-mul (small c) (small c))
 
 returns : tie.Need-returns
-returns c = unfold squaredDifference in rw (whole c, is c)
+returns c = unfold squared_difference in rw (whole c, is c)
 
 pub squared-difference-spec : {M : Type 1} → statement M
 squared-difference-spec = tie.close (tie.spec sub-d cast-w mul-result returns)

@@ -6,7 +6,7 @@ use Prim.Native.Nat.{ℕ, ◌+◌, ◌-◌, ◌*◌, ◌/◌, ◌^◌, ◌≤◌
 use native.Mathlib.Omega.{arith}
 use lib.Dec.{T}
 use lib.Ieee.{Float, binary64, fits, of_bits, to_bits}
-use Rattle.cdef_spec.specs.Root.{rootOf, IsNearestRoot}
+use Rattle.cdef_spec.specs.Root.{root_of, IsNearestRoot}
 use Rattle.arith_root.specs.PatternLaws.{pattern-range, normal-no-nan, pattern-no-nan}
 use Rattle.arith_root.specs.RootLaws.{Moved, even-case, odd-case, found-range, found, found-normal}
 use Rattle.arith_root.specs.NearestLaws.{root-nearest}
@@ -68,8 +68,8 @@ float-from-bits-result c =
     let r = found-normal b n k.b-low k.b-high k.n-low k.n-high in
     pattern-no-nan p r.0 r.1
 
-is-root : (c : tie.After-wide-root) → of_bits binary64 ((B c.before / 2 ^ 52 + 1023) / 2 * 2 ^ 52 + (c.wide-root.result - 2 ^ 52)) ≡ rootOf c.before.before.args.v
-unfolding rootOf
+is-root : (c : tie.After-wide-root) → of_bits binary64 ((B c.before / 2 ^ 52 + 1023) / 2 * 2 ^ 52 + (c.wide-root.result - 2 ^ 52)) ≡ root_of c.before.before.args.v
+unfolding root_of
 is-root c = ap (of_bits binary64) (found (B c.before) c.before.if1.h c.wide-root.result (moved c.before) c.wide-root.ensures)
 
 returns : tie.Need-returns

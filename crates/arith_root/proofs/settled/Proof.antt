@@ -6,19 +6,19 @@ use native.Mathlib.Nat.{mul-le-mul}
 use native.Mathlib.Omega.{arith}
 use borrow.Author.Tests.{le-leb, lt-leb}
 use lib.Dec.{leb}
-use Rattle.arith_root.specs.RootWords.{isRoot}
+use Rattle.arith_root.specs.RootWords.{is_root}
 use Rattle.arith_root.proofs.settled.Statement.{statement}
 use Rattle.arith_root.proofs.settled.Tie as tie
 
 square : (c : tie.Start) → c.args.g * c.args.g ≤ 2 ^ 28 * 2 ^ 28
 square c = mul-le-mul c.requires c.requires
 
-too-high : (h g : ℕ) → h < g * g → false ≡ isRoot h g
-unfolding isRoot
+too-high : (h g : ℕ) → h < g * g → false ≡ is_root h g
+unfolding is_root
 too-high h g l = rw (lt-leb (g * g) h l)
 
-by-rest : (h g : ℕ) → g * g ≤ h → leb (h - g * g) (2 * g) ≡ isRoot h g
-unfolding isRoot
+by-rest : (h g : ℕ) → g * g ≤ h → leb (h - g * g) (2 * g) ≡ is_root h g
+unfolding is_root
 by-rest h g l = rw (le-leb (g * g) h l)
 
 mul-if1 : tie.Need-overflow-mul-if1

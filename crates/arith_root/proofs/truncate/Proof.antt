@@ -10,7 +10,7 @@ use lib.Pow.{pow_pos}
 use lib.Ieee.{Float, binary64, fits, to_bits}
 use lib.Ieee.Bits.{of_bits-to_bits}
 use lib.Ieee.Exact.{HasValue}
-use Rattle.arith_root.specs.PatternLaws.{pattern-range, normal-no-nan, pattern-value, unitsOf}
+use Rattle.arith_root.specs.PatternLaws.{pattern-range, normal-no-nan, pattern-value, units_of}
 use Rattle.arith_root.specs.TruncateLaws.{below-value, truncated-value, field-high, none, some}
 use Rattle.arith_root.proofs.truncate.Statement.{statement}
 use Rattle.arith_root.proofs.truncate.Tie as tie
@@ -25,15 +25,15 @@ B c = to_bits binary64 c.args.x
 record Known (x : Float) (b : ℕ) : Type 0 where
   low : 2 ^ 52 ≤ b
   high : b < 1076 * 2 ^ 52
-  value : HasValue x false (unitsOf b) (2 ^ 1074)
+  value : HasValue x false (units_of b) (2 ^ 1074)
 
 known : (c : tie.Start) → Known c.args.x (B c)
 known c =
     let x = c.args.x in
     let b = B c in
     let r = pattern-range x (fits-so c) c.requires.0 in
-    let v : HasValue x false (unitsOf b) (2 ^ 1074) = subst (λ (z : Float). HasValue z false (unitsOf b) (2 ^ 1074)) (of_bits-to_bits binary64 x (fits-so c)) (pattern-value b r.0 r.1) in
-    record { low = r.0; high = field-high b r.0 (below-value x (unitsOf b) (2 ^ 1074) 53 (pow_pos 1074) v c.requires.1); value = v }
+    let v : HasValue x false (units_of b) (2 ^ 1074) = subst (λ (z : Float). HasValue z false (units_of b) (2 ^ 1074)) (of_bits-to_bits binary64 x (fits-so c)) (pattern-value b r.0 r.1) in
+    record { low = r.0; high = field-high b r.0 (below-value x (units_of b) (2 ^ 1074) 53 (pow_pos 1074) v c.requires.1); value = v }
 
 float-to-bits-b : tie.Need-float-to-bits-b
 float-to-bits-b c = normal-no-nan c.args.x c.requires.0
@@ -52,7 +52,7 @@ returns c =
     let s = c.before in
     let k = known s in
     let e = none (B s) k.low (omega (arith, c.if1.true)) in
-    sym (truncated-value s.args.x (unitsOf (B s)) (2 ^ 1074) (pow_pos 1074) k.value (lt_of_le_of_lt (le_of_eq e) (lit< tt)) ∙ e)
+    sym (truncated-value s.args.x (units_of (B s)) (2 ^ 1074) (pow_pos 1074) k.value (lt_of_le_of_lt (le_of_eq e) (lit< tt)) ∙ e)
 
 returns-2 : tie.Need-returns-2
 returns-2 c =
@@ -61,7 +61,7 @@ returns-2 c =
     let b = B s in
     let e = some b k.low (omega arith) in
     let u : (2 ^ 52 + b % 2 ^ 52) / 2 ^ (1075 - b / 2 ^ 52) < 2 ^ 64 = lt_of_le_of_lt (div-le_self (2 ^ 52 + b % 2 ^ 52) (2 ^ (1075 - b / 2 ^ 52))) (omega arith) in
-    sym (truncated-value s.args.x (unitsOf b) (2 ^ 1074) (pow_pos 1074) k.value (lt_of_le_of_lt (le_of_eq e) u) ∙ e)
+    sym (truncated-value s.args.x (units_of b) (2 ^ 1074) (pow_pos 1074) k.value (lt_of_le_of_lt (le_of_eq e) u) ∙ e)
 
 pub truncate-spec : {M : Type 1} → statement M
 truncate-spec = tie.close (tie.spec float-to-bits-b returns add-m sub-result shr-result returns-2)

@@ -2,7 +2,7 @@
 use mathlib.Core.Path.{sym, ◌∙◌}
 use Prim.Native.Nat.{ℕ, ◌+◌, ◌*◌, ◌/◌, ◌^◌, ◌≤◌, ◌<◌}
 use native.Mathlib.Omega.{arith}
-use Rattle.arith_root.specs.RootWords.{guessesLeft}
+use Rattle.arith_root.specs.RootWords.{guesses_left}
 use Rattle.arith_root.specs.NewtonLaws.{root-so, quotient-low, next-range, next-less}
 use Rattle.arith_root.proofs.whole_root.Statement.{statement}
 use Rattle.arith_root.proofs.whole_root.Tie as tie
@@ -11,7 +11,7 @@ abbrev invariant-loop : tie.invariant-loop
 invariant-loop h g₀ g = (2 ^ 26 ≤ g) × (g ≤ 2 ^ 28)
 
 abbrev decreases-loop : tie.decreases-loop
-decreases-loop h g₀ g = guessesLeft h g
+decreases-loop h g₀ g = guesses_left h g
 
 first-guess-requires : tie.Need-first-guess-requires invariant-loop decreases-loop
 first-guess-requires c κs = omega arith

@@ -7,7 +7,7 @@ use lib.Signed.{mag, non_neg}
 use lib.Dec.{T}
 use mir.Syntax.{w16}
 use mir.Val.{to_z, of_z, Fits}
-use Rattle.arith_sample.specs.Sample.{movedOf, overOf}
+use Rattle.arith_sample.specs.Sample.{moved_of, over_of}
 use Rattle.arith_sample.specs.SampleLaws.{held-nat}
 use Rattle.arith_sample.proofs.Sums16.{back, size-moved, size-over}
 use borrow.Author.Rules.{rules}
@@ -19,34 +19,34 @@ use Rattle.arith_sample.proofs.moved.Reads as moved-reads
 use Rattle.arith_sample.proofs.at_least.Reads as at-least-reads
 use Rattle.arith_sample.proofs.at_most.Reads as at-most-reads
 
-moved-small : (c : tie.After-moved) → nat_abs (movedOf c.before.args.c c.before.args.sum) ≤ 32767
+moved-small : (c : tie.After-moved) → nat_abs (moved_of c.before.args.c c.before.args.sum) ≤ 32767
 moved-small c = omega (arith, size-moved c.before.args.c c.before.args.sum, c.before.requires.0, c.before.requires.1)
 
-moved-is : (c : tie.After-moved) → c.moved.result ≡ movedOf c.before.args.c c.before.args.sum
+moved-is : (c : tie.After-moved) → c.moved.result ≡ moved_of c.before.args.c c.before.args.sum
 moved-is c = c.moved.ensures ∙ rw (back c.before.args.sum (omega (arith, c.before.requires.1)))
 
-moved_back : (c : tie.After-moved) → to_z w16 (of_z w16 c.moved.result) ≡ movedOf c.before.args.c c.before.args.sum
-moved_back c = rw (moved-is c) (back (movedOf c.before.args.c c.before.args.sum) (moved-small c))
+moved_back : (c : tie.After-moved) → to_z w16 (of_z w16 c.moved.result) ≡ moved_of c.before.args.c c.before.args.sum
+moved_back c = rw (moved-is c) (back (moved_of c.before.args.c c.before.args.sum) (moved-small c))
 
-over-is : (c : tie.After-at-least) → let a = c.before.before.args in c.at_least.result ≡ overOf (movedOf a.c a.sum) a.lo
+over-is : (c : tie.After-at-least) → let a = c.before.before.args in c.at_least.result ≡ over_of (moved_of a.c a.sum) a.lo
 over-is c = c.at_least.ensures ∙ rw (moved_back c.before)
 
-over-small : (c : tie.After-at-least) → let a = c.before.before.args in nat_abs (overOf (movedOf a.c a.sum) a.lo) ≤ 32767
-over-small c = let s = c.before.before in size-over (movedOf s.args.c s.args.sum) s.args.lo 32767 (moved-small c.before) (omega (arith, s.requires.2))
+over-small : (c : tie.After-at-least) → let a = c.before.before.args in nat_abs (over_of (moved_of a.c a.sum) a.lo) ≤ 32767
+over-small c = let s = c.before.before in size-over (moved_of s.args.c s.args.sum) s.args.lo 32767 (moved-small c.before) (omega (arith, s.requires.2))
 
-over-back : (c : tie.After-at-least) → let a = c.before.before.args in to_z w16 (of_z w16 c.at_least.result) ≡ overOf (movedOf a.c a.sum) a.lo
-over-back c = let a = c.before.before.args in rw (over-is c) (back (overOf (movedOf a.c a.sum) a.lo) (over-small c))
+over-back : (c : tie.After-at-least) → let a = c.before.before.args in to_z w16 (of_z w16 c.at_least.result) ≡ over_of (moved_of a.c a.sum) a.lo
+over-back c = let a = c.before.before.args in rw (over-is c) (back (over_of (moved_of a.c a.sum) a.lo) (over-small c))
 
 -- the clipped value
 unfoldable held : (c : tie.After-at-most) → ℕ
-held c = let a = c.before.before.before.args in min (mag (overOf (movedOf a.c a.sum) a.lo)) a.hi
+held c = let a = c.before.before.before.args in min (mag (over_of (moved_of a.c a.sum) a.lo)) a.hi
 
 under_back : (c : tie.After-at-most) → to_z w16 (of_z w16 c.at_most.result) ≡ pos (held c)
 unfolding held
 under_back c =
     let s = c.before.before.before in
     let a = s.args in
-    let e : c.at_most.result ≡ pos (held c) = c.at_most.ensures ∙ rw (over-back c.before) (held-nat (movedOf a.c a.sum) a.lo a.hi) in
+    let e : c.at_most.result ≡ pos (held c) = c.at_most.ensures ∙ rw (over-back c.before) (held-nat (moved_of a.c a.sum) a.lo a.hi) in
     rw e (back (pos (held c)) (omega (arith, s.requires.3)))
 
 moved-requires : tie.Need-moved-requires
@@ -65,7 +65,7 @@ cast-result c = rw (under_back c) (tt, record { fits = omega (arith, c.before.be
 returns : tie.Need-returns
 unfolding held
 returns c = let a = c.before.before.before.args in
-    rw (under_back c) (sym (ap mag (held-nat (movedOf a.c a.sum) a.lo a.hi)))
+    rw (under_back c) (sym (ap mag (held-nat (moved_of a.c a.sum) a.lo a.hi)))
 
 pub clipped-spec : {M : Type 1} → statement M
 clipped-spec =

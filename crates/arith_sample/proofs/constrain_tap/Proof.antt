@@ -1,5 +1,5 @@
 -- `arith_sample::constrain_tap` meets its contract.
-use Rattle.arith_sample.specs.Sample.{conOf, held_of}
+use Rattle.arith_sample.specs.Sample.{con_of, held_of}
 use mathlib.Core.Path.{◌≡◌, ◌∙◌}
 use native.Mathlib.Omega.{arith}
 use Prim.Native.Nat.{ℕ, ◌-◌, ◌/◌, ◌^◌, ◌≤◌}
@@ -20,7 +20,7 @@ use Rattle.arith_sample.proofs.held.Reads as held_reads
 use Rattle.arith_sample.proofs.magnitude.Reads as magnitude-reads
 use Rattle.arith_sample.proofs.less.Reads as less-reads
 
-glue : (t c s sh m l : ℕ) (d h : ℤ) → d ≡ pos t -ℤ pos c → m ≡ nat_abs d → l ≡ s - m / 2 ^ sh → h ≡ held_of d l → h ≡ conOf t c s sh
+glue : (t c s sh m l : ℕ) (d h : ℤ) → d ≡ pos t -ℤ pos c → m ≡ nat_abs d → l ≡ s - m / 2 ^ sh → h ≡ held_of d l → h ≡ con_of t c s sh
 glue t c s sh m l d h e1 e2 e3 e4 = e4 ∙ rw (e3, e2, e1) (held-con t c s sh)
 
 small : (s : tie.Start) → nat_abs (pos s.args.p -ℤ pos s.args.c) ≤ 32767

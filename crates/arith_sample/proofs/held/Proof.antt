@@ -9,7 +9,7 @@ use native.Mathlib.Omega.{arith}
 use lib.IntN.{ℤ, pos, nat_abs}
 use mir.Syntax.{w16}
 use mir.Val.{to_z, of_z}
-use Rattle.arith_sample.specs.Sample.{underOf}
+use Rattle.arith_sample.specs.Sample.{under_of}
 use Rattle.arith_sample.specs.Sample.{held_of}
 use Rattle.arith_sample.proofs.Sums16.{back, minus-fits, minus-back}
 use borrow.Author.Rules.{rules}
@@ -19,17 +19,17 @@ use Rattle.arith_sample.proofs.held.Reads as reads
 use Rattle.arith_sample.proofs.held.Lts as lts
 use Rattle.arith_sample.proofs.at_most.Reads as at-most-reads
 
-under_back : (c : tie.After-at-most) → to_z w16 (of_z w16 c.at_most.result) ≡ underOf c.before.args.d c.before.args.l
+under_back : (c : tie.After-at-most) → to_z w16 (of_z w16 c.at_most.result) ≡ under_of c.before.args.d c.before.args.l
 under_back c =
     let s = c.before in
-    let e : c.at_most.result ≡ underOf s.args.d s.args.l = c.at_most.ensures ∙ rw (back s.args.d s.requires.0) in
+    let e : c.at_most.result ≡ under_of s.args.d s.args.l = c.at_most.ensures ∙ rw (back s.args.d s.requires.0) in
     rw e (back _ (size-under s.args.d s.args.l s.requires.0 s.requires.1))
 
-held_low : (z : ℤ) (l : ℕ) → lt_z (underOf z l) (neg_ℤ (pos l)) ≡ true → neg_ℤ (pos l) ≡ held_of z l
+held_low : (z : ℤ) (l : ℕ) → lt_z (under_of z l) (neg_ℤ (pos l)) ≡ true → neg_ℤ (pos l) ≡ held_of z l
 unfolding held_of
 held_low z l e = rw e
 
-held_in : (z : ℤ) (l : ℕ) → lt_z (underOf z l) (neg_ℤ (pos l)) ≡ false → underOf z l ≡ held_of z l
+held_in : (z : ℤ) (l : ℕ) → lt_z (under_of z l) (neg_ℤ (pos l)) ≡ false → under_of z l ≡ held_of z l
 unfolding held_of
 held_in z l e = rw e
 

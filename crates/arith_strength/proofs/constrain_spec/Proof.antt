@@ -8,7 +8,7 @@ use lib.Signed.{mag}
 use mir.Syntax.{w32}
 use mir.Val.{to_z, of_z}
 use mir.ValLaws.{to_z-of_z}
-use Rattle.cdef_spec.specs.CodeForm.{constrainMag}
+use Rattle.cdef_spec.specs.CodeForm.{constrain_mag}
 use Rattle.cdef_spec.specs.ConstrainLaws.{mag-le}
 use Rattle.cdef_spec.specs.LeafLaws.{constrain-neg, constrain-pos}
 use Rattle.cdef_spec.specs.SignedLaws.{fits, back, minus-fits, minus-back, is-neg, is_pos}
@@ -26,14 +26,14 @@ positive : (c : tie.Else1) → c.before.before.args.diff ≡ pos (mag c.before.b
 positive c = is_pos w32 c.before.before.args.diff c.before.before.ranges.diff c.if1.false
 
 -- what each call returns, and its bound
-result-is : (c : tie.After-constrain-mag) → let a = c.before.before.before.args in c.constrain-mag.result ≡ constrainMag (suc (mag a.diff)) a.strength a.damping.0
+result-is : (c : tie.After-constrain-mag) → let a = c.before.before.before.args in c.constrain-mag.result ≡ constrain_mag (suc (mag a.diff)) a.strength a.damping.0
 result-is c = c.constrain-mag.ensures ∙ rw (turned c.before)
 
 result-le : (c : tie.After-constrain-mag) → c.constrain-mag.result < 2 ^ 31
 result-le c = let a = c.before.before.before.args in
     omega (arith, result-is c, mag-le (suc (mag a.diff)) a.strength a.damping.0, c.before.before.before.requires.0, ap nat_abs (negative c.before))
 
-result2-is : (c : tie.After-constrain-mag2) → let a = c.before.before.before.args in c.constrain-mag2.result ≡ constrainMag (mag a.diff) a.strength a.damping.0
+result2-is : (c : tie.After-constrain-mag2) → let a = c.before.before.before.args in c.constrain-mag2.result ≡ constrain_mag (mag a.diff) a.strength a.damping.0
 result2-is c = c.constrain-mag2.ensures ∙ rw (to_z-of_z w32 c.before.before.before.args.diff c.before.before.before.ranges.diff) (rw (positive c.before))
 
 result2-le : (c : tie.After-constrain-mag2) → c.constrain-mag2.result < 2 ^ 31

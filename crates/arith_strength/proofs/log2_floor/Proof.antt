@@ -3,20 +3,20 @@ use mathlib.Core.Path.{◌≡◌, sym, ◌∙◌}
 use native.Mathlib.Omega.{arith}
 use Prim.Native.Nat.{ℕ, suc, ◌+◌, ◌-◌, ◌^◌, ◌<◌}
 use lib.Count.{count_leading_zeros, leading_top}
-use Rattle.cdef_spec.specs.Standard.{FloorLog2}
-use Rattle.cdef_spec.specs.LeafLaws.{floorLog2-is, floorLog2-zero}
+use Rattle.cdef_spec.specs.Standard.{floor_log2}
+use Rattle.cdef_spec.specs.LeafLaws.{floor_log2-is, floor_log2-zero}
 use Rattle.arith_strength.proofs.log2_floor.Statement.{statement}
 use Rattle.arith_strength.proofs.log2_floor.Tie as tie
 
-top-is : (v : ℕ) → 0 < v → v < 2 ^ 32 → 31 - count_leading_zeros 32 v ≡ FloorLog2 v
+top-is : (v : ℕ) → 0 < v → v < 2 ^ 32 → 31 - count_leading_zeros 32 v ≡ floor_log2 v
 top-is v p f =
     let t = leading_top 32 v p f in
     let j : ℕ = t.0 in
     let e : count_leading_zeros 32 v + suc j ≡ 32 = t.1 in
-    sym (floorLog2-is v j (omega arith) t.2 t.3 ∙ omega arith)
+    sym (floor_log2-is v j (omega arith) t.2 t.3 ∙ omega arith)
 
 returns : tie.Need-returns
-returns c = rw c.if1.true (sym floorLog2-zero)
+returns c = rw c.if1.true (sym floor_log2-zero)
 
 sub-result : tie.Need-overflow-sub-result
 sub-result c =

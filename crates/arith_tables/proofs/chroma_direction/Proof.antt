@@ -3,29 +3,29 @@ use mathlib.Core.Path.{◌≡◌, sym, ◌∙◌}
 use Prim.Native.Nat.{ℕ, ◌<◌}
 use native.Mathlib.Omega.{arith}
 use borrow.Author.Tests.{ne_eqb}
-use Rattle.cdef_spec.specs.Standard.{chromaDirection}
+use Rattle.cdef_spec.specs.Standard.{chroma_direction}
 use Rattle.cdef_spec.specs.ChromaLaws.{chroma-kept}
 use Rattle.arith_tables.proofs.Entries.{uv-422, uv-422-is, uv-440, uv-440-is}
 use Rattle.arith_tables.proofs.chroma_direction.Statement.{statement}
 use Rattle.arith_tables.proofs.chroma_direction.Tie as tie
 
 -- the three ways, each with what the tests leave of the flags
-kept : (x y d : ℕ) → x ≡ y → y < 2 → d < 8 → chromaDirection x y d ≡ d
+kept : (x y d : ℕ) → x ≡ y → y < 2 → d < 8 → chroma_direction x y d ≡ d
 kept x y d e hy h = rw e (chroma-kept y d hy h)
 
-on-422 : (x y d : ℕ) → x ≡ 1 → y ≡ 0 → d < 8 → chromaDirection x y d ≡ uv-422 d
+on-422 : (x y d : ℕ) → x ≡ 1 → y ≡ 0 → d < 8 → chroma_direction x y d ≡ uv-422 d
 on-422 x y d e f h = rw (e, f) (uv-422-is d h)
 
-on-440 : (x y d : ℕ) → x ≡ 0 → y ≡ 1 → d < 8 → chromaDirection x y d ≡ uv-440 d
+on-440 : (x y d : ℕ) → x ≡ 0 → y ≡ 1 → d < 8 → chroma_direction x y d ≡ uv-440 d
 on-440 x y d e f h = rw (e, f) (uv-440-is d h)
 
 returns : tie.Need-returns
 returns c = let s = c.before in sym (kept _ _ _ (omega (arith, c.if1.true, s.requires)) s.requires.1 s.requires.2)
 
-at-422 : (c : tie.Then2) → let a = c.before.before.args in chromaDirection a.sub-x a.sub-y a.dir ≡ uv-422 a.dir
+at-422 : (c : tie.Then2) → let a = c.before.before.args in chroma_direction a.sub-x a.sub-y a.dir ≡ uv-422 a.dir
 at-422 c = let s = c.before.before in on-422 _ _ _ (omega (arith, c.if2.true, c.before.if1.false, s.requires)) (omega (arith, c.if2.true, c.before.if1.false, s.requires)) s.requires.2
 
-at-440 : (c : tie.Else2) → let a = c.before.before.args in chromaDirection a.sub-x a.sub-y a.dir ≡ uv-440 a.dir
+at-440 : (c : tie.Else2) → let a = c.before.before.args in chroma_direction a.sub-x a.sub-y a.dir ≡ uv-440 a.dir
 at-440 c = let s = c.before.before in on-440 _ _ _ (omega (arith, c.if2.false, c.before.if1.false, s.requires)) (omega (arith, c.if2.false, c.before.if1.false, s.requires)) s.requires.2
 
 returns-2 : tie.Need-returns-2

@@ -6,7 +6,7 @@ use lib.IntN.{pos, ◌+ℤ◌}
 use lib.ListN.{get_or, length, set}
 use mir.Syntax.{w64}
 use mir.Val.{to_z, of_z}
-use Rattle.cdef_spec.specs.LoopForm.{signed, addTurns}
+use Rattle.cdef_spec.specs.LoopForm.{signed, add_turns}
 use Rattle.arith_totals.specs.Turns.{plain_of}
 use Rattle.arith_totals.specs.TurnLaws.{sum_fits, sum_is, turns-start, turns-length, turn_at, turn_low, turn_more}
 use Rattle.arith_totals.proofs.add_twelve.Statement.{statement}
@@ -15,7 +15,7 @@ use Rattle.arith_totals.proofs.add_twelve.Reads as reads
 use Rattle.arith_totals.proofs.add_twelve.Lts as lts
 
 abbrev invariant-loop : tie.invariant-loop
-invariant-loop totals₀ base distances t₀ totals t = (totals ≡ signed (addTurns (plain_of totals₀) base (λ (k : ℕ). get_or distances k 0) t)) × (t ≤ 12)
+invariant-loop totals₀ base distances t₀ totals t = (totals ≡ signed (add_turns (plain_of totals₀) base (λ (k : ℕ). get_or distances k 0) t)) × (t ≤ 12)
 
 abbrev decreases-loop : tie.decreases-loop
 decreases-loop totals₀ base distances t₀ totals t = 12 - t
@@ -29,7 +29,7 @@ long c = turns-length _ c.before.before.requires.1 _ (dist c) _ _ c.before.loop.
 
 -- the total before its addition
 abbrev old : (c : tie.In-loop invariant-loop decreases-loop) → ℕ
-old c = let a = c.before.before.args in get_or (addTurns (plain_of a.totals.now) a.base (dist c) c.before.loop.t) (a.base + c.before.loop.t) 0
+old c = let a = c.before.before.args in get_or (add_turns (plain_of a.totals.now) a.base (dist c) c.before.loop.t) (a.base + c.before.loop.t) 0
 
 old-is : (c : tie.In-loop invariant-loop decreases-loop) → get_or c.before.loop.totals (c.before.before.args.base + c.before.loop.t) (pos 0) ≡ pos (old c)
 old-is c = turn_at _ c.before.before.requires.1 _ (dist c) _ _ c.before.loop.invariant.0 _
@@ -42,7 +42,7 @@ new-low c = c.before.before.requires.2 _ c.loop-test.true
 
 -- what an iteration stores
 step : (c : tie.In-loop invariant-loop decreases-loop) → let a = c.before.before.args in let l = c.before.loop.totals in let k = a.base + c.before.loop.t in
-    set l k (to_z w64 (of_z w64 (to_z w64 (of_z w64 (get_or l k (pos 0))) +ℤ to_z w64 (dist c c.before.loop.t)))) ≡ signed (addTurns (plain_of a.totals.now) a.base (dist c) (c.before.loop.t + 1))
+    set l k (to_z w64 (of_z w64 (to_z w64 (of_z w64 (get_or l k (pos 0))) +ℤ to_z w64 (dist c c.before.loop.t)))) ≡ signed (add_turns (plain_of a.totals.now) a.base (dist c) (c.before.loop.t + 1))
 step c = rw (sum_is _ _ _ (old-is c) (old-low c) (new-low c)) (turn_more _ c.before.before.requires.1 _ (dist c) _ _ c.before.loop.invariant.0)
 
 loop-holds : tie.Need-loop-init invariant-loop decreases-loop

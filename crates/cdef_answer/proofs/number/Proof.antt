@@ -3,7 +3,7 @@ use mathlib.Core.Path.{sym, ap}
 use native.Mathlib.Omega.{arith}
 use borrow.Author.Rules.{rules}
 use Rattle.cdef_spec.specs.declared.Answer.{Answer}
-use Rattle.cdef_spec.specs.Answers.{number_of, readAnswer}
+use Rattle.cdef_spec.specs.Answers.{number_of, read_answer}
 use borrow.Author.Rules.{rules}
 use Rattle.cdef_answer.proofs.number.Statement.{statement}
 use Rattle.cdef_answer.proofs.number.Tie as tie
@@ -17,12 +17,12 @@ enum-known-answer : tie.Need-enum-known-answer
 enum-known-answer c = search rules
 
 returns : tie.Need-returns
-unfolding number_of readAnswer
-returns c = sym (ap (λ (a : Answer). number_of (readAnswer a)) c.enum_told.given.1)
+unfolding number_of read_answer
+returns c = sym (ap (λ (a : Answer). number_of (read_answer a)) c.enum_told.given.1)
 
 returns-2 : tie.Need-returns-2
-unfolding number_of readAnswer
-returns-2 c = sym (ap (λ (a : Answer). number_of (readAnswer a)) c.before.answer.given.1)
+unfolding number_of read_answer
+returns-2 c = sym (ap (λ (a : Answer). number_of (read_answer a)) c.before.answer.given.1)
 
 pub number-spec : {M : Type 1} → statement M
 number-spec = tie.close (tie.spec enum_told enum-known-answer returns returns-2)

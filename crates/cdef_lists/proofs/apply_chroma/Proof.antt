@@ -5,8 +5,8 @@ use native.Mathlib.Omega.{arith}
 use Rattle.cdef_answer.specs.JoinLaws.{applying-joined}
 use borrow.Author.Rules.{rules}
 use Rattle.cdef_spec.specs.Answers.{nothing, result_of}
-use Rattle.cdef_spec.specs.FrameCalls.{applyingListsOutcome}
-use Rattle.frame_shape.specs.Frame.{kind_of, pictureOf}
+use Rattle.cdef_spec.specs.FrameCalls.{applying_lists_outcome}
+use Rattle.frame_shape.specs.Frame.{kind_of, picture_of}
 use borrow.Author.Rules.{rules}
 use Rattle.cdef_lists.proofs.apply_chroma.Statement.{statement}
 use Rattle.cdef_lists.proofs.apply_chroma.Tie as tie
@@ -29,7 +29,7 @@ same_length : tie.Need-same-length
 same_length c = search rules
 
 returns : tie.Need-returns
-unfolding applyingListsOutcome pictureOf kind_of
+unfolding applying_lists_outcome picture_of kind_of
 returns c = applying-joined _ _ _ ((c.answer-of.ensures ∙ ap (λ (n : ℕ). result_of n nothing) c.before.before.before.apply-frame.ensures.0, c.before.before.before.apply-frame.ensures.1))
 
 pub apply-chroma-spec : {M : Type 1} → statement M

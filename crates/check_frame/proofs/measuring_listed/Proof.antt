@@ -7,14 +7,14 @@ use Prim.Native.Nat.{◌/◌}
 use mathlib.Core.List.{List, []}
 use native.Mathlib.Nat.{mul-le-mul, div-le_self}
 use borrow.Author.Tests.{ne_eqb, eq-eqb}
-use Rattle.cdef_spec.specs.FrameCalls.{scratchLength}
-use Rattle.frame_shape.specs.Frame.{pictureOf}
+use Rattle.cdef_spec.specs.FrameCalls.{scratch_length}
+use Rattle.frame_shape.specs.Frame.{picture_of}
 use Rattle.frame_shape.specs.FrameLaws.{side-facts, width_is, block-height-is}
 use Rattle.check_frame.proofs.measuring_listed.Statement.{statement}
 use Rattle.check_frame.proofs.measuring_listed.Tie as tie
 
-scratch-is : (c : tie.After-plane-width) (s d vs : List ℕ) → let f = c.before.before.before.before.args.f in scratchLength (pictureOf f s d vs) ≡ c.plane-width.result * (8 / (1 + f.sy))
-unfolding scratchLength
+scratch-is : (c : tie.After-plane-width) (s d vs : List ℕ) → let f = c.before.before.before.before.args.f in scratch_length (picture_of f s d vs) ≡ c.plane-width.result * (8 / (1 + f.sy))
+unfolding scratch_length
 scratch-is c s d vs = let e = c.before.before.before.before in rw (c.plane-width.ensures s d vs, block-height-is e.args.f e.requires s d vs)
 
 units-requires : tie.Need-units-requires

@@ -5,19 +5,19 @@ use mathlib.Core.Bool.{Bool, ◌&&◌}
 use mathlib.Core.List.{[], ◌∷◌}
 use lib.Dec.{eqb}
 use lib.ListN.{length}
-use Rattle.cdef_spec.specs.Document01.{inForce}
+use Rattle.cdef_spec.specs.Document01.{in_force}
 use Rattle.cdef_spec.specs.Picture.{Picture, units}
-use Rattle.cdef_spec.specs.Questions.{firstNo, visibleTaken, pairTaken}
-use Rattle.cdef_spec.specs.FrameCalls.{measuringNo, scratchLength}
-use Rattle.frame_shape.specs.Frame.{Shaped, pictureOf}
-use Rattle.check_picture.specs.Parts.{shapeFirst, listsNext, valuesNext}
+use Rattle.cdef_spec.specs.Questions.{first_no, visible_taken, pair_taken}
+use Rattle.cdef_spec.specs.FrameCalls.{measuring_no, scratch_length}
+use Rattle.frame_shape.specs.Frame.{Shaped, picture_of}
+use Rattle.check_picture.specs.Parts.{shape_first, lists_next, values_next}
 use Rattle.check_picture.specs.PartLaws.{lists-as, values-as, at-shape, at-lists, at-values, at-samples}
 use Rattle.check_frame.specs.YesLaws.{shape-facts}
 use Rattle.check_frame.proofs.measuring_no.Statement.{statement}
 use Rattle.check_frame.proofs.measuring_no.Tie as tie
 
-abbrev pictureAt : tie.Start → Picture
-pictureAt s = pictureOf s.args.f s.args.skip.now s.args.dirs.now s.args.vars.now
+abbrev picture_at : tie.Start → Picture
+picture_at s = picture_of s.args.f s.args.skip.now s.args.dirs.now s.args.vars.now
 
 -- from one passed question to the one before it: 3 to the start, 7 to 3, 8 to 7
 abbrev start : tie.Else1 → tie.Start
@@ -30,35 +30,35 @@ abbrev seven : tie.Else3 → tie.Else2
 seven c = c.before.before.before.before
 
 abbrev lists : tie.Start → Bool
-lists s = (eqb (length s.args.totals.now) (units (pictureAt s)) && eqb (length s.args.scratch.now) (scratchLength (pictureAt s))) && visibleTaken (pictureAt s) s.args.v
+lists s = (eqb (length s.args.totals.now) (units (picture_at s)) && eqb (length s.args.scratch.now) (scratch_length (picture_at s))) && visible_taken (picture_at s) s.args.v
 
 abbrev values : tie.Start → Bool
-values s = pairTaken s.args.p
+values s = pair_taken s.args.p
 
-shape-yes : (c : tie.Else1) → firstNo (shapeFirst (pictureAt (start c))) ≡ 0
+shape-yes : (c : tie.Else1) → first_no (shape_first (picture_at (start c))) ≡ 0
 shape-yes c = let a = (start c).args in sym (c.before.shape-no.ensures a.skip.now a.dirs.now a.vars.now) ∙ c.if1.false
 
 shaped : (c : tie.Else1) → Shaped (start c).args.f
 shaped c = let s = start c in let a = s.args in shape-facts a.f a.skip.now a.dirs.now a.vars.now s.pre (shape-yes c)
 
-lists-are : (c : tie.After-lists-no) → let s = start c.before.before in c.lists-no.result ≡ firstNo (listsNext (pictureAt s) (s.args.plane.now ∷ s.args.original.now ∷ []) (lists s))
-lists-are c = let s = start c.before.before in let a = s.args in lists-as (pictureAt s) (s.args.plane.now ∷ s.args.original.now ∷ []) {b = lists s} _ c.lists-no.ensures (c.before.measuring-listed.ensures a.skip.now a.dirs.now a.vars.now)
+lists-are : (c : tie.After-lists-no) → let s = start c.before.before in c.lists-no.result ≡ first_no (lists_next (picture_at s) (s.args.plane.now ∷ s.args.original.now ∷ []) (lists s))
+lists-are c = let s = start c.before.before in let a = s.args in lists-as (picture_at s) (s.args.plane.now ∷ s.args.original.now ∷ []) {b = lists s} _ c.lists-no.ensures (c.before.measuring-listed.ensures a.skip.now a.dirs.now a.vars.now)
 
-lists-yes : (c : tie.Else2) → let s = start (three c) in firstNo (listsNext (pictureAt s) (s.args.plane.now ∷ s.args.original.now ∷ []) (lists s)) ≡ 0
+lists-yes : (c : tie.Else2) → let s = start (three c) in first_no (lists_next (picture_at s) (s.args.plane.now ∷ s.args.original.now ∷ []) (lists s)) ≡ 0
 lists-yes c = sym (lists-are c.before) ∙ c.if2.false
 
-values-are : (c : tie.After-values-no) → let s = start (three c.before.before.before) in c.values-no.result ≡ firstNo (valuesNext (pictureAt s) (inForce s.args.damping) (values s))
-values-are c = let s = start (three c.before.before.before) in values-as (pictureAt s) {e = inForce s.args.damping} {b = values s} _ c.values-no.ensures c.before.in-force.ensures c.before.before.pair-taken.ensures
+values-are : (c : tie.After-values-no) → let s = start (three c.before.before.before) in c.values-no.result ≡ first_no (values_next (picture_at s) (in_force s.args.damping) (values s))
+values-are c = let s = start (three c.before.before.before) in values-as (picture_at s) {e = in_force s.args.damping} {b = values s} _ c.values-no.ensures c.before.in-force.ensures c.before.before.pair-taken.ensures
 
-values-yes : (c : tie.Else3) → let s = start (three (seven c)) in firstNo (valuesNext (pictureAt s) (inForce s.args.damping) (values s)) ≡ 0
+values-yes : (c : tie.Else3) → let s = start (three (seven c)) in first_no (values_next (picture_at s) (in_force s.args.damping) (values s)) ≡ 0
 values-yes c = sym (values-are c.before) ∙ c.if3.false
 
 shape-no-requires : tie.Need-shape-no-requires
 shape-no-requires c κs = search rules
 
 returns : tie.Need-returns
-unfolding measuringNo
-returns c = let s = c.before.before.before.before.before.before.before.before in let a = s.args in at-shape (pictureAt s) _ _ _ _ _ _ (c.before.shape-no.ensures a.skip.now a.dirs.now a.vars.now) c.if1.true
+unfolding measuring_no
+returns c = let s = c.before.before.before.before.before.before.before.before in let a = s.args in at-shape (picture_at s) _ _ _ _ _ _ (c.before.shape-no.ensures a.skip.now a.dirs.now a.vars.now) c.if1.true
 
 measuring-listed-requires : tie.Need-measuring-listed-requires
 measuring-listed-requires c κs = shaped c
@@ -67,8 +67,8 @@ lists-no-requires : tie.Need-lists-no-requires
 lists-no-requires c κs = shaped c.before
 
 returns-2 : tie.Need-returns-2
-unfolding measuringNo
-returns-2 c = let d = c.before.before.before in at-lists (pictureAt (start d)) _ _ _ _ _ (shape-yes d) _ (lists-are c.before) c.if2.true
+unfolding measuring_no
+returns-2 c = let d = c.before.before.before in at-lists (picture_at (start d)) _ _ _ _ _ (shape-yes d) _ (lists-are c.before) c.if2.true
 
 pair-taken-requires : tie.Need-pair-taken-requires
 pair-taken-requires c κs = search rules
@@ -80,15 +80,15 @@ values-no-requires : tie.Need-values-no-requires
 values-no-requires c κs = search rules
 
 returns-3 : tie.Need-returns-3
-unfolding measuringNo
-returns-3 c = let d = c.before.before.before.before in at-values (pictureAt (start (three d))) _ _ _ _ _ (shape-yes (three d)) (lists-yes d) _ (values-are c.before) c.if3.true
+unfolding measuring_no
+returns-3 c = let d = c.before.before.before.before in at-values (picture_at (start (three d))) _ _ _ _ _ (shape-yes (three d)) (lists-yes d) _ (values-are c.before) c.if3.true
 
 planes-no-requires : tie.Need-planes-no-requires
 planes-no-requires c κs = (shaped (three (seven c))).flat
 
 returns-4 : tie.Need-returns-4
-unfolding measuringNo pictureOf
-returns-4 c = let d = seven c.before in at-samples (pictureAt (start (three d))) _ _ _ _ _ (shape-yes (three d)) (lists-yes d) (values-yes c.before) _ c.planes-no.ensures
+unfolding measuring_no picture_of
+returns-4 c = let d = seven c.before in at-samples (picture_at (start (three d))) _ _ _ _ _ (shape-yes (three d)) (lists-yes d) (values-yes c.before) _ c.planes-no.ensures
 
 pub measuring-no-spec : {M : Type 1} → statement M
 measuring-no-spec =

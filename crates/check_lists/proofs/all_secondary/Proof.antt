@@ -6,14 +6,14 @@ use borrow.Author.Rules.{rules}
 use mathlib.Core.Bool.{true}
 use lib.ListN.{get_or, length}
 use Rattle.cdef_spec.specs.Words.{every}
-use Rattle.cdef_spec.specs.Questions.{secondaryTaken}
+use Rattle.cdef_spec.specs.Questions.{secondary_taken}
 use Rattle.check_lists.specs.ListLaws.{every-none, every_more, no-at, yes-all}
 use Rattle.check_sides.specs.Said.{no-so, yes-so}
 use Rattle.check_lists.proofs.all_secondary.Statement.{statement}
 use Rattle.check_lists.proofs.all_secondary.Tie as tie
 
 abbrev invariant-loop : tie.invariant-loop
-invariant-loop list k₀ k-end k = (every k (λ j. secondaryTaken (get_or list j 0)) ≡ true) × (k ≤ length list)
+invariant-loop list k₀ k-end k = (every k (λ j. secondary_taken (get_or list j 0)) ≡ true) × (k ≤ length list)
 
 abbrev decreases-loop : tie.decreases-loop
 decreases-loop list k₀ k-end k = length list - k
@@ -28,7 +28,7 @@ secondary-taken-requires : tie.Need-secondary-taken-requires invariant-loop decr
 secondary-taken-requires c κs = search rules
 
 returns : tie.Need-returns invariant-loop decreases-loop
-returns c = no-at secondaryTaken _ _ c.before.before.before.loop-test.true (no-so c.before.secondary-taken.ensures c.if1.true)
+returns c = no-at secondary_taken _ _ c.before.before.before.loop-test.true (no-so c.before.secondary-taken.ensures c.if1.true)
 
 add-k : tie.Need-overflow-add-k invariant-loop decreases-loop
 add-k c = omega arith
@@ -40,7 +40,7 @@ loop-again : tie.Need-loop-preserved invariant-loop decreases-loop
 loop-again c = let p = c.before.before.before.before in (every_more _ _ p.loop.invariant.0 (yes-so c.before.secondary-taken.ensures c.if1.false), omega arith)
 
 returns-2 : tie.Need-returns-2 invariant-loop decreases-loop
-returns-2 c = let p = c.before in yes-all secondaryTaken _ _ p.loop.invariant.0 (omega arith)
+returns-2 c = let p = c.before in yes-all secondary_taken _ _ p.loop.invariant.0 (omega arith)
 
 pub all-secondary-spec : {M : Type 1} → statement M
 all-secondary-spec =

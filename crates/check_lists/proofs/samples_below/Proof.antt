@@ -5,13 +5,13 @@ use native.Mathlib.Omega.{arith}
 use lib.Dec.{ltb}
 use lib.ListN.{get_or, length}
 use Rattle.cdef_spec.specs.Words.{every}
-use Rattle.check_lists.specs.Quarters.{inFour}
+use Rattle.check_lists.specs.Quarters.{in_four}
 use Rattle.check_lists.specs.ListLaws.{four-none, four-more, four-all, bits-more, bits-say}
 use Rattle.check_lists.proofs.samples_below.Statement.{statement}
 use Rattle.check_lists.proofs.samples_below.Tie as tie
 
 abbrev invariant-loop : tie.invariant-loop
-invariant-loop list depth n bits₀ k₀ bits k = (ltb bits (2 ^ depth) ≡ every k (inFour depth list n)) × (k ≤ n)
+invariant-loop list depth n bits₀ k₀ bits k = (ltb bits (2 ^ depth) ≡ every k (in_four depth list n)) × (k ≤ n)
 
 abbrev decreases-loop : tie.decreases-loop
 decreases-loop list depth n bits₀ k₀ bits k = n - k

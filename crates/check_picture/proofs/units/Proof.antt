@@ -4,7 +4,7 @@ use Prim.Native.Nat.{ℕ, ◌+◌, ◌*◌, ◌/◌, ◌≤◌}
 use native.Mathlib.Omega.{arith}
 use native.Mathlib.Nat.{mul-le-mul}
 use Rattle.cdef_spec.specs.Picture.{units}
-use Rattle.frame_shape.specs.Frame.{pictureOf}
+use Rattle.frame_shape.specs.Frame.{picture_of}
 use Rattle.frame_shape.specs.FrameLaws.{side-facts}
 use Rattle.check_picture.proofs.units.Statement.{statement}
 use Rattle.check_picture.proofs.units.Tie as tie
@@ -25,7 +25,7 @@ mul-result : tie.Need-overflow-mul-result
 mul-result c = let s = c.before.before in omega (arith, few _ _ (side-facts _ s.requires.wide).1 (side-facts _ s.requires.high).1)
 
 returns : tie.Need-returns
-unfolding units pictureOf
+unfolding units picture_of
 returns c = let s = c.before.before in (λ l d vs. refl, few _ _ (side-facts _ s.requires.wide).1 (side-facts _ s.requires.high).1)
 
 pub units-spec : {M : Type 1} → statement M

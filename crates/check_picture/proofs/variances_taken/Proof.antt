@@ -1,6 +1,6 @@
 -- `check_picture::variances_taken` meets its contract.
 use borrow.Author.Rules.{rules}
-use Rattle.cdef_spec.specs.Questions.{variancesTaken}
+use Rattle.cdef_spec.specs.Questions.{variances_taken}
 use Rattle.frame_shape.specs.FrameLaws.{kind-luma, kind-chroma}
 use Rattle.check_picture.proofs.variances_taken.Statement.{statement}
 use Rattle.check_picture.proofs.variances_taken.Tie as tie
@@ -12,11 +12,11 @@ all-below-u32-requires : tie.Need-all-below-u32-requires
 all-below-u32-requires c κs = search rules
 
 returns : tie.Need-returns
-unfolding variancesTaken
+unfolding variances_taken
 returns c = let a = c.before.before.before.args in rw (kind-luma a.f a.vars.now c.before.if1.true) c.all-below-u32.ensures
 
 returns-2 : tie.Need-returns-2
-unfolding variancesTaken
+unfolding variances_taken
 returns-2 c = let a = c.before.before.args in rw (kind-chroma a.f a.vars.now c.if1.false)
 
 pub variances-taken-spec : {M : Type 1} → statement M

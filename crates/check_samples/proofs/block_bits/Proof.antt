@@ -3,13 +3,13 @@ use mathlib.Core.Path.{◌≡◌, ◌∙◌}
 use Prim.Native.Nat.{◌+◌, ◌-◌, ◌*◌, ◌≤◌}
 use native.Mathlib.Omega.{arith}
 use lib.ListN.{length}
-use Rattle.check_samples.specs.Looked.{orRows}
+use Rattle.check_samples.specs.Looked.{or_rows}
 use Rattle.check_samples.specs.LookedLaws.{rows_none, rows_more}
 use Rattle.check_samples.proofs.block_bits.Statement.{statement}
 use Rattle.check_samples.proofs.block_bits.Tie as tie
 
 abbrev invariant-loop : tie.invariant-loop
-invariant-loop plane width y x rows cols bits₀ i₀ bits i = (bits ≡ orRows plane width y x cols i) × (i ≤ rows)
+invariant-loop plane width y x rows cols bits₀ i₀ bits i = (bits ≡ or_rows plane width y x cols i) × (i ≤ rows)
 
 abbrev decreases-loop : tie.decreases-loop
 decreases-loop plane width y x rows cols bits₀ i₀ bits i = rows - i

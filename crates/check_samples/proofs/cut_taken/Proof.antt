@@ -5,8 +5,8 @@ use Prim.Native.Nat.{ℕ, ◌+◌, ◌-◌, ◌*◌, ◌/◌, ◌^◌, ◌≤◌
 use native.Mathlib.Nat.{mul_comm, mul-le-mul_right}
 use native.Mathlib.Omega.{arith}
 use lib.Dec.{eqb}
-use Rattle.cdef_spec.specs.Questions.{cutTaken}
-use Rattle.check_samples.specs.Looked.{orRows}
+use Rattle.cdef_spec.specs.Questions.{cut_taken}
+use Rattle.check_samples.specs.Looked.{or_rows}
 use Rattle.check_samples.specs.LookedLaws.{cut-bits, shifted_none}
 use borrow.Author.Rules.{rules}
 use Rattle.check_samples.proofs.cut_taken.Statement.{statement}
@@ -19,7 +19,7 @@ row_in w h n y x rows cols e hy hx i hi =
     omega (arith, mul-le-mul_right w a, mul_comm w h)
 
 -- the bits of the block, cropped to the plane, decide question 9
-bits-say : (s : List ℕ) (w h d y x rows cols bits : ℕ) → y < h → x < w → rows ≡ min 8 (h - y) → cols ≡ min 8 (w - x) → bits ≡ orRows s w y x cols rows → eqb (bits / 2 ^ d) 0 ≡ cutTaken (record { samples = s; width = w; height = h }) d y x
+bits-say : (s : List ℕ) (w h d y x rows cols bits : ℕ) → y < h → x < w → rows ≡ min 8 (h - y) → cols ≡ min 8 (w - x) → bits ≡ or_rows s w y x cols rows → eqb (bits / 2 ^ d) 0 ≡ cut_taken (record { samples = s; width = w; height = h }) d y x
 bits-say s w h d y x rows cols bits hy hx er ec eb = shifted_none bits d ∙ rw (eb, er, ec) (cut-bits s w h d y x hy hx)
 
 sub-lesser : tie.Need-overflow-sub-lesser

@@ -2,13 +2,13 @@
 use mathlib.Core.Path.{◌≡◌, ◌∙◌}
 use Prim.Native.Nat.{◌-◌, ◌≤◌}
 use native.Mathlib.Omega.{arith}
-use Rattle.check_samples.specs.Looked.{orRow}
+use Rattle.check_samples.specs.Looked.{or_row}
 use Rattle.check_samples.specs.LookedLaws.{row-none, row_more}
 use Rattle.check_samples.proofs.row_bits.Statement.{statement}
 use Rattle.check_samples.proofs.row_bits.Tie as tie
 
 abbrev invariant-loop : tie.invariant-loop
-invariant-loop plane at n bits₀ j₀ bits j = (bits ≡ orRow plane at j) × (j ≤ n)
+invariant-loop plane at n bits₀ j₀ bits j = (bits ≡ or_row plane at j) × (j ≤ n)
 
 abbrev decreases-loop : tie.decreases-loop
 decreases-loop plane at n bits₀ j₀ bits j = n - j

@@ -10,7 +10,7 @@ use lib.Dec.{eqb}
 use lib.ListN.{get_or}
 use lib.Pow.{pow_mono}
 use Rattle.cdef_spec.specs.Words.{every}
-use Rattle.cdef_spec.specs.Questions.{sampleOrMark}
+use Rattle.cdef_spec.specs.Questions.{sample_or_mark}
 use Rattle.check_samples.proofs.window_taken.Statement.{statement}
 use Rattle.check_samples.proofs.window_taken.Tie as tie
 use Rattle.check_samples.proofs.window_taken.Reads as reads
@@ -18,7 +18,7 @@ use Rattle.check_samples.proofs.window_taken.Lts as lts
 use Rattle.check_samples.proofs.wrong.Reads as wrong-reads
 
 abbrev invariant-loop : tie.invariant-loop
-invariant-loop w depth top bad₀ k₀ bad k = (eqb bad 0 ≡ every k (λ (i : ℕ). sampleOrMark depth (get_or w i 0))) × (bad ≤ k) × (k ≤ 144) × (top ≡ 2 ^ depth)
+invariant-loop w depth top bad₀ k₀ bad k = (eqb bad 0 ≡ every k (λ (i : ℕ). sample_or_mark depth (get_or w i 0))) × (bad ≤ k) × (k ≤ 144) × (top ≡ 2 ^ depth)
 
 abbrev decreases-loop : tie.decreases-loop
 decreases-loop w depth top bad₀ k₀ bad k = 144 - k

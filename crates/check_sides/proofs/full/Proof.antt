@@ -4,17 +4,17 @@ use mathlib.Core.Bool.{true}
 use Prim.Native.Nat.{◌≤◌}
 use native.Mathlib.Nat.{mul-le-mul}
 use native.Mathlib.Omega.{arith}
-use Rattle.cdef_spec.specs.Questions.{sideTaken, full}
+use Rattle.cdef_spec.specs.Questions.{side_taken, full}
 use Rattle.check_sides.specs.SideLaws.{side-le}
 use Rattle.check_sides.specs.Said.{no-so, yes-so}
 use borrow.Author.Rules.{rules}
 use Rattle.check_sides.proofs.full.Statement.{statement}
 use Rattle.check_sides.proofs.full.Tie as tie
 
-width-yes : (c : tie.Else1) → sideTaken c.before.before.before.args.width ≡ true
+width-yes : (c : tie.Else1) → side_taken c.before.before.before.args.width ≡ true
 width-yes c = yes-so c.before.side-taken.ensures c.if1.false
 
-height-yes : (c : tie.Else2) → sideTaken c.before.before.before.before.before.args.height ≡ true
+height-yes : (c : tie.Else2) → side_taken c.before.before.before.before.before.args.height ≡ true
 height-yes c = yes-so c.before.side-taken2.ensures c.if2.false
 
 side-taken-requires : tie.Need-side-taken-requires

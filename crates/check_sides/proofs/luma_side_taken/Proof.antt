@@ -1,6 +1,6 @@
 -- `check_sides::luma_side_taken` meets its contract.
 use borrow.Author.Rules.{rules}
-use Rattle.cdef_spec.specs.Questions.{lumaSideTaken}
+use Rattle.cdef_spec.specs.Questions.{luma_side_taken}
 use Rattle.check_sides.specs.Said.{no-so, yes-so}
 use Rattle.check_sides.proofs.luma_side_taken.Statement.{statement}
 use Rattle.check_sides.proofs.luma_side_taken.Tie as tie
@@ -9,11 +9,11 @@ side-taken-requires : tie.Need-side-taken-requires
 side-taken-requires c κs = search rules
 
 returns : tie.Need-returns
-unfolding lumaSideTaken
+unfolding luma_side_taken
 returns c = rw (no-so c.before.side-taken.ensures c.if1.true)
 
 returns-2 : tie.Need-returns-2
-unfolding lumaSideTaken
+unfolding luma_side_taken
 returns-2 c = rw (yes-so c.before.side-taken.ensures c.if1.false)
 
 pub luma-side-taken-spec : {M : Type 1} → statement M

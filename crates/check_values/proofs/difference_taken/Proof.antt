@@ -8,17 +8,17 @@ use lib.IntN.{ℤ, pos, negsuc}
 use lib.Signed.{lt_z, le_z}
 use mir.Syntax.{w32}
 use mir.ValLaws.{to_z-of_z}
-use Rattle.cdef_spec.specs.Questions.{differenceTaken}
+use Rattle.cdef_spec.specs.Questions.{difference_taken}
 use Rattle.check_values.proofs.difference_taken.Statement.{statement}
 use Rattle.check_values.proofs.difference_taken.Tie as tie
 
-low : (z : ℤ) → lt_z z (negsuc 4094) ≡ true → false ≡ differenceTaken z
-unfolding differenceTaken
+low : (z : ℤ) → lt_z z (negsuc 4094) ≡ true → false ≡ difference_taken z
+unfolding difference_taken
 low (pos n) t = let k : false ≡ true = t in cc
 low (negsuc n) t = sym (lt-leb (suc n) 4095 (omega (arith, ltb-true 4094 n t)))
 
-high : (z : ℤ) → lt_z z (negsuc 4094) ≡ false → le_z z (pos 4095) ≡ differenceTaken z
-unfolding differenceTaken
+high : (z : ℤ) → lt_z z (negsuc 4094) ≡ false → le_z z (pos 4095) ≡ difference_taken z
+unfolding difference_taken
 high (pos n) t = refl
 high (negsuc n) t = sym (le-leb (suc n) 4095 (omega (arith, ltb-false 4094 n t)))
 

@@ -6,7 +6,7 @@ use native.Mathlib.Omega.{arith}
 use borrow.Author.Tests.{lt-leb, le-leb, le-ltb, lt-ltb}
 use lib.Dec.{leb}
 use Rattle.cdef_spec.specs.declared.FilterParams.{FilterParams}
-use Rattle.cdef_spec.specs.Questions.{workingTaken, paramsTaken}
+use Rattle.cdef_spec.specs.Questions.{working_taken, params_taken}
 use Rattle.arith_strength.specs.StrengthLaws.{limit}
 use borrow.Author.Rules.{rules}
 use Rattle.check_values.proofs.params_taken.Statement.{statement}
@@ -15,20 +15,20 @@ use Rattle.check_values.proofs.params_taken.Reads as reads
 use Rattle.check_values.proofs.params_taken.Lts as lts
 
 module _ (q : FilterParams) where
-  no-pri : 15 * 2 ^ (q.depth - 8) < q.pri → false ≡ paramsTaken q
-  unfolding paramsTaken
+  no-pri : 15 * 2 ^ (q.depth - 8) < q.pri → false ≡ params_taken q
+  unfolding params_taken
   no-pri h = rw (lt-leb q.pri (15 * 2 ^ (q.depth - 8)) h)
 
-  no-sec : q.pri ≤ 15 * 2 ^ (q.depth - 8) → 4 * 2 ^ (q.depth - 8) < q.sec → false ≡ paramsTaken q
-  unfolding paramsTaken
+  no-sec : q.pri ≤ 15 * 2 ^ (q.depth - 8) → 4 * 2 ^ (q.depth - 8) < q.sec → false ≡ params_taken q
+  unfolding params_taken
   no-sec h g = rw (le-leb q.pri (15 * 2 ^ (q.depth - 8)) h, lt-leb q.sec (4 * 2 ^ (q.depth - 8)) g)
 
-  no-dir : q.pri ≤ 15 * 2 ^ (q.depth - 8) → q.sec ≤ 4 * 2 ^ (q.depth - 8) → 8 ≤ q.dir → false ≡ paramsTaken q
-  unfolding paramsTaken
+  no-dir : q.pri ≤ 15 * 2 ^ (q.depth - 8) → q.sec ≤ 4 * 2 ^ (q.depth - 8) → 8 ≤ q.dir → false ≡ params_taken q
+  unfolding params_taken
   no-dir h g k = rw (le-leb q.pri (15 * 2 ^ (q.depth - 8)) h, le-leb q.sec (4 * 2 ^ (q.depth - 8)) g, le-ltb q.dir 8 k)
 
-  rest : q.pri ≤ 15 * 2 ^ (q.depth - 8) → q.sec ≤ 4 * 2 ^ (q.depth - 8) → q.dir < 8 → leb q.damping.0 31 ≡ paramsTaken q
-  unfolding paramsTaken workingTaken
+  rest : q.pri ≤ 15 * 2 ^ (q.depth - 8) → q.sec ≤ 4 * 2 ^ (q.depth - 8) → q.dir < 8 → leb q.damping.0 31 ≡ params_taken q
+  unfolding params_taken working_taken
   rest h g k = rw (le-leb q.pri (15 * 2 ^ (q.depth - 8)) h, le-leb q.sec (4 * 2 ^ (q.depth - 8)) g, lt-ltb q.dir 8 k)
 
 sub-shift : tie.Need-overflow-sub-shift

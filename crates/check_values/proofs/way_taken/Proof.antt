@@ -1,7 +1,7 @@
 -- `check_values::way_taken` meets its contract.
 use mathlib.Core.Path.{◌≡◌, ap, sym, ◌∙◌}
 use Rattle.cdef_spec.specs.declared.TrialWay.{TrialWay}
-use Rattle.cdef_spec.specs.Questions.{wayTaken}
+use Rattle.cdef_spec.specs.Questions.{way_taken}
 use borrow.Author.Rules.{rules}
 use Rattle.check_values.proofs.way_taken.Statement.{statement}
 use Rattle.check_values.proofs.way_taken.Tie as tie
@@ -19,12 +19,12 @@ enum_told : tie.Need-enum-told
 enum_told c = search rules
 
 returns : tie.Need-returns
-unfolding wayTaken
-returns c = c.variance-taken.ensures ∙ sym (ap (λ (w : TrialWay). wayTaken w) c.before.before.way.given.1)
+unfolding way_taken
+returns c = c.variance-taken.ensures ∙ sym (ap (λ (w : TrialWay). way_taken w) c.before.before.way.given.1)
 
 returns-2 : tie.Need-returns-2
-unfolding wayTaken
-returns-2 c = sym (ap (λ (w : TrialWay). wayTaken w) c.enum_told.given.1)
+unfolding way_taken
+returns-2 c = sym (ap (λ (w : TrialWay). way_taken w) c.enum_told.given.1)
 
 pub way-taken-spec : {M : Type 1} → statement M
 way-taken-spec =

@@ -5,13 +5,13 @@ use Prim.Native.Nat.{ℕ, ◌+◌, ◌-◌, ◌≤◌, ◌<◌}
 use native.Mathlib.Decide.{ℕ_discrete}
 use native.Mathlib.Omega.{arith}
 use lib.ListN.{get_or}
-use Rattle.direction_best.specs.Best.{bestTo}
+use Rattle.direction_best.specs.Best.{best_to}
 use Rattle.direction_best.specs.BestLaws.{best_none, best-new, best-old, found-is}
 use Rattle.direction_best.proofs.best.Statement.{statement}
 use Rattle.direction_best.proofs.best.Tie as tie
 
 abbrev invariant-loop : tie.invariant-loop
-invariant-loop cost direction₀ most₀ d₀ direction most d = (record { bestCost = most; yDir = direction } ≡ bestTo (λ (k : ℕ). get_or cost k 0) d) × ((k : ℕ) → k < d → get_or cost k 0 ≤ most) × (direction < 8) × (d ≤ 8)
+invariant-loop cost direction₀ most₀ d₀ direction most d = (record { best_cost = most; y_dir = direction } ≡ best_to (λ (k : ℕ). get_or cost k 0) d) × ((k : ℕ) → k < d → get_or cost k 0 ≤ most) × (direction < 8) × (d ≤ 8)
 
 abbrev decreases-loop : tie.decreases-loop
 decreases-loop cost direction₀ most₀ d₀ direction most d = 8 - d

@@ -2,7 +2,7 @@
 use Prim.Native.Nat.{ℕ}
 use native.Mathlib.Omega.{arith}
 use lib.IntN.{ℤ}
-use Rattle.cdef_spec.specs.Document01.{directionInput}
+use Rattle.cdef_spec.specs.Document01.{direction_input}
 use Rattle.arith_sample.specs.Bounds.{Within}
 use Rattle.direction_lines.specs.LinesLaws.{block_within, turned-within, padded-within, partials-from}
 use Rattle.direction_levels.specs.LevelLaws.{input-small}
@@ -12,7 +12,7 @@ use Rattle.direction_block.proofs.cdef_direction_partials.Tie as tie
 
 -- the input samples
 abbrev input : tie.Start → ℕ → ℕ → ℤ
-input s = directionInput (record { samples = s.args.plane.now; width = s.args.width; height = s.args.height }) s.args.depth s.args.y s.args.x
+input s = direction_input (record { samples = s.args.plane.now; width = s.args.width; height = s.args.height }) s.args.depth s.args.y s.args.x
 
 -- they are small, and so are their lists
 levels-small : (c : tie.After-levels) → Within c.levels.result 128

@@ -4,7 +4,7 @@ use Prim.Native.Nat.{◌*◌}
 use native.Mathlib.Omega.{arith}
 use mir.Syntax.{w16}
 use mir.ValLaws.{to_z-of_z}
-use Rattle.cdef_spec.specs.Standard.{square, divBy}
+use Rattle.cdef_spec.specs.Standard.{square, div_by}
 use Rattle.arith_tables.specs.DivisorLaws.{divisor-is-standard}
 use Rattle.direction_costs.specs.Costs.{entry}
 use borrow.Author.Rules.{rules}
@@ -15,7 +15,7 @@ first : (c : tie.After-square-of) → c.square-of.result ≡ square (entry c.bef
 unfolding entry
 first c = c.square-of.ensures ∙ ap square (to_z-of_z w16 _ (record { sfits = c.before.square-of-arg.given }))
 
-product : (c : tie.After-divisor) → c.before.square-of.result * c.divisor.result ≡ square (entry c.before.before.before.args.l.now c.before.before.before.args.a) * divBy c.before.before.before.args.n
+product : (c : tie.After-divisor) → c.before.square-of.result * c.divisor.result ≡ square (entry c.before.before.before.args.l.now c.before.before.before.args.a) * div_by c.before.before.before.args.n
 product c = rw (first c.before, c.divisor.ensures, divisor-is-standard c.before.before.before.args.n c.before.before.before.requires.1 c.before.before.before.requires.2)
 
 mul-square-of : tie.Need-overflow-mul-square-of

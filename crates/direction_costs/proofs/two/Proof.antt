@@ -6,7 +6,7 @@ use lib.ListN.{get_or}
 use lib.IntN.{pos}
 use mir.Syntax.{w16}
 use mir.ValLaws.{to_z-of_z}
-use Rattle.cdef_spec.specs.Standard.{square, divBy}
+use Rattle.cdef_spec.specs.Standard.{square, div_by}
 use Rattle.arith_tables.specs.DivisorLaws.{divisor-is-standard}
 use Rattle.direction_costs.specs.Costs.{entry}
 use Rattle.arith_numbers.proofs.Squares.{square-low}
@@ -22,7 +22,7 @@ second : (c : tie.After-square-of2) → c.square-of2.result ≡ square (entry c.
 unfolding entry
 second c = c.square-of2.ensures ∙ ap square (to_z-of_z w16 _ (record { sfits = c.before.square-of-arg2.given }))
 
-product : (c : tie.After-divisor) → (c.before.before.before.square-of.result + c.before.square-of2.result) * c.divisor.result ≡ (square (entry c.before.before.before.before.before.args.l.now c.before.before.before.before.before.args.a) + square (entry c.before.before.before.before.before.args.l.now c.before.before.before.before.before.args.b)) * divBy c.before.before.before.before.before.args.n
+product : (c : tie.After-divisor) → (c.before.before.before.square-of.result + c.before.square-of2.result) * c.divisor.result ≡ (square (entry c.before.before.before.before.before.args.l.now c.before.before.before.before.before.args.a) + square (entry c.before.before.before.before.before.args.l.now c.before.before.before.before.before.args.b)) * div_by c.before.before.before.before.before.args.n
 product c = rw (first c.before.before.before, second c.before, c.divisor.ensures, divisor-is-standard c.before.before.before.before.before.args.n c.before.before.before.before.before.requires.2 c.before.before.before.before.before.requires.3)
 
 mul-square-of : tie.Need-overflow-mul-square-of

@@ -6,19 +6,19 @@ use native.Mathlib.Omega.{arith}
 use lib.IntN.{ℤ}
 use lib.ListN.{length, take, length-set}
 use Rattle.arith_sample.specs.Upto.{upto, upto-none, upto-more, upto_all}
-use Rattle.direction_lane_costs.specs.Costs.{squaresOf, weighedOf, costOf}
+use Rattle.direction_lane_costs.specs.Costs.{squares_of, weighed_of, cost_of}
 use Rattle.direction_lane_costs.specs.CostsLaws.{lane-cost}
 use Rattle.direction_lane_costs.proofs.cost.Statement.{statement}
 use Rattle.direction_lane_costs.proofs.cost.Tie as tie
 
 abbrev invariant-loop : tie.invariant-loop
-invariant-loop p kind q c₀ l₀ c l = (take l c ≡ upto (costOf p kind) l) × (length c ≡ 8) × (l ≤ 8)
+invariant-loop p kind q c₀ l₀ c l = (take l c ≡ upto (cost_of p kind) l) × (length c ≡ 8) × (l ≤ 8)
 
 abbrev decreases-loop : tie.decreases-loop
 decreases-loop p kind q c₀ l₀ c l = 8 - l
 
 -- a lane of the squares
-lane : (p : List ℤ) (q : List ℕ) (kind l : ℕ) → l < 8 → q ≡ squaresOf p → weighedOf kind q l ≡ costOf p kind l
+lane : (p : List ℤ) (q : List ℕ) (kind l : ℕ) → l < 8 → q ≡ squares_of p → weighed_of kind q l ≡ cost_of p kind l
 lane p q kind l h e = rw e (lane-cost p kind l h)
 
 squares-requires : tie.Need-squares-requires invariant-loop decreases-loop

@@ -5,7 +5,7 @@ use native.Mathlib.Omega.{arith}
 use lib.ListN.{length, take, length-set}
 use Rattle.arith_sample.specs.Upto.{upto, upto-none, upto-more, upto-at, upto_all}
 use Rattle.arith_sample.proofs.Sums16.{back}
-use Rattle.direction_lane_costs.specs.Costs.{end_at, endsOf}
+use Rattle.direction_lane_costs.specs.Costs.{end_at, ends_of}
 use Rattle.direction_lane_costs.specs.CostsLaws.{end-even, end-odd}
 use Rattle.direction_lane_costs.proofs.ends.Statement.{statement}
 use Rattle.direction_lane_costs.proofs.ends.Tie as tie
@@ -109,7 +109,7 @@ loop-again : tie.Need-loop-preserved invariant-loop2 decreases-loop2 invariant-l
 loop-again c = let p = c.before in (upto-at _ _ _ _ (omega arith) p.loop2.invariant.0, p.loop2.invariant.1, omega arith)
 
 returns : tie.Need-returns invariant-loop2 decreases-loop2 invariant-loop decreases-loop
-returns c = unfold endsOf in let p = c.before in upto_all _ _ 128 _ p.loop.invariant.0 p.loop.invariant.1 (omega arith)
+returns c = unfold ends_of in let p = c.before in upto_all _ _ 128 _ p.loop.invariant.0 p.loop.invariant.1 (omega arith)
 
 pub ends-spec : {M : Type 1} → statement M
 ends-spec =

@@ -10,14 +10,14 @@ use mir.ValLaws.{to_z-of_z}
 use Rattle.cdef_spec.specs.Standard.{square}
 use Rattle.arith_sample.specs.Upto.{upto, upto-none, upto-more, upto_all}
 use Rattle.arith_numbers.proofs.Squares.{square-low}
-use Rattle.direction_lane_costs.specs.Costs.{endsOf, endSquares, squaresOf}
+use Rattle.direction_lane_costs.specs.Costs.{ends_of, end_squares, squares_of}
 use Rattle.direction_lane_costs.specs.CostsLaws.{end-squares}
 use borrow.Author.Rules.{rules}
 use Rattle.direction_lane_costs.proofs.squares.Statement.{statement}
 use Rattle.direction_lane_costs.proofs.squares.Tie as tie
 
 abbrev invariant-loop : tie.invariant-loop
-invariant-loop p z q₀ k₀ q k = (take k q ≡ upto (λ (n : ℕ). endSquares p (n % 8) (n / 8)) k) × (length q ≡ 64) × (k ≤ 64)
+invariant-loop p z q₀ k₀ q k = (take k q ≡ upto (λ (n : ℕ). end_squares p (n % 8) (n / 8)) k) × (length q ≡ 64) × (k ≤ 64)
 
 abbrev decreases-loop : tie.decreases-loop
 decreases-loop p z q₀ k₀ q k = 64 - k
@@ -32,7 +32,7 @@ second : (c : tie.After-square-of2 invariant-loop decreases-loop)
 second c = (c.square-of2.ensures ∙ ap square (to_z-of_z w16 _ (record { sfits = c.before.square-of-arg2.given })), square-low _ (record { sfits = c.before.square-of-arg2.given }))
 
 -- their sum
-both : (p z : List ℤ) (k a b : ℕ) → k < 64 → z ≡ endsOf p → a ≡ square (get_or z (2 * k) (pos 0)) → b ≡ square (get_or z (2 * k + 1) (pos 0)) → a + b ≡ endSquares p (k % 8) (k / 8)
+both : (p z : List ℤ) (k a b : ℕ) → k < 64 → z ≡ ends_of p → a ≡ square (get_or z (2 * k) (pos 0)) → b ≡ square (get_or z (2 * k + 1) (pos 0)) → a + b ≡ end_squares p (k % 8) (k / 8)
 both p z k a b h e ea eb = rw (ea, eb, e) (end-squares p k h)
 
 ends-requires : tie.Need-ends-requires invariant-loop decreases-loop
@@ -85,7 +85,7 @@ loop-again c = let l = c.before.before.before.before.before.loop in
     (upto-more _ _ _ _ l.invariant.0 (omega arith) (both _ _ _ _ _ c.before.before.before.before.loop-test.true c.before.before.before.before.before.before.ends.ensures (first c.before.before).0 (second c).0), simp length-set l.invariant.1, omega arith)
 
 returns : tie.Need-returns invariant-loop decreases-loop
-returns c = unfold squaresOf in let p = c.before in upto_all _ _ 64 _ p.loop.invariant.0 p.loop.invariant.1 (omega arith)
+returns c = unfold squares_of in let p = c.before in upto_all _ _ 64 _ p.loop.invariant.0 p.loop.invariant.1 (omega arith)
 
 pub squares-spec : {M : Type 1} → statement M
 squares-spec =

@@ -7,7 +7,7 @@ use borrow.Author.Tests.{leb-true}
 use lib.ListN.{get_or}
 use mir.Syntax.{w64}
 use mir.Val.{Fits}
-use Rattle.direction_lane_costs.specs.Costs.{straightOf, betweenOf, diagonalOf, weighedOf}
+use Rattle.direction_lane_costs.specs.Costs.{straight_of, between_of, diagonal_of, weighed_of}
 use Rattle.direction_lane_costs.specs.CostsLaws.{weigh-straight, weigh-between, weigh-diagonal}
 use Rattle.direction_lane_costs.proofs.weighed.Statement.{statement}
 use Rattle.direction_lane_costs.proofs.weighed.Tie as tie
@@ -29,18 +29,18 @@ module _ (kind : ℕ) (q : List ℕ) (l : ℕ) where
   zero-at = ap (λ (k : ℕ). get_or q k 0) (omega arith)
 
   when-straight : kind ≡ 0
-      → weighedOf kind q l ≡ straightOf (get_or q l 0) (get_or q (8 + l) 0) (get_or q (16 + l) 0) (get_or q (24 + l) 0) (get_or q (32 + l) 0) (get_or q (40 + l) 0) (get_or q (48 + l) 0) (get_or q (56 + l) 0 / 2)
-  unfolding weighedOf
+      → weighed_of kind q l ≡ straight_of (get_or q l 0) (get_or q (8 + l) 0) (get_or q (16 + l) 0) (get_or q (24 + l) 0) (get_or q (32 + l) 0) (get_or q (40 + l) 0) (get_or q (48 + l) 0) (get_or q (56 + l) 0 / 2)
+  unfolding weighed_of
   when-straight h = weigh-straight kind _ h ∙ rw zero-at
 
   when-between : kind ≡ 1
-      → weighedOf kind q l ≡ betweenOf (get_or q (16 + l) 0) (get_or q (24 + l) 0) (get_or q (32 + l) 0) (get_or q (40 + l) 0) (get_or q (48 + l) 0) (get_or q (56 + l) 0 / 2)
-  unfolding weighedOf
+      → weighed_of kind q l ≡ between_of (get_or q (16 + l) 0) (get_or q (24 + l) 0) (get_or q (32 + l) 0) (get_or q (40 + l) 0) (get_or q (48 + l) 0) (get_or q (56 + l) 0 / 2)
+  unfolding weighed_of
   when-between h = weigh-between kind _ h
 
   when-diagonal : (kind ≡ 0 → ⊥) → (kind ≡ 1 → ⊥)
-      → weighedOf kind q l ≡ diagonalOf (get_or q l 0) (get_or q (8 + l) 0) (get_or q (16 + l) 0) (get_or q (24 + l) 0) (get_or q (32 + l) 0) (get_or q (40 + l) 0) (get_or q (48 + l) 0) (get_or q (56 + l) 0 / 2)
-  unfolding weighedOf
+      → weighed_of kind q l ≡ diagonal_of (get_or q l 0) (get_or q (8 + l) 0) (get_or q (16 + l) 0) (get_or q (24 + l) 0) (get_or q (32 + l) 0) (get_or q (40 + l) 0) (get_or q (48 + l) 0) (get_or q (56 + l) 0 / 2)
+  unfolding weighed_of
   when-diagonal h g = weigh-diagonal kind _ h g ∙ rw zero-at
 
 mul-a : tie.Need-overflow-mul-a

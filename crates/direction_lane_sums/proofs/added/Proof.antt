@@ -6,13 +6,13 @@ use lib.IntN.{pos, ◌+ℤ◌}
 use lib.ListN.{get_or}
 use Rattle.arith_sample.specs.Upto.{upto}
 use Rattle.arith_sample.proofs.Joins.{Is, add_ok, add_is, back_is}
-use Rattle.direction_lane_sums.specs.Lines.{addedAt, addedOf}
+use Rattle.direction_lane_sums.specs.Lines.{added_at, added_of}
 use Rattle.direction_lane_sums.specs.LinesLaws.{added_none, added_next, added_more}
 use Rattle.direction_lane_sums.proofs.added.Statement.{statement}
 use Rattle.direction_lane_sums.proofs.added.Tie as tie
 
 abbrev invariant-loop : tie.invariant-loop
-invariant-loop p₀ z to from k₀ p k = (p ≡ upto (λ (m : ℕ). get_or p₀ m (pos 0) +ℤ addedAt z to from k m) 128) × (k ≤ 64)
+invariant-loop p₀ z to from k₀ p k = (p ≡ upto (λ (m : ℕ). get_or p₀ m (pos 0) +ℤ added_at z to from k m) 128) × (k ≤ 64)
 
 abbrev decreases-loop : tie.decreases-loop
 decreases-loop p₀ z to from k₀ p k = 64 - k
@@ -71,7 +71,7 @@ loop-again c = let d = c.before.before.before in
     (added_more a.p.now a.z.now a.to a.from _ _ _ (omega arith) d.before.loop.invariant.0 (back_is (add_is (first d) (second d) (omega arith) c.add.ensures) (omega arith)), omega arith)
 
 returns : tie.Need-returns invariant-loop decreases-loop
-returns c = unfold addedOf in let e : c.before.loop.k ≡ 64 = omega arith in c.before.loop.invariant.0 ∙ rw e
+returns c = unfold added_of in let e : c.before.loop.k ≡ 64 = omega arith in c.before.loop.invariant.0 ∙ rw e
 
 pub added-spec : {M : Type 1} → statement M
 added-spec =

@@ -3,15 +3,15 @@ use mathlib.Core.Path.{◌≡◌, refl, ap, ◌∙◌}
 use Prim.Native.Nat.{ℕ, ◌-◌, ◌*◌, ◌≤◌}
 use native.Mathlib.Omega.{arith}
 use lib.ListN.{length}
-use Rattle.cdef_spec.specs.Words.{sumℤ}
+use Rattle.cdef_spec.specs.Words.{sum_ℤ}
 use Rattle.arith_sample.specs.Upto.{upto, length-upto}
-use Rattle.direction_lane_sums.specs.Lines.{addedAt, place_of, lane_lines}
+use Rattle.direction_lane_sums.specs.Lines.{added_at, place_of, lane_lines}
 use Rattle.direction_lane_sums.specs.LinesLaws.{sums-more, sums-within, place-high}
 use Rattle.direction_lane_sums.proofs.lines.Statement.{statement}
 use Rattle.direction_lane_sums.proofs.lines.Tie as tie
 
 abbrev invariant-loop : tie.invariant-loop
-invariant-loop z rows first way p₀ i₀ p i = (p ≡ upto (λ (m : ℕ). sumℤ i (λ (r : ℕ). addedAt z (place_of r rows first way * 8) (r * 64) 64 m)) 128) × (i ≤ rows)
+invariant-loop z rows first way p₀ i₀ p i = (p ≡ upto (λ (m : ℕ). sum_ℤ i (λ (r : ℕ). added_at z (place_of r rows first way * 8) (r * 64) 64 m)) 128) × (i ≤ rows)
 
 abbrev decreases-loop : tie.decreases-loop
 decreases-loop z rows first way p₀ i₀ p i = rows - i
@@ -21,7 +21,7 @@ placed : (c : tie.After-place invariant-loop decreases-loop) → c.place.result 
 placed c = let a = c.before.before.before.args in omega (arith, c.place.ensures, place-high c.before.before.loop.i a.rows a.first a.way c.before.loop-test.true, c.before.before.before.requires.0)
 
 loop-holds : tie.Need-loop-init invariant-loop decreases-loop
-loop-holds c = ((unfold upto sumℤ in refl), omega arith)
+loop-holds c = ((unfold upto sum_ℤ in refl), omega arith)
 
 place-requires : tie.Need-place-requires invariant-loop decreases-loop
 place-requires c κs = (c.loop-test.true, omega arith)

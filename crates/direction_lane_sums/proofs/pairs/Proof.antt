@@ -10,24 +10,24 @@ use mir.Syntax.{w16}
 use mir.Val.{to_z, of_z}
 use Rattle.arith_sample.specs.Upto.{upto, upto-none, upto-more, upto-at, upto_all}
 use Rattle.arith_sample.proofs.Joins.{Is, add_ok, add_is, back_is}
-use Rattle.direction_lane_sums.specs.Lines.{neighbourSum, neighbourSums}
+use Rattle.direction_lane_sums.specs.Lines.{neighbour_sum, neighbour_sums}
 use Rattle.direction_lane_sums.proofs.pairs.Statement.{statement}
 use Rattle.direction_lane_sums.proofs.pairs.Tie as tie
 
 abbrev invariant-loop3 : tie.invariant-loop3
-invariant-loop3 s down on next v₀ m i to a b l₀ v l = (take (to + l) v ≡ upto (λ (k : ℕ). neighbourSum s (k / 64 * down + k / 8 % 8 * on) next (k % 8)) (to + l)) × (length v ≡ 256) × (l ≤ 8)
+invariant-loop3 s down on next v₀ m i to a b l₀ v l = (take (to + l) v ≡ upto (λ (k : ℕ). neighbour_sum s (k / 64 * down + k / 8 % 8 * on) next (k % 8)) (to + l)) × (length v ≡ 256) × (l ≤ 8)
 
 abbrev decreases-loop3 : tie.decreases-loop3
 decreases-loop3 s down on next v₀ m i to a b l₀ v l = 8 - l
 
 abbrev invariant-loop2 : tie.invariant-loop2
-invariant-loop2 s down on next v₀ m i₀ v i = (take (m * 64 + i * 8) v ≡ upto (λ (k : ℕ). neighbourSum s (k / 64 * down + k / 8 % 8 * on) next (k % 8)) (m * 64 + i * 8)) × (length v ≡ 256) × (i ≤ 8)
+invariant-loop2 s down on next v₀ m i₀ v i = (take (m * 64 + i * 8) v ≡ upto (λ (k : ℕ). neighbour_sum s (k / 64 * down + k / 8 % 8 * on) next (k % 8)) (m * 64 + i * 8)) × (length v ≡ 256) × (i ≤ 8)
 
 abbrev decreases-loop2 : tie.decreases-loop2
 decreases-loop2 s down on next v₀ m i₀ v i = 8 - i
 
 abbrev invariant-loop : tie.invariant-loop
-invariant-loop s down on next v₀ m₀ v m = (take (m * 64) v ≡ upto (λ (k : ℕ). neighbourSum s (k / 64 * down + k / 8 % 8 * on) next (k % 8)) (m * 64)) × (length v ≡ 256) × (m ≤ 4)
+invariant-loop s down on next v₀ m₀ v m = (take (m * 64) v ≡ upto (λ (k : ℕ). neighbour_sum s (k / 64 * down + k / 8 % 8 * on) next (k % 8)) (m * 64)) × (length v ≡ 256) × (m ≤ 4)
 
 abbrev decreases-loop : tie.decreases-loop
 decreases-loop s down on next v₀ m₀ v m = 4 - m
@@ -46,13 +46,13 @@ at : (s : tie.Start invariant-loop3 decreases-loop3 invariant-loop2 decreases-lo
 at s k = record { is = refl; small = s.requires.1.all k }
 
 read : (c : tie.After-add invariant-loop3 decreases-loop3 invariant-loop2 decreases-loop2 invariant-loop decreases-loop)
-    → let a = c.before.before.before.before.before.before.before.before.before.args in to_z w16 (of_z w16 c.add.result) ≡ neighbourSum a.s.now (c.before.before.before.before.before.before.before.before.loop.m * a.down + c.before.before.before.before.before.before.loop2.i * a.on) a.next c.before.before.before.before.loop3.l
-unfolding neighbourSum
+    → let a = c.before.before.before.before.before.before.before.before.before.args in to_z w16 (of_z w16 c.add.result) ≡ neighbour_sum a.s.now (c.before.before.before.before.before.before.before.before.loop.m * a.down + c.before.before.before.before.before.before.loop2.i * a.on) a.next c.before.before.before.before.loop3.l
+unfolding neighbour_sum
 read c = back_is (add_is (at c.before.before.before.before.before.before.before.before.before _) (at c.before.before.before.before.before.before.before.before.before _) (omega arith) c.add.ensures) (omega arith)
 
 -- the sum of the two, at its index
-sum-at : (s : List ℤ) (down on next m i l k : ℕ) (r : ℤ) → i < 8 → l < 8 → k ≡ m * 64 + i * 8 + l → r ≡ neighbourSum s (m * down + i * on) next l
-    → r ≡ neighbourSum s (k / 64 * down + k / 8 % 8 * on) next (k % 8)
+sum-at : (s : List ℤ) (down on next m i l k : ℕ) (r : ℤ) → i < 8 → l < 8 → k ≡ m * 64 + i * 8 + l → r ≡ neighbour_sum s (m * down + i * on) next l
+    → r ≡ neighbour_sum s (k / 64 * down + k / 8 % 8 * on) next (k % 8)
 sum-at s down on next m i l k r hi hl e g =
     let a : k / 64 ≡ m = omega arith in
     let b : k / 8 % 8 ≡ i = omega arith in
@@ -149,7 +149,7 @@ loop-again : tie.Need-loop-preserved invariant-loop3 decreases-loop3 invariant-l
 loop-again c = let p = c.before in (upto-at _ _ _ _ (omega arith) p.loop2.invariant.0, p.loop2.invariant.1, omega arith)
 
 returns : tie.Need-returns invariant-loop3 decreases-loop3 invariant-loop2 decreases-loop2 invariant-loop decreases-loop
-returns c = unfold neighbourSums in let p = c.before in upto_all _ _ 256 _ p.loop.invariant.0 p.loop.invariant.1 (omega arith)
+returns c = unfold neighbour_sums in let p = c.before in upto_all _ _ 256 _ p.loop.invariant.0 p.loop.invariant.1 (omega arith)
 
 pub pairs-spec : {M : Type 1} → statement M
 pairs-spec =

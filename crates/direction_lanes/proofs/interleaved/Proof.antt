@@ -11,25 +11,25 @@ use mir.Val.{to_z, of_z}
 use Rattle.arith_sample.specs.Bounds.{Within}
 use Rattle.arith_sample.specs.Upto.{upto, upto-none, upto-more, upto-at, upto_all}
 use Rattle.arith_sample.proofs.Sums16.{back}
-use Rattle.direction_lanes.specs.Lanes.{fromAt, interleavedOf}
+use Rattle.direction_lanes.specs.Lanes.{from_at, interleaved_of}
 use Rattle.direction_lanes.specs.LanesLaws.{from_at}
 use Rattle.direction_lanes.proofs.interleaved.Statement.{statement}
 use Rattle.direction_lanes.proofs.interleaved.Tie as tie
 
 abbrev invariant-loop3 : tie.invariant-loop3
-invariant-loop3 out₀ a row on half m i to from next j₀ out j = (take (to + 2 * j) out ≡ upto (λ (k : ℕ). get_or a (fromAt row on half k) (pos 0)) (to + 2 * j)) × (length out ≡ 512) × (j ≤ 8)
+invariant-loop3 out₀ a row on half m i to from next j₀ out j = (take (to + 2 * j) out ≡ upto (λ (k : ℕ). get_or a (from_at row on half k) (pos 0)) (to + 2 * j)) × (length out ≡ 512) × (j ≤ 8)
 
 abbrev decreases-loop3 : tie.decreases-loop3
 decreases-loop3 out₀ a row on half m i to from next j₀ out j = 8 - j
 
 abbrev invariant-loop2 : tie.invariant-loop2
-invariant-loop2 out₀ a row on half m i₀ out i = (take (m * 128 + i * 16) out ≡ upto (λ (k : ℕ). get_or a (fromAt row on half k) (pos 0)) (m * 128 + i * 16)) × (length out ≡ 512) × (i ≤ 8)
+invariant-loop2 out₀ a row on half m i₀ out i = (take (m * 128 + i * 16) out ≡ upto (λ (k : ℕ). get_or a (from_at row on half k) (pos 0)) (m * 128 + i * 16)) × (length out ≡ 512) × (i ≤ 8)
 
 abbrev decreases-loop2 : tie.decreases-loop2
 decreases-loop2 out₀ a row on half m i₀ out i = 8 - i
 
 abbrev invariant-loop : tie.invariant-loop
-invariant-loop out₀ a row on half m₀ out m = (take (m * 128) out ≡ upto (λ (k : ℕ). get_or a (fromAt row on half k) (pos 0)) (m * 128)) × (length out ≡ 512) × (m ≤ 4)
+invariant-loop out₀ a row on half m₀ out m = (take (m * 128) out ≡ upto (λ (k : ℕ). get_or a (from_at row on half k) (pos 0)) (m * 128)) × (length out ≡ 512) × (m ≤ 4)
 
 abbrev decreases-loop : tie.decreases-loop
 decreases-loop out₀ a row on half m₀ out m = 4 - m
@@ -45,7 +45,7 @@ inside c =
 
 -- what is stored at k
 stored : (a : List ℤ) (row on half m i j b at k : ℕ) → Within a 128 → m < 4 → i < 8 → j < 8 → b < 2 → at ≡ m * row + i * on + j + b * half
-    → k ≡ m * 128 + i * 16 + 2 * j + b → to_z w16 (of_z w16 (get_or a at (pos 0))) ≡ get_or a (fromAt row on half k) (pos 0)
+    → k ≡ m * 128 + i * 16 + 2 * j + b → to_z w16 (of_z w16 (get_or a at (pos 0))) ≡ get_or a (from_at row on half k) (pos 0)
 stored a row on half m i j b at k w hm hi hj hb e f = rw (e, f, from_at row on half m i j b hm hi hj hb) (back _ (omega (arith, w.all (m * row + i * on + j + b * half))))
 
 loop-holds : tie.Need-loop-init invariant-loop3 decreases-loop3 invariant-loop2 decreases-loop2 invariant-loop decreases-loop
@@ -158,7 +158,7 @@ loop-again : tie.Need-loop-preserved invariant-loop3 decreases-loop3 invariant-l
 loop-again c = let p = c.before in (upto-at _ _ _ _ (omega arith) p.loop2.invariant.0, p.loop2.invariant.1, omega arith)
 
 returns : tie.Need-returns invariant-loop3 decreases-loop3 invariant-loop2 decreases-loop2 invariant-loop decreases-loop
-returns c = unfold interleavedOf in let p = c.before in upto_all _ _ 512 _ p.loop.invariant.0 p.loop.invariant.1 (omega arith)
+returns c = unfold interleaved_of in let p = c.before in upto_all _ _ 512 _ p.loop.invariant.0 p.loop.invariant.1 (omega arith)
 
 pub interleaved-spec : {M : Type 1} → statement M
 interleaved-spec =

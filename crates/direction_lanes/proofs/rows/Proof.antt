@@ -7,7 +7,7 @@ use mir.Syntax.{w16}
 use mir.Val.{to_z, of_z}
 use Rattle.arith_sample.specs.Upto.{upto, upto-none, upto-more, upto-at, upto_all}
 use Rattle.arith_sample.proofs.Joins.{back_is}
-use Rattle.cdef_spec.specs.Document01.{directionInput}
+use Rattle.cdef_spec.specs.Document01.{direction_input}
 use Rattle.direction_levels.specs.LevelLaws.{less-128}
 use Rattle.direction_levels.proofs.Places.{place-low, plane-low}
 use Rattle.direction_lanes.specs.Lanes.{rows_of}
@@ -16,13 +16,13 @@ use Rattle.direction_lanes.proofs.rows.Statement.{statement}
 use Rattle.direction_lanes.proofs.rows.Tie as tie
 
 abbrev invariant-loop2 : tie.invariant-loop2
-invariant-loop2 a₀ plane width height x y depth shift i at to k₀ a k = (take (to + k) a ≡ upto (λ (n : ℕ). directionInput (record { samples = plane; width = width; height = height }) depth y x (n / 64) (n % 64)) (to + k)) × (length a ≡ 512) × (k ≤ 64)
+invariant-loop2 a₀ plane width height x y depth shift i at to k₀ a k = (take (to + k) a ≡ upto (λ (n : ℕ). direction_input (record { samples = plane; width = width; height = height }) depth y x (n / 64) (n % 64)) (to + k)) × (length a ≡ 512) × (k ≤ 64)
 
 abbrev decreases-loop2 : tie.decreases-loop2
 decreases-loop2 a₀ plane width height x y depth shift i at to k₀ a k = 64 - k
 
 abbrev invariant-loop : tie.invariant-loop
-invariant-loop a₀ plane width height x y depth shift i₀ a i = (take (i * 64) a ≡ upto (λ (n : ℕ). directionInput (record { samples = plane; width = width; height = height }) depth y x (n / 64) (n % 64)) (i * 64)) × (length a ≡ 512) × (i ≤ 8)
+invariant-loop a₀ plane width height x y depth shift i₀ a i = (take (i * 64) a ≡ upto (λ (n : ℕ). direction_input (record { samples = plane; width = width; height = height }) depth y x (n / 64) (n % 64)) (i * 64)) × (length a ≡ 512) × (i ≤ 8)
 
 abbrev decreases-loop : tie.decreases-loop
 decreases-loop a₀ plane width height x y depth shift i₀ a i = 8 - i
@@ -39,7 +39,7 @@ inside c =
 
 -- what an iteration stores
 stored : (c : tie.After-level invariant-loop2 decreases-loop2 invariant-loop decreases-loop)
-    → let a = c.before.before.before.before.before.before.before.args in let i = c.before.before.before.before.before.loop.i in let k = c.before.before.before.loop2.k in to_z w16 (of_z w16 c.level.result) ≡ directionInput (record { samples = a.plane.now; width = a.width; height = a.height }) a.depth a.y a.x ((i * 64 + k) / 64) ((i * 64 + k) % 64)
+    → let a = c.before.before.before.before.before.before.before.args in let i = c.before.before.before.before.before.loop.i in let k = c.before.before.before.loop2.k in to_z w16 (of_z w16 c.level.result) ≡ direction_input (record { samples = a.plane.now; width = a.width; height = a.height }) a.depth a.y a.x ((i * 64 + k) / 64) ((i * 64 + k) % 64)
 stored c =
     let a = c.before.before.before.before.before.before.before.args in
     let q = c.before.before.before.before.before.before.before.requires.1 in

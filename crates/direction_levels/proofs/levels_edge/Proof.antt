@@ -5,7 +5,7 @@ use native.Mathlib.Omega.{arith}
 use lib.ListN.{length, take, get_or, length-set}
 use mir.Syntax.{w16}
 use mir.Val.{to_z, of_z}
-use Rattle.cdef_spec.specs.Document01.{edgeSample, directionInput}
+use Rattle.cdef_spec.specs.Document01.{edge_sample, direction_input}
 use Rattle.arith_sample.specs.Upto.{upto, upto-none, upto-more, upto-at, upto_all}
 use Rattle.direction_levels.specs.Levels.{block_of}
 use Rattle.direction_levels.proofs.Places.{place-low, plane-low, edge-is, read_low, stored_is}
@@ -13,13 +13,13 @@ use Rattle.direction_levels.proofs.levels_edge.Statement.{statement}
 use Rattle.direction_levels.proofs.levels_edge.Tie as tie
 
 abbrev invariant-loop2 : tie.invariant-loop2
-invariant-loop2 plane width height x y depth shift b₀ i row to j₀ b j = (take (to + j) b ≡ upto (λ (k : ℕ). directionInput (record { samples = plane; width = width; height = height }) depth y x (k / 8) (k % 8)) (to + j)) × (length b ≡ 64) × (j ≤ 8)
+invariant-loop2 plane width height x y depth shift b₀ i row to j₀ b j = (take (to + j) b ≡ upto (λ (k : ℕ). direction_input (record { samples = plane; width = width; height = height }) depth y x (k / 8) (k % 8)) (to + j)) × (length b ≡ 64) × (j ≤ 8)
 
 abbrev decreases-loop2 : tie.decreases-loop2
 decreases-loop2 plane width height x y depth shift b₀ i row to j₀ b j = 8 - j
 
 abbrev invariant-loop : tie.invariant-loop
-invariant-loop plane width height x y depth shift b₀ i₀ b i = (take (i * 8) b ≡ upto (λ (k : ℕ). directionInput (record { samples = plane; width = width; height = height }) depth y x (k / 8) (k % 8)) (i * 8)) × (length b ≡ 64) × (i ≤ 8)
+invariant-loop plane width height x y depth shift b₀ i₀ b i = (take (i * 8) b ≡ upto (λ (k : ℕ). direction_input (record { samples = plane; width = width; height = height }) depth y x (k / 8) (k % 8)) (i * 8)) × (length b ≡ 64) × (i ≤ 8)
 
 abbrev decreases-loop : tie.decreases-loop
 decreases-loop plane width height x y depth shift b₀ i₀ b i = 8 - i
@@ -51,12 +51,12 @@ row_low c =
     omega (arith, row_is c, place-low a.width a.height _ _ i j, in-plane s, s.requires.0)
 
 -- what an iteration reads
-read : (c : tie.After-lesser2 invariant-loop2 decreases-loop2 invariant-loop decreases-loop) → let a = c.before.before.before.before.before.before.before.args in get_or a.plane.now (c.before.before.before.lesser.result * a.width + c.lesser2.result) 0 ≡ edgeSample (record { samples = a.plane.now; width = a.width; height = a.height }) (a.y + c.before.before.before.before.before.loop.i) (a.x + c.before.before.loop2.j)
+read : (c : tie.After-lesser2 invariant-loop2 decreases-loop2 invariant-loop decreases-loop) → let a = c.before.before.before.before.before.before.before.args in get_or a.plane.now (c.before.before.before.lesser.result * a.width + c.lesser2.result) 0 ≡ edge_sample (record { samples = a.plane.now; width = a.width; height = a.height }) (a.y + c.before.before.before.before.before.loop.i) (a.x + c.before.before.loop2.j)
 read c =
     let a = c.before.before.before.before.before.before.before.args in
     edge-is a.plane.now a.width a.height a.depth a.y a.x _ _ _ (place_is c)
 
-stored : (c : tie.After-level invariant-loop2 decreases-loop2 invariant-loop decreases-loop) → let a = c.before.before.before.before.before.before.before.before.before.args in let i = c.before.before.before.before.before.before.before.loop.i in let j = c.before.before.before.before.loop2.j in to_z w16 (of_z w16 c.level.result) ≡ directionInput (record { samples = a.plane.now; width = a.width; height = a.height }) a.depth a.y a.x ((i * 8 + j) / 8) ((i * 8 + j) % 8)
+stored : (c : tie.After-level invariant-loop2 decreases-loop2 invariant-loop decreases-loop) → let a = c.before.before.before.before.before.before.before.before.before.args in let i = c.before.before.before.before.before.before.before.loop.i in let j = c.before.before.before.before.loop2.j in to_z w16 (of_z w16 c.level.result) ≡ direction_input (record { samples = a.plane.now; width = a.width; height = a.height }) a.depth a.y a.x ((i * 8 + j) / 8) ((i * 8 + j) % 8)
 stored c =
     let s = c.before.before.before.before.before.before.before.before.before in
     let a = s.args in

@@ -7,25 +7,25 @@ use mir.Syntax.{w16}
 use mir.Val.{to_z, of_z}
 use Rattle.arith_sample.specs.Upto.{upto, upto-none, upto-more, upto-at, upto_all}
 use Rattle.arith_sample.proofs.Joins.{back_is}
-use Rattle.direction_lines.specs.Lines.{padAt, paddedOf}
+use Rattle.direction_lines.specs.Lines.{pad_at, padded_of}
 use Rattle.direction_lines.specs.LinesLaws.{pad-size}
 use Rattle.direction_lines.proofs.padded.Statement.{statement}
 use Rattle.direction_lines.proofs.padded.Tie as tie
 
 abbrev invariant-loop2 : tie.invariant-loop2
-invariant-loop2 b z₀ i to j₀ z j = (take (to + j) z ≡ upto (λ (k : ℕ). padAt b (k / 24) (k % 24)) (to + j)) × (length z ≡ 192) × (j ≤ 24)
+invariant-loop2 b z₀ i to j₀ z j = (take (to + j) z ≡ upto (λ (k : ℕ). pad_at b (k / 24) (k % 24)) (to + j)) × (length z ≡ 192) × (j ≤ 24)
 
 abbrev decreases-loop2 : tie.decreases-loop2
 decreases-loop2 b z₀ i to j₀ z j = 24 - j
 
 abbrev invariant-loop : tie.invariant-loop
-invariant-loop b z₀ i₀ z i = (take (i * 24) z ≡ upto (λ (k : ℕ). padAt b (k / 24) (k % 24)) (i * 24)) × (length z ≡ 192) × (i ≤ 8)
+invariant-loop b z₀ i₀ z i = (take (i * 24) z ≡ upto (λ (k : ℕ). pad_at b (k / 24) (k % 24)) (i * 24)) × (length z ≡ 192) × (i ≤ 8)
 
 abbrev decreases-loop : tie.decreases-loop
 decreases-loop b z₀ i₀ z i = 8 - i
 
 -- what an iteration stores
-stored : (c : tie.After-pad invariant-loop2 decreases-loop2 invariant-loop decreases-loop) → let b = c.before.before.before.before.before.args.b.now in let i = c.before.before.before.before.loop.i in let j = c.before.before.loop2.j in to_z w16 (of_z w16 c.pad.result) ≡ padAt b ((i * 24 + j) / 24) ((i * 24 + j) % 24)
+stored : (c : tie.After-pad invariant-loop2 decreases-loop2 invariant-loop decreases-loop) → let b = c.before.before.before.before.before.args.b.now in let i = c.before.before.before.before.loop.i in let j = c.before.before.loop2.j in to_z w16 (of_z w16 c.pad.result) ≡ pad_at b ((i * 24 + j) / 24) ((i * 24 + j) % 24)
 stored c =
     let s = c.before.before.before.before.before in
     let i = c.before.before.before.before.loop.i in
@@ -75,7 +75,7 @@ loop-again : tie.Need-loop-preserved invariant-loop2 decreases-loop2 invariant-l
 loop-again c = let p = c.before in (upto-at _ _ _ _ (omega arith) p.loop2.invariant.0, p.loop2.invariant.1, omega arith)
 
 returns : tie.Need-returns invariant-loop2 decreases-loop2 invariant-loop decreases-loop
-returns c = unfold paddedOf in let p = c.before in upto_all _ _ 192 _ p.loop.invariant.0 p.loop.invariant.1 (omega arith)
+returns c = unfold padded_of in let p = c.before in upto_all _ _ 192 _ p.loop.invariant.0 p.loop.invariant.1 (omega arith)
 
 pub padded-spec : {M : Type 1} → statement M
 padded-spec =

@@ -8,7 +8,7 @@ use mir.Syntax.{w16}
 use mir.Val.{to_z, of_z}
 use Rattle.arith_sample.specs.Upto.{upto, upto-none, upto-more, upto-at, upto_all}
 use Rattle.arith_sample.proofs.Sums16.{back}
-use Rattle.direction_lines.specs.Lines.{turnedOf}
+use Rattle.direction_lines.specs.Lines.{turned_of}
 use Rattle.direction_lines.proofs.turned.Statement.{statement}
 use Rattle.direction_lines.proofs.turned.Tie as tie
 
@@ -84,7 +84,7 @@ loop-again : tie.Need-loop-preserved invariant-loop2 decreases-loop2 invariant-l
 loop-again c = let p = c.before in (upto-at _ _ _ _ (omega arith) p.loop2.invariant.0, p.loop2.invariant.1, omega arith)
 
 returns : tie.Need-returns invariant-loop2 decreases-loop2 invariant-loop decreases-loop
-returns c = unfold turnedOf in let p = c.before in upto_all _ _ 64 _ p.loop.invariant.0 p.loop.invariant.1 (omega arith)
+returns c = unfold turned_of in let p = c.before in upto_all _ _ 64 _ p.loop.invariant.0 p.loop.invariant.1 (omega arith)
 
 pub turned-spec : {M : Type 1} → statement M
 turned-spec =

@@ -1,7 +1,7 @@
 -- `distance_block::block_distance` meets its contract.
 use mathlib.Core.Path.{◌≡◌, refl, ◌∙◌}
 use native.Mathlib.Omega.{arith}
-use Rattle.cdef_spec.specs.Distance.{squaresLimit}
+use Rattle.cdef_spec.specs.Distance.{squares_limit}
 use Rattle.distance_sums.specs.Blocks.{Below}
 use Rattle.distance_sums.specs.BlockLaws.{below-4096, squares-64}
 use Rattle.distance_block.specs.WeightedLaws.{spread-high, squares-high, weighted-64}

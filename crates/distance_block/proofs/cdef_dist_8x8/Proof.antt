@@ -5,7 +5,7 @@ use Prim.Native.Nat.{ℕ, ◌+◌, ◌*◌, ◌^◌, ◌<◌}
 use native.Mathlib.Omega.{arith}
 use lib.ListN.{length}
 use Rattle.cdef_spec.specs.declared.DistanceConstants.{DistanceConstants}
-use Rattle.distance_sums.specs.Blocks.{Within, cell, weightedBy}
+use Rattle.distance_sums.specs.Blocks.{Within, cell, weighted_by}
 use Rattle.distance_sums.specs.BlockLaws.{block-below}
 use Rattle.distance_block.specs.PlaneLaws.{place-low, cut-within, whole-within, past-right, past-bottom, inside_is}
 use borrow.Author.Rules.{rules}
@@ -13,7 +13,7 @@ use Rattle.distance_block.proofs.cdef_dist_8x8.Statement.{statement}
 use Rattle.distance_block.proofs.cdef_dist_8x8.Tie as tie
 
 -- the calls' results put together
-glue : {q k : DistanceConstants} {a b l m : List ℕ} {r v : ℕ} → q ≡ k → a ≡ l → b ≡ m → r ≡ weightedBy q (cell a) (cell b) → weightedBy k (cell l) (cell m) ≡ v → r ≡ v
+glue : {q k : DistanceConstants} {a b l m : List ℕ} {r v : ℕ} → q ≡ k → a ≡ l → b ≡ m → r ≡ weighted_by q (cell a) (cell b) → weighted_by k (cell l) (cell m) ≡ v → r ≡ v
 glue e f g h i = h ∙ rw (e, f, g) i
 
 corner : (s : tie.Start) → s.args.y * s.args.width + s.args.x < length s.args.orig.now

@@ -11,10 +11,10 @@ use mir.ValLaws.{to_z-of_z}
 use Rattle.cdef_spec.specs.SignedLaws.{back, size-diff}
 use Rattle.cdef_spec.specs.Words.{sum}
 use Rattle.cdef_spec.specs.Standard.{square}
-use Rattle.cdef_spec.specs.Distance.{squaredDifference}
-use Rattle.arith_sample.specs.Upto.{upto, getD-upto, upto-none, upto-more, upto_all}
+use Rattle.cdef_spec.specs.Distance.{squared_difference}
+use Rattle.arith_sample.specs.Upto.{upto, get_or-upto, upto-none, upto-more, upto_all}
 use Rattle.distance_sums.specs.SumLaws.{sum-none, sum-two}
-use Rattle.distance_sums.specs.Blocks.{Below, differencesOf}
+use Rattle.distance_sums.specs.Blocks.{Below, differences_of}
 use Rattle.distance_sums.specs.BlockLaws.{square-at, square-high}
 use borrow.Author.Rules.{rules}
 --
@@ -28,19 +28,19 @@ abbrev decreases-loop : tie.decreases-loop
 decreases-loop a b v₀ k₀ v k = 64 - k
 
 abbrev invariant-loop2 : tie.invariant-loop2
-invariant-loop2 a b v t₀ k₀ t k = (t ≡ sum (2 * k) (λ n. squaredDifference (get_or a n 0) (get_or b n 0))) × (k ≤ 32) × (t ≤ k * 33538050) × (v ≡ differencesOf a b) × Below a 4096 × Below b 4096
+invariant-loop2 a b v t₀ k₀ t k = (t ≡ sum (2 * k) (λ n. squared_difference (get_or a n 0) (get_or b n 0))) × (k ≤ 32) × (t ≤ k * 33538050) × (v ≡ differences_of a b) × Below a 4096 × Below b 4096
 
 abbrev decreases-loop2 : tie.decreases-loop2
 decreases-loop2 a b v t₀ k₀ t k = 32 - k
 
 -- the two squares of an iteration
 first : (c : tie.After-square-of invariant-loop decreases-loop invariant-loop2 decreases-loop2) → let a = c.before.before.before.before.before.before.args in let k = 2 * c.before.before.before.loop2.k in
-    (c.square-of.result ≡ squaredDifference (get_or a.a.now k 0) (get_or a.b.now k 0)) × (squaredDifference (get_or a.a.now k 0) (get_or a.b.now k 0) ≤ 16769025)
+    (c.square-of.result ≡ squared_difference (get_or a.a.now k 0) (get_or a.b.now k 0)) × (squared_difference (get_or a.a.now k 0) (get_or a.b.now k 0) ≤ 16769025)
 first c = let l = c.before.before.before.loop2 in
     (c.square-of.ensures ∙ ap square (to_z-of_z w16 _ (record { sfits = c.before.square-of-arg.given })) ∙ square-at _ _ _ _ l.invariant.3 (omega arith), square-high _ _ _ l.invariant.4 l.invariant.5 (omega arith))
 
 second : (c : tie.After-square-of2 invariant-loop decreases-loop invariant-loop2 decreases-loop2) → let a = c.before.before.before.before.before.before.before.before.args in let k = 2 * c.before.before.before.before.before.loop2.k + 1 in
-    (c.square-of2.result ≡ squaredDifference (get_or a.a.now k 0) (get_or a.b.now k 0)) × (squaredDifference (get_or a.a.now k 0) (get_or a.b.now k 0) ≤ 16769025)
+    (c.square-of2.result ≡ squared_difference (get_or a.a.now k 0) (get_or a.b.now k 0)) × (squared_difference (get_or a.a.now k 0) (get_or a.b.now k 0) ≤ 16769025)
 second c = let l = c.before.before.before.before.before.loop2 in
     (c.square-of2.ensures ∙ ap square (to_z-of_z w16 _ (record { sfits = c.before.square-of-arg2.given })) ∙ square-at _ _ _ _ l.invariant.3 (omega arith), square-high _ _ _ l.invariant.4 l.invariant.5 (omega arith))
 
@@ -89,7 +89,7 @@ loop-again : tie.Need-loop-preserved invariant-loop decreases-loop invariant-loo
 loop-again c = let l = c.before.before.before.before.loop in (upto-more _ _ _ _ l.invariant.0 (omega arith) (stored c), simp length-set l.invariant.1, omega arith, l.invariant.3, l.invariant.4)
 
 loop2-holds : tie.Need-loop2-init invariant-loop decreases-loop invariant-loop2 decreases-loop2
-loop2-holds c = let l = c.before.loop in (sum-none _, omega arith, omega arith, (unfold differencesOf in upto_all _ _ 64 _ l.invariant.0 l.invariant.1 (omega arith)), l.invariant.3, l.invariant.4)
+loop2-holds c = let l = c.before.loop in (sum-none _, omega arith, omega arith, (unfold differences_of in upto_all _ _ 64 _ l.invariant.0 l.invariant.1 (omega arith)), l.invariant.3, l.invariant.4)
 
 mul-square-of : tie.Need-overflow-mul-square-of invariant-loop decreases-loop invariant-loop2 decreases-loop2
 mul-square-of c = omega arith

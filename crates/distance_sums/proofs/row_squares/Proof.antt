@@ -4,13 +4,13 @@ use Prim.Native.Nat.{◌+◌, ◌-◌, ◌*◌, ◌≤◌}
 use native.Mathlib.Omega.{arith}
 use lib.ListN.{get_or}
 use Rattle.cdef_spec.specs.Words.{sum}
-use Rattle.cdef_spec.specs.Distance.{squaredDifference}
+use Rattle.cdef_spec.specs.Distance.{squared_difference}
 use Rattle.distance_sums.specs.SumLaws.{sum-none, sum_more, difference-high}
 use Rattle.distance_sums.proofs.row_squares.Statement.{statement}
 use Rattle.distance_sums.proofs.row_squares.Tie as tie
 
 abbrev invariant-loop : tie.invariant-loop
-invariant-loop o from d to n t₀ j₀ t j = (t ≡ sum j (λ k. squaredDifference (get_or o (from + k) 0) (get_or d (to + k) 0))) × (j ≤ n) × (t ≤ j * 16769025)
+invariant-loop o from d to n t₀ j₀ t j = (t ≡ sum j (λ k. squared_difference (get_or o (from + k) 0) (get_or d (to + k) 0))) × (j ≤ n) × (t ≤ j * 16769025)
 
 abbrev decreases-loop : tie.decreases-loop
 decreases-loop o from d to n t₀ j₀ t j = n - j

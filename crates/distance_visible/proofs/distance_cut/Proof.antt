@@ -7,10 +7,10 @@ use mathlib.Core.List.{List}
 use Prim.Native.Nat.{◌^◌}
 use Rattle.cdef_spec.specs.declared.DistanceConstants.{DistanceConstants}
 use Rattle.cdef_spec.specs.Distance.{squares}
-use Rattle.distance_sums.specs.Blocks.{at, cell, Within, weightedBy}
+use Rattle.distance_sums.specs.Blocks.{at, cell, Within, weighted_by}
 use Rattle.distance_sums.specs.BlockLaws.{block-below}
 use Rattle.distance_block.specs.PlaneLaws.{lower}
-use Rattle.distance_visible.specs.Cut.{cutDistance}
+use Rattle.distance_visible.specs.Cut.{cut_distance}
 use Rattle.distance_visible.specs.CutLaws.{cut-part, cut-chroma, cut-blocks, cut-within}
 use borrow.Author.Rules.{rules}
 use Rattle.distance_visible.proofs.distance_cut.Statement.{statement}
@@ -29,15 +29,15 @@ original-in c = eight _ _ _ _ _ _ (whole c) c.before.before.before.before.requir
 other-in : (c : tie.Then2) → let s = c.before.before.before.before in let a = s.args in Within a.other.now a.from a.step 8 8 (2 ^ s.requires.1.0)
 other-in c = eight _ _ _ _ _ _ (whole c) c.before.before.before.before.requires.1.3
 
-low : (s : tie.Start) → let a = s.args in cutDistance a.luma a.c a.rows a.cols (at a.original.now a.at a.pitch) (at a.other.now a.from a.step) < 2 ^ 53
+low : (s : tie.Start) → let a = s.args in cut_distance a.luma a.c a.rows a.cols (at a.original.now a.at a.pitch) (at a.other.now a.from a.step) < 2 ^ 53
 low s = let p = s.requires.1 in cut-within _ _ p.0 _ _ _ _ _ _ _ _ s.requires.0.0 s.requires.0.1 p.1 p.2 p.3
 
 -- where plain squares are used
-plain : (c : tie.Joined1) → let a = c.before.before.before.args in cutDistance a.luma a.c a.rows a.cols (at a.original.now a.at a.pitch) (at a.other.now a.from a.step) ≡ squares a.rows a.cols (at a.original.now a.at a.pitch) (at a.other.now a.from a.step)
+plain : (c : tie.Joined1) → let a = c.before.before.before.args in cut_distance a.luma a.c a.rows a.cols (at a.original.now a.at a.pitch) (at a.other.now a.from a.step) ≡ squares a.rows a.cols (at a.original.now a.at a.pitch) (at a.other.now a.from a.step)
 plain c = ⊎_elim (λ w. cut-part _ _ _ _ _ (λ e f. w.1.left (omega (arith, e, f))) _) (λ w. rw w.left (cut-chroma _ _ _ _ _)) c.if1.branch
 
 -- the calls' results put together
-glue : (q : DistanceConstants) {a b l m : List ℕ} {r v : ℕ} → a ≡ l → b ≡ m → r ≡ weightedBy q (cell a) (cell b) → weightedBy q (cell l) (cell m) ≡ v → r ≡ v
+glue : (q : DistanceConstants) {a b l m : List ℕ} {r v : ℕ} → a ≡ l → b ≡ m → r ≡ weighted_by q (cell a) (cell b) → weighted_by q (cell l) (cell m) ≡ v → r ≡ v
 glue q f g h i = h ∙ rw (f, g) i
 
 add-if2 : tie.Need-overflow-add-if2
@@ -56,7 +56,7 @@ block-distance-requires c κs = let p = c.before.before.before.before.before.bef
 returns : tie.Need-returns
 returns c = let s = c.before.before.before.before.before.before.before.before.before in
     let a = s.args in
-    let e : c.block-distance.result ≡ cutDistance a.luma a.c a.rows a.cols (at a.original.now a.at a.pitch) (at a.other.now a.from a.step) = glue a.c c.before.before.before.before.Block-of.ensures c.before.before.before.block-of2.ensures c.block-distance.ensures (rw c.before.before.before.before.before.before.if1.true (cut-blocks _ _ _ _ _ _ _ _ _ (whole c.before.before.before.before.before).0 (whole c.before.before.before.before.before).1)) in
+    let e : c.block-distance.result ≡ cut_distance a.luma a.c a.rows a.cols (at a.original.now a.at a.pitch) (at a.other.now a.from a.step) = glue a.c c.before.before.before.before.Block-of.ensures c.before.before.before.block-of2.ensures c.block-distance.ensures (rw c.before.before.before.before.before.before.if1.true (cut-blocks _ _ _ _ _ _ _ _ _ (whole c.before.before.before.before.before).0 (whole c.before.before.before.before.before).1)) in
     (e, rw e (low s))
 
 squares-requires : tie.Need-squares-requires

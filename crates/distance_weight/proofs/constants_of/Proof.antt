@@ -6,7 +6,7 @@ use native.Mathlib.Omega.{arith}
 use lib.IntN.{pos}
 use lib.Dec.{T, lit<}
 use lib.Ieee.{binary64, in_float}
-use Rattle.cdef_spec.specs.Distance.{constantsOf}
+use Rattle.cdef_spec.specs.Distance.{constants_of}
 use Rattle.distance_weight.specs.WeighingLaws.{first_small, second-small, in-float}
 use borrow.Author.Rules.{rules}
 use Rattle.distance_weight.proofs.constants_of.Statement.{statement}
@@ -58,7 +58,7 @@ returns : tie.Need-returns
 returns c =
     let k = c.before.before.args.depth - 8 in
     let d : k ≤ 4 = omega arith in
-    unfold constantsOf in rw (first-exact k d, second-exact k d)
+    unfold constants_of in rw (first-exact k d, second-exact k d)
 
 pub constants-of-spec : {M : Type 1} → statement M
 constants-of-spec =

@@ -4,15 +4,15 @@ use Prim.Native.Nat.{ℕ, ◌≤◌}
 use native.Mathlib.Omega.{arith}
 use lib.Dec.{T}
 use lib.Ieee.{Float, binary64, add, mul, lt, of_bits, to_unsigned}
-use Rattle.cdef_spec.specs.Distance.{whole, half, weight, squaresLimit}
+use Rattle.cdef_spec.specs.Distance.{whole, half, weight, squares_limit}
 use Rattle.arith_root.specs.RootWords.{normal, two53}
-use Rattle.distance_weight.specs.Weighing.{most, timesOf}
+use Rattle.distance_weight.specs.Weighing.{most, times_of}
 use Rattle.distance_weight.specs.SequenceLaws.{truncate-ready}
 use Rattle.distance_weight.specs.WeighingLaws.{in-float, Bounds, bounds, limit-most, half_is}
 use Rattle.distance_weight.proofs.times.Statement.{statement}
 use Rattle.distance_weight.proofs.times.Tie as tie
 
-low : (s : tie.Start) (n : ℕ) → n ≤ squaresLimit s.requires.depth → n ≤ most
+low : (s : tie.Start) (n : ℕ) → n ≤ squares_limit s.requires.depth → n ≤ most
 low s n h = omega (arith, h, limit-most s.requires.depth s.requires.deep.flat)
 
 -- the value that is truncated, with 0.5 and the weight as arguments
@@ -33,7 +33,7 @@ truncate-requires c κs =
     (truncate-ready k.C1 k.C2 p.first p.second s.args.e p.constants.c1 p.constants.c2 k.h1 k.h2 k.l1 k.l2 k.u2 (low s _ p.first-low) (low s _ p.second-low) (low s _ p.error-low))
 
 returns : tie.Need-returns
-unfolding timesOf
+unfolding times_of
 returns c =
     let s = c.before.before in
     c.truncate.ensures ∙ ap (to_unsigned 64) (ap (λ (h : Float). seq h s.args.w s.args.e) half_is)

@@ -3,7 +3,7 @@ use mathlib.Core.Path.{◌≡◌, refl, ap, ◌∙◌}
 use Prim.Native.Nat.{ℕ}
 use Rattle.cdef_spec.specs.declared.DistanceConstants.{DistanceConstants}
 use Rattle.cdef_spec.specs.Distance.{weight, weighted}
-use Rattle.distance_weight.specs.Weighing.{timesOf}
+use Rattle.distance_weight.specs.Weighing.{times_of}
 use Rattle.distance_weight.specs.WeighingLaws.{times-weight}
 use Rattle.distance_weight.proofs.weighted.Statement.{statement}
 use Rattle.distance_weight.proofs.weighted.Tie as tie

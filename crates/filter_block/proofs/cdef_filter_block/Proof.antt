@@ -6,11 +6,11 @@ use native.Mathlib.Omega.{arith}
 use Rattle.cdef_spec.specs.declared.Block.{Block}
 use Rattle.cdef_spec.specs.declared.FilterParams.{FilterParams}
 use Rattle.cdef_spec.specs.Document01.{Plane, filtered}
-use Rattle.cdef_spec.specs.LoopForm.{putBlock}
+use Rattle.cdef_spec.specs.LoopForm.{put_block}
 use Rattle.arith_sample.specs.Bounds.{Held}
 use Rattle.arith_sample.specs.Upto.{upto}
-use Rattle.filter_window.specs.Window.{planeOf, windowAt}
-use Rattle.filter_block.specs.Store.{blockTap}
+use Rattle.filter_window.specs.Window.{plane_of, window_at}
+use Rattle.filter_block.specs.Store.{block_tap}
 use Rattle.filter_block.specs.StoreLaws.{stored-block}
 use borrow.Author.Rules.{rules}
 use Rattle.filter_block.proofs.cdef_filter_block.Statement.{statement}
@@ -20,7 +20,7 @@ use Rattle.filter_block.proofs.cdef_filter_block.Lts as lts
 use Rattle.filter_block.proofs.filter_window.Reads as filter-window-reads
 use Rattle.filter_window.proofs.window.Reads as window-reads
 
-glue : (l last : List ℕ) (m : ℕ) (p : Plane) (b : Block) (q : FilterParams) (w : List ℕ) (y0 n k : ℕ) → w ≡ upto (windowAt p b) 144 → y0 ≤ b.y → b.height ≤ 8 → b.width ≤ 8 → q.dir < 8 → Held (upto (windowAt p b) 144) → last ≡ putBlock l m (blockTap w q (b.y - y0) b.x) (b.y - y0) b.x (min b.width n) (min b.height k) → last ≡ putBlock l m (λ r c. filtered p q (y0 + r) c) (b.y - y0) b.x (min b.width n) (min b.height k)
+glue : (l last : List ℕ) (m : ℕ) (p : Plane) (b : Block) (q : FilterParams) (w : List ℕ) (y0 n k : ℕ) → w ≡ upto (window_at p b) 144 → y0 ≤ b.y → b.height ≤ 8 → b.width ≤ 8 → q.dir < 8 → Held (upto (window_at p b) 144) → last ≡ put_block l m (block_tap w q (b.y - y0) b.x) (b.y - y0) b.x (min b.width n) (min b.height k) → last ≡ put_block l m (λ r c. filtered p q (y0 + r) c) (b.y - y0) b.x (min b.width n) (min b.height k)
 glue l last m p b q w y0 n k e hy hh hw hd held z = z ∙ rw e (stored-block l m p b q y0 (min b.width n) (min b.height k) hy hh hw (omega arith) (omega arith) hd held)
 
 window-requires : tie.Need-window-requires
@@ -33,7 +33,7 @@ same_length : tie.Need-same-length
 same_length c = search rules
 
 returns : tie.Need-returns
-returns c = let s = c.before.before.before.before.before.before.before.before in let i = s.requires.0.0 in glue _ _ _ (planeOf s.args.src.now s.args.w s.args.h) _ _ _ _ _ _ c.before.before.before.before.before.window.ensures s.requires.1.0 i.bh i.bw s.requires.0.2.dir s.requires.0.1 c.before.before.filter-window.ensures
+returns c = let s = c.before.before.before.before.before.before.before.before in let i = s.requires.0.0 in glue _ _ _ (plane_of s.args.src.now s.args.w s.args.h) _ _ _ _ _ _ c.before.before.before.before.before.window.ensures s.requires.1.0 i.bh i.bw s.requires.0.2.dir s.requires.0.1 c.before.before.filter-window.ensures
 
 pub cdef-filter-block-spec : {M : Type 1} → statement M
 cdef-filter-block-spec =

@@ -8,11 +8,11 @@ use lib.ListN.{length}
 use Rattle.arith_sample.specs.Upto.{upto}
 use Rattle.filter_rows.specs.declared.Taps.{Taps}
 use Rattle.filter_rows.specs.declared.Strength.{Strength}
-use Rattle.filter_kernel.specs.Kernel.{kernelAt}
-use Rattle.cdef_spec.specs.LoopForm.{putRow, putBlock}
+use Rattle.filter_kernel.specs.Kernel.{kernel_at}
+use Rattle.cdef_spec.specs.LoopForm.{put_row, put_block}
 use Rattle.cdef_spec.specs.PlaneLaws.{block_none, block_more}
-use Rattle.filter_block.specs.Store.{windowTap}
-use Rattle.filter_store.specs.Row.{rowTap}
+use Rattle.filter_block.specs.Store.{window_tap}
+use Rattle.filter_store.specs.Row.{row_tap}
 use Rattle.filter_block.specs.StoreLaws.{stored_row}
 use Rattle.filter_block.proofs.filter_rows.Statement.{statement}
 use Rattle.filter_block.proofs.filter_rows.Tie as tie
@@ -22,14 +22,14 @@ use Rattle.filter_store.proofs.store_row.Reads as store-row-reads
 use Rattle.filter_kernel.proofs.kernel_row.Reads as kernel-row-reads
 
 abbrev invariant-loop : tie.invariant-loop
-invariant-loop dst₀ w y x rows cols win t f g i₀ dst i = (dst ≡ putBlock dst₀ w (windowTap win t f g y x) y x cols i) × (length dst ≡ length dst₀) × (i ≤ rows)
+invariant-loop dst₀ w y x rows cols win t f g i₀ dst i = (dst ≡ put_block dst₀ w (window_tap win t f g y x) y x cols i) × (length dst ≡ length dst₀) × (i ≤ rows)
 
 abbrev decreases-loop : tie.decreases-loop
 decreases-loop dst₀ w y x rows cols win t f g i₀ dst i = rows - i
 
 -- an iteration's row
-turn : (l d last : List ℕ) (m : ℕ) (w : List ℕ) (t : Taps) (f g : Strength) (y x i n : ℕ) (r : List ℕ) → n ≤ 8 → r ≡ upto (λ (j : ℕ). kernelAt w ((i + 2) * 12 + 2 + j) t f g) 8 → d ≡ putBlock l m (windowTap w t f g y x) y x n i → last ≡ putRow d m (rowTap r x) (y + i) x n → last ≡ putBlock l m (windowTap w t f g y x) y x n (i + 1)
-turn l d last m w t f g y x i n r hn k e h = h ∙ stored_row d m w t f g y x i n hn r k ∙ rw (block_more l m (windowTap w t f g y x) y x n i, e)
+turn : (l d last : List ℕ) (m : ℕ) (w : List ℕ) (t : Taps) (f g : Strength) (y x i n : ℕ) (r : List ℕ) → n ≤ 8 → r ≡ upto (λ (j : ℕ). kernel_at w ((i + 2) * 12 + 2 + j) t f g) 8 → d ≡ put_block l m (window_tap w t f g y x) y x n i → last ≡ put_row d m (row_tap r x) (y + i) x n → last ≡ put_block l m (window_tap w t f g y x) y x n (i + 1)
+turn l d last m w t f g y x i n r hn k e h = h ∙ stored_row d m w t f g y x i n hn r k ∙ rw (block_more l m (window_tap w t f g y x) y x n i, e)
 
 -- it lies in the destination
 inside : (s : tie.Start invariant-loop decreases-loop) (i : ℕ) → i < s.args.rows → let a = s.args in (a.y + i) * a.w + (a.x + a.cols) ≤ length a.dst.now

@@ -4,13 +4,13 @@ use mathlib.Core.List.{List}
 use Prim.Native.Nat.{ℕ, ◌+◌, ◌-◌, ◌*◌, ◌≤◌, ◌<◌, min, max}
 use native.Mathlib.Omega.{arith}
 use Rattle.cdef_spec.specs.declared.FilterParams.{FilterParams}
-use Rattle.cdef_spec.specs.LoopForm.{putBlock}
+use Rattle.cdef_spec.specs.LoopForm.{put_block}
 use Rattle.filter_rows.specs.declared.Taps.{Taps}
 use Rattle.filter_rows.specs.declared.Strength.{Strength}
-use Rattle.filter_kernel.specs.Kernel.{tapsOf, priOf, secOf}
+use Rattle.filter_kernel.specs.Kernel.{taps_of, pri_of, sec_of}
 use Rattle.filter_kernel.specs.PlaceLaws.{taps-near}
 use Rattle.filter_kernel.specs.ShapeLaws.{pri-in, sec-in}
-use Rattle.filter_block.specs.Store.{windowTap, blockTap}
+use Rattle.filter_block.specs.Store.{window_tap, block_tap}
 use borrow.Author.Rules.{rules}
 use Rattle.filter_block.proofs.filter_window.Statement.{statement}
 use Rattle.filter_block.proofs.filter_window.Tie as tie
@@ -23,8 +23,8 @@ use Rattle.filter_kernel.proofs.secondary.Reads as secondary-reads
 use Rattle.filter_kernel.proofs.taps.Reads as taps-reads
 use Rattle.arith_numbers.proofs.lesser.Reads as lesser-reads
 
-glue : (l last : List ℕ) (m : ℕ) (w : List ℕ) (q : FilterParams) (t : Taps) (f g : Strength) (d y x cols rows n k : ℕ) → d ≡ max 1 q.damping.0 → t ≡ tapsOf q.dir → f ≡ priOf q.pri d q.depth → g ≡ secOf q.sec d → cols ≡ n → rows ≡ k → last ≡ putBlock l m (windowTap w t f g y x) y x cols rows → last ≡ putBlock l m (blockTap w q y x) y x n k
-unfolding blockTap
+glue : (l last : List ℕ) (m : ℕ) (w : List ℕ) (q : FilterParams) (t : Taps) (f g : Strength) (d y x cols rows n k : ℕ) → d ≡ max 1 q.damping.0 → t ≡ taps_of q.dir → f ≡ pri_of q.pri d q.depth → g ≡ sec_of q.sec d → cols ≡ n → rows ≡ k → last ≡ put_block l m (window_tap w t f g y x) y x cols rows → last ≡ put_block l m (block_tap w q y x) y x n k
+unfolding block_tap
 glue l last m w q t f g d y x cols rows n k a b c e h i z = z ∙ rw (b, c, e, a, h, i)
 
 from-one-requires : tie.Need-from-one-requires

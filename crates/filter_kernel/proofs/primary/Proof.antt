@@ -1,5 +1,5 @@
 -- `filter_kernel::primary` meets its contract.
-use Rattle.filter_kernel.specs.Kernel.{priOf}
+use Rattle.filter_kernel.specs.Kernel.{pri_of}
 use borrow.Author.Rules.{rules}
 use Rattle.filter_kernel.proofs.primary.Statement.{statement}
 use Rattle.filter_kernel.proofs.primary.Tie as tie
@@ -26,7 +26,7 @@ add-t7 : tie.Need-overflow-add-t7
 add-t7 c = search rules
 
 returns : tie.Need-returns
-unfolding priOf
+unfolding pri_of
 returns c = rw c.Shift-of.ensures
 
 pub primary-spec : {M : Type 1} → statement M

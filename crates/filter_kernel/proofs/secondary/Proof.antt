@@ -1,5 +1,5 @@
 -- `filter_kernel::secondary` meets its contract.
-use Rattle.filter_kernel.specs.Kernel.{secOf}
+use Rattle.filter_kernel.specs.Kernel.{sec_of}
 use borrow.Author.Rules.{rules}
 use Rattle.filter_kernel.proofs.secondary.Statement.{statement}
 use Rattle.filter_kernel.proofs.secondary.Tie as tie
@@ -11,7 +11,7 @@ shift-of-requires : tie.Need-shift-of-requires
 shift-of-requires c κs = search rules
 
 returns : tie.Need-returns
-unfolding secOf
+unfolding sec_of
 returns c = rw c.Shift-of.ensures
 
 pub secondary-spec : {M : Type 1} → statement M

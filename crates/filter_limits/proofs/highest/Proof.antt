@@ -1,7 +1,7 @@
 -- `filter_limits::highest` meets its contract.
 use mathlib.Core.Path.{◌∙◌}
 use native.Mathlib.Omega.{arith}
-use Rattle.filter_limits.specs.Limits.{highestOf}
+use Rattle.filter_limits.specs.Limits.{highest_of}
 use borrow.Author.Rules.{rules}
 use Rattle.filter_limits.proofs.highest.Statement.{statement}
 use Rattle.filter_limits.proofs.highest.Tie as tie
@@ -47,7 +47,7 @@ most-requires-6 : tie.Need-most-requires-6
 most-requires-6 c κs = search rules
 
 returns : tie.Need-returns
-unfolding highestOf
+unfolding highest_of
 returns c = (c.most6.ensures ∙ rw (c.before.most5.ensures, c.before.before.most4.ensures, c.before.before.before.most3.ensures, c.before.before.before.before.most-of6.ensures.0, c.before.before.before.before.before.most-of5.ensures.0, c.before.before.before.before.before.before.most2.ensures, c.before.before.before.before.before.before.before.most-of4.ensures.0, c.before.before.before.before.before.before.before.before.most-of3.ensures.0, c.before.before.before.before.before.before.before.before.before.most.ensures, c.before.before.before.before.before.before.before.before.before.before.most-of2.ensures.0, c.before.before.before.before.before.before.before.before.before.before.before.most-of.ensures.0), search rules)
 
 pub highest-spec : {M : Type 1} → statement M

@@ -1,5 +1,5 @@
 -- `filter_limits::least_of` meets its contract.
-use Rattle.filter_limits.specs.Limits.{leastOf}
+use Rattle.filter_limits.specs.Limits.{least_of}
 use borrow.Author.Rules.{rules}
 use Rattle.filter_limits.proofs.least_of.Statement.{statement}
 use Rattle.filter_limits.proofs.least_of.Tie as tie
@@ -11,7 +11,7 @@ least-requires : tie.Need-least-requires
 least-requires c κs = search rules
 
 returns : tie.Need-returns
-unfolding leastOf
+unfolding least_of
 returns c = search rules
 
 pub least-of-spec : {M : Type 1} → statement M

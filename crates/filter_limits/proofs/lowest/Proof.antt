@@ -1,7 +1,7 @@
 -- `filter_limits::lowest` meets its contract.
 use mathlib.Core.Path.{◌∙◌}
 use native.Mathlib.Omega.{arith}
-use Rattle.filter_limits.specs.Limits.{lowestOf}
+use Rattle.filter_limits.specs.Limits.{lowest_of}
 use borrow.Author.Rules.{rules}
 use Rattle.filter_limits.proofs.lowest.Statement.{statement}
 use Rattle.filter_limits.proofs.lowest.Tie as tie
@@ -47,7 +47,7 @@ least-requires-6 : tie.Need-least-requires-6
 least-requires-6 c κs = search rules
 
 returns : tie.Need-returns
-unfolding lowestOf
+unfolding lowest_of
 returns c = (c.least6.ensures ∙ rw (c.before.least5.ensures, c.before.before.least4.ensures, c.before.before.before.least3.ensures, c.before.before.before.before.least-of6.ensures.0, c.before.before.before.before.before.least-of5.ensures.0, c.before.before.before.before.before.before.least2.ensures, c.before.before.before.before.before.before.before.least-of4.ensures.0, c.before.before.before.before.before.before.before.before.least-of3.ensures.0, c.before.before.before.before.before.before.before.before.before.least.ensures, c.before.before.before.before.before.before.before.before.before.before.least-of2.ensures.0, c.before.before.before.before.before.before.before.before.before.before.before.least-of.ensures.0), search rules)
 
 pub lowest-spec : {M : Type 1} → statement M

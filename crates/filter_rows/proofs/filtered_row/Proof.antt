@@ -1,6 +1,6 @@
 -- `filter_rows::filtered_row` meets its contract.
 use Rattle.std.proofs.Common.{◌≡◌, ℕ, ◌+◌, ◌-◌, ◌≤◌, length, take, sym, refl, arith, length-set}
-use Rattle.filter_rows.specs.Sums.{filteredAt}
+use Rattle.filter_rows.specs.Sums.{filtered_at}
 use Rattle.arith_sample.specs.Upto.{upto, upto-none, upto-more, upto_all}
 use Rattle.filter_rows.proofs.filtered_row.Statement.{statement}
 use Rattle.filter_rows.proofs.filtered_row.Tie as tie
@@ -9,7 +9,7 @@ use Rattle.filter_rows.proofs.filtered_row.Lts as lts
 use Rattle.filter_rows.proofs.both.both_at.Reads as both-at-reads
 
 abbrev invariant-loop : tie.invariant-loop
-invariant-loop w row t f g out₀ j₀ out j = (take j out ≡ upto (λ (j : ℕ). filteredAt w (row + j) t f g) j) × (length out ≡ 8) × (j ≤ 8)
+invariant-loop w row t f g out₀ j₀ out j = (take j out ≡ upto (λ (j : ℕ). filtered_at w (row + j) t f g) j) × (length out ≡ 8) × (j ≤ 8)
 
 abbrev decreases-loop : tie.decreases-loop
 decreases-loop w row t f g out₀ j₀ out j = 8 - j

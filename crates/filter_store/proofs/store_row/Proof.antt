@@ -6,9 +6,9 @@ use Prim.Native.Nat.{ℕ, ◌+◌, ◌-◌, ◌*◌, ◌≤◌, ◌<◌}
 use native.Mathlib.Omega.{arith}
 use lib.ListN.{length, get_or, set, length-set}
 use Rattle.cdef_spec.specs.Document01.{unmarked, or_else}
-use Rattle.cdef_spec.specs.LoopForm.{put, putRow}
+use Rattle.cdef_spec.specs.LoopForm.{put, put_row}
 use Rattle.cdef_spec.specs.PlaneLaws.{row-none, row_more}
-use Rattle.filter_store.specs.Row.{rowTap}
+use Rattle.filter_store.specs.Row.{row_tap}
 use Rattle.filter_store.proofs.store_row.Statement.{statement}
 use Rattle.filter_store.proofs.store_row.Tie as tie
 use Rattle.filter_store.proofs.store_row.Reads as reads
@@ -16,15 +16,15 @@ use Rattle.filter_store.proofs.store_row.Lts as lts
 use Rattle.filter_store.proofs.keep.Reads as keep-reads
 
 abbrev invariant-loop : tie.invariant-loop
-invariant-loop dst₀ w r x n row j₀ dst j = (dst ≡ putRow dst₀ w (rowTap row x) r x j) × (length dst ≡ length dst₀) × (j ≤ n)
+invariant-loop dst₀ w r x n row j₀ dst j = (dst ≡ put_row dst₀ w (row_tap row x) r x j) × (length dst ≡ length dst₀) × (j ≤ n)
 
 abbrev decreases-loop : tie.decreases-loop
 decreases-loop dst₀ w r x n row j₀ dst j = n - j
 
 -- one sample more
-step : (d l : List ℕ) (w r x j v : ℕ) (row : List ℕ) → d ≡ putRow l w (rowTap row x) r x j → v ≡ or_else (get_or d (r * w + (x + j)) 0) (unmarked (get_or row j 0)) → set d (r * w + (x + j)) v ≡ putRow l w (rowTap row x) r x (j + 1)
-unfolding put rowTap
-step d l w r x j v row e f = let k : x + j - x ≡ j = omega arith in rw (row_more l w (rowTap row x) r x j, k, ← e, f)
+step : (d l : List ℕ) (w r x j v : ℕ) (row : List ℕ) → d ≡ put_row l w (row_tap row x) r x j → v ≡ or_else (get_or d (r * w + (x + j)) 0) (unmarked (get_or row j 0)) → set d (r * w + (x + j)) v ≡ put_row l w (row_tap row x) r x (j + 1)
+unfolding put row_tap
+step d l w r x j v row e f = let k : x + j - x ≡ j = omega arith in rw (row_more l w (row_tap row x) r x j, k, ← e, f)
 
 loop-holds : tie.Need-loop-init invariant-loop decreases-loop
 loop-holds c = (sym (row-none _ _ _ _ _), refl, omega arith)

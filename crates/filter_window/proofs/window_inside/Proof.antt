@@ -4,7 +4,7 @@ use mathlib.Core.Logic.{⊎_elim}
 use Prim.Native.Nat.{ℕ, ◌+◌, ◌-◌, ◌*◌, ◌≤◌, ◌<◌}
 use native.Mathlib.Omega.{arith}
 use lib.ListN.{length, get_or}
-use Rattle.filter_window.specs.Window.{planeOf, windowAt}
+use Rattle.filter_window.specs.Window.{plane_of, window_at}
 use Rattle.filter_window.specs.Spans.{Filled}
 use Rattle.filter_window.specs.FilledLaws.{filled_none, filled_at, filled_more, filled_row, filled-end, inside-wide, inside-four, inside-low, inside_is}
 use Rattle.filter_window.proofs.window_inside.Statement.{statement}
@@ -13,19 +13,19 @@ use Rattle.filter_window.proofs.window_inside.Reads as reads
 use Rattle.filter_window.proofs.window_inside.Lts as lts
 
 abbrev invariant-loop2 : tie.invariant-loop2
-invariant-loop2 src w h b out₀ i to from j₀ i-end out j = Filled (planeOf src w h) b (to + j) out × (j ≤ 8) × (to ≡ i * 12) × (from ≡ (b.y + i - 2) * w + (b.x - 2))
+invariant-loop2 src w h b out₀ i to from j₀ i-end out j = Filled (plane_of src w h) b (to + j) out × (j ≤ 8) × (to ≡ i * 12) × (from ≡ (b.y + i - 2) * w + (b.x - 2))
 
 abbrev decreases-loop2 : tie.decreases-loop2
 decreases-loop2 src w h b out₀ i to from j₀ i-end out j = 8 - j
 
 abbrev invariant-loop3 : tie.invariant-loop3
-invariant-loop3 src w h b out₀ i to from j₀ i-end out j = Filled (planeOf src w h) b (to + j) out × (j ≤ 12) × (to ≡ i * 12) × (from ≡ (b.y + i - 2) * w + (b.x - 2))
+invariant-loop3 src w h b out₀ i to from j₀ i-end out j = Filled (plane_of src w h) b (to + j) out × (j ≤ 12) × (to ≡ i * 12) × (from ≡ (b.y + i - 2) * w + (b.x - 2))
 
 abbrev decreases-loop3 : tie.decreases-loop3
 decreases-loop3 src w h b out₀ i to from j₀ i-end out j = 12 - j
 
 abbrev invariant-loop : tie.invariant-loop
-invariant-loop src w h b out₀ i₀ i-end out i = Filled (planeOf src w h) b (i * 12) out × (i ≤ b.height + 4)
+invariant-loop src w h b out₀ i₀ i-end out i = Filled (plane_of src w h) b (i * 12) out × (i ≤ b.height + 4)
 
 abbrev decreases-loop : tie.decreases-loop
 decreases-loop src w h b out₀ i₀ i-end out i = b.height + 4 - i
@@ -39,7 +39,7 @@ wide s = inside-wide _ _ _ s.requires.1
 low : (s : Start) (i j : ℕ) → i < s.args.b.height + 4 → j < s.args.b.width + 4 → let a = s.args in (a.b.y + i - 2) * a.w + (a.b.x - 2) + j < length a.src.now
 low s i j hi hj = inside-low _ _ _ _ s.requires.0 s.requires.1 i j hi hj
 
-is : (s : Start) (i j : ℕ) → i < s.args.b.height + 4 → j < s.args.b.width + 4 → let a = s.args in get_or a.src.now ((a.b.y + i - 2) * a.w + (a.b.x - 2) + j) 0 ≡ windowAt (planeOf a.src.now a.w a.h) a.b (i * 12 + j)
+is : (s : Start) (i j : ℕ) → i < s.args.b.height + 4 → j < s.args.b.width + 4 → let a = s.args in get_or a.src.now ((a.b.y + i - 2) * a.w + (a.b.x - 2) + j) 0 ≡ window_at (plane_of a.src.now a.w a.h) a.b (i * 12 + j)
 is s i j hi hj = inside_is _ _ _ _ s.requires.0 s.requires.1 i j hi hj
 
 add-i-end : tie.Need-overflow-add-i-end invariant-loop2 decreases-loop2 invariant-loop3 decreases-loop3 invariant-loop decreases-loop
@@ -139,7 +139,7 @@ loop-less : tie.Need-loop-smaller invariant-loop2 decreases-loop2 invariant-loop
 loop-less c = omega arith
 
 -- a row, of eight columns or of twelve
-row_done : (c : tie.Joined1 invariant-loop2 decreases-loop2 invariant-loop3 decreases-loop3 invariant-loop decreases-loop) → let a = c.before.before.before.before.before.before.before.before.before.args in Filled (planeOf a.src.now a.w a.h) a.b ((c.before.before.before.before.before.before.before.loop.i + 1) * 12) c.if1.out
+row_done : (c : tie.Joined1 invariant-loop2 decreases-loop2 invariant-loop3 decreases-loop3 invariant-loop decreases-loop) → let a = c.before.before.before.before.before.before.before.before.before.args in Filled (plane_of a.src.now a.w a.h) a.b ((c.before.before.before.before.before.before.before.loop.i + 1) * 12) c.if1.out
 row_done c =
     let s = c.before.before.before.before.before.before.before.before.before in
     let i = c.before.before.before.before.before.before.before.loop.i in

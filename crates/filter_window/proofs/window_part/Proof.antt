@@ -4,7 +4,7 @@ use Prim.Native.Nat.{ℕ, ◌+◌, ◌-◌, ◌*◌, ◌≤◌, ◌<◌}
 use native.Mathlib.Omega.{arith}
 use lib.ListN.{length, take, length-set}
 use Rattle.arith_sample.specs.Upto.{upto, upto-none, upto-more, upto-at, upto_all}
-use Rattle.filter_window.specs.Window.{planeOf, windowAt}
+use Rattle.filter_window.specs.Window.{plane_of, window_at}
 use Rattle.filter_window.proofs.window_part.Statement.{statement}
 use Rattle.filter_window.proofs.window_part.Tie as tie
 use Rattle.filter_window.proofs.window_part.Reads as reads
@@ -13,13 +13,13 @@ use Rattle.filter_window.proofs.entry.Reads as entry-reads
 use Rattle.filter_window.proofs.looked_at.Reads as looked-at-reads
 
 abbrev invariant-loop2 : tie.invariant-loop2
-invariant-loop2 src w h b rows cols out₀ i to j₀ out j = (take (to + j) out ≡ upto (windowAt (planeOf src w h) b) (to + j)) × (length out ≡ 144) × (j ≤ 12)
+invariant-loop2 src w h b rows cols out₀ i to j₀ out j = (take (to + j) out ≡ upto (window_at (plane_of src w h) b) (to + j)) × (length out ≡ 144) × (j ≤ 12)
 
 abbrev decreases-loop2 : tie.decreases-loop2
 decreases-loop2 src w h b rows cols out₀ i to j₀ out j = 12 - j
 
 abbrev invariant-loop : tie.invariant-loop
-invariant-loop src w h b rows cols out₀ i₀ out i = (take (i * 12) out ≡ upto (windowAt (planeOf src w h) b) (i * 12)) × (length out ≡ 144) × (i ≤ 12)
+invariant-loop src w h b rows cols out₀ i₀ out i = (take (i * 12) out ≡ upto (window_at (plane_of src w h) b) (i * 12)) × (length out ≡ 144) × (i ≤ 12)
 
 abbrev decreases-loop : tie.decreases-loop
 decreases-loop src w h b rows cols out₀ i₀ out i = 12 - i

@@ -2,9 +2,9 @@
 use mathlib.Core.Path.{◌≡◌, sym, ◌∙◌}
 use native.Mathlib.Omega.{arith}
 use borrow.Author.Rules.{rules}
-use Rattle.cdef_spec.specs.FrameCalls.{tryingNo}
+use Rattle.cdef_spec.specs.FrameCalls.{trying_no}
 use Rattle.cdef_spec.specs.OutcomeLaws.{trying-refused}
-use Rattle.frame_shape.specs.Frame.{pictureOf}
+use Rattle.frame_shape.specs.Frame.{picture_of}
 use Rattle.check_frame.specs.Facts.{TryingFacts}
 use Rattle.check_frame.specs.YesLaws.{trying-facts}
 use Rattle.frame_calls.specs.OutcomeLaws.{tried-done}
@@ -17,7 +17,7 @@ use Rattle.check_frame.proofs.trying_no.Reads as trying-no-reads
 use Rattle.arith_damping.proofs.in_force.Reads as in-force-reads
 use Rattle.try_plane.proofs.try_plane.Reads as try-plane-reads
 
-taken : (c : tie.Else1) → let a = c.before.before.before.before.before.before.before.before.args in tryingNo (pictureOf a.f a.skip.now a.dirs.now a.vars.now) a.damping a.v a.snapshot.now a.original.now a.totals.now ≡ 0
+taken : (c : tie.Else1) → let a = c.before.before.before.before.before.before.before.before.args in trying_no (picture_of a.f a.skip.now a.dirs.now a.vars.now) a.damping a.v a.snapshot.now a.original.now a.totals.now ≡ 0
 taken c = sym c.before.trying-no.ensures ∙ c.if1.false
 
 facts : (c : tie.Else1) → let a = c.before.before.before.before.before.before.before.before.args in TryingFacts a.f a.damping a.v a.snapshot.now a.original.now a.skip.now a.dirs.now a.vars.now a.totals.now
@@ -30,7 +30,7 @@ same_length : tie.Need-same-length
 same_length c = search rules
 
 returns : tie.Need-returns
-returns c = let a = c.before.before.before.before.before.before.before.before.args in (c.before.trying-no.ensures, (trying-refused (pictureOf a.f a.skip.now a.dirs.now a.vars.now) a.damping a.v a.snapshot.now a.original.now a.totals.now _ c.before.trying-no.ensures c.if1.true).1)
+returns c = let a = c.before.before.before.before.before.before.before.before.args in (c.before.trying-no.ensures, (trying-refused (picture_of a.f a.skip.now a.dirs.now a.vars.now) a.damping a.v a.snapshot.now a.original.now a.totals.now _ c.before.trying-no.ensures c.if1.true).1)
 
 in-force-requires : tie.Need-in-force-requires
 in-force-requires c κs = search rules
@@ -42,7 +42,7 @@ same-length-2 : tie.Need-same-length-2
 same-length-2 c = search rules
 
 returns-2 : tie.Need-returns-2
-returns-2 c = let a = c.before.before.before.before.before.before.before.before.before.before.before.before.args in let z = taken c.before.before.before.before in (sym z, c.before.try-plane.ensures ∙ rw c.before.before.before.in-force.ensures (sym (tried-done (pictureOf a.f a.skip.now a.dirs.now a.vars.now) a.damping a.v a.snapshot.now a.original.now a.totals.now z)))
+returns-2 c = let a = c.before.before.before.before.before.before.before.before.before.before.before.before.args in let z = taken c.before.before.before.before in (sym z, c.before.try-plane.ensures ∙ rw c.before.before.before.in-force.ensures (sym (tried-done (picture_of a.f a.skip.now a.dirs.now a.vars.now) a.damping a.v a.snapshot.now a.original.now a.totals.now z)))
 
 pub try-frame-spec : {M : Type 1} → statement M
 try-frame-spec =

@@ -5,9 +5,9 @@ use native.Mathlib.Omega.{arith}
 use borrow.Author.Rules.{rules}
 use lib.ListN.{length, replicate}
 use Rattle.cdef_spec.specs.Picture.{units}
-use Rattle.cdef_spec.specs.LoopForm.{signed, measureRows}
-use Rattle.frame_shape.specs.Frame.{pictureOf}
-use Rattle.measure_plane.specs.Measure.{Lent, measuredDistance}
+use Rattle.cdef_spec.specs.LoopForm.{signed, measure_rows}
+use Rattle.frame_shape.specs.Frame.{picture_of}
+use Rattle.measure_plane.specs.Measure.{Lent, measured_distance}
 use Rattle.measure_plane.specs.AddLaws.{rows_step, row_small, scratch-is, totals-none, totals-all}
 use Rattle.measure_plane.proofs.measure_plane.Statement.{statement}
 use Rattle.measure_plane.proofs.measure_plane.Tie as tie
@@ -20,7 +20,7 @@ use Rattle.measure_plane.proofs.totals.measure_row.Reads as measure-row-reads
 
 abbrev invariant-loop : tie.invariant-loop
 invariant-loop totals₀ scratch₀ plane original f v skip dirs vars p d c by₀ by_end totals scratch by =
-    (totals ≡ signed (measureRows (pictureOf f skip dirs vars) v (measuredDistance (pictureOf f skip dirs vars) d v plane original p) (replicate (units (pictureOf f skip dirs vars)) 0) by)) × (length totals ≡ length totals₀) × (length scratch ≡ length scratch₀) × (by ≤ by_end)
+    (totals ≡ signed (measure_rows (picture_of f skip dirs vars) v (measured_distance (picture_of f skip dirs vars) d v plane original p) (replicate (units (picture_of f skip dirs vars)) 0) by)) × (length totals ≡ length totals₀) × (length scratch ≡ length scratch₀) × (by ≤ by_end)
 
 abbrev decreases-loop : tie.decreases-loop
 decreases-loop totals₀ scratch₀ plane original f v skip dirs vars p d c by₀ by_end totals scratch by = by_end - by

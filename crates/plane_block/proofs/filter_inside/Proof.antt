@@ -7,16 +7,16 @@ use native.Mathlib.Nat.{mul-le-mul}
 use native.Mathlib.Omega.{arith}
 use lib.ListN.{length}
 use Rattle.cdef_spec.specs.Standard.{Tap}
-use Rattle.cdef_spec.specs.LoopForm.{putBlock}
+use Rattle.cdef_spec.specs.LoopForm.{put_block}
 use Rattle.arith_sample.specs.Bounds.{Held}
 use Rattle.arith_sample.specs.Upto.{upto}
-use Rattle.filter_window.specs.Window.{planeOf, windowAt}
+use Rattle.filter_window.specs.Window.{plane_of, window_at}
 use Rattle.filter_window.specs.WindowLaws.{window-held}
-use Rattle.filter_kernel.specs.Kernel.{priOf, secOf}
-use Rattle.plane_taps.specs.Steps.{tapsIn}
+use Rattle.filter_kernel.specs.Kernel.{pri_of, sec_of}
+use Rattle.plane_taps.specs.Steps.{taps_in}
 use Rattle.plane_taps.specs.Reach.{Around}
-use Rattle.plane_rows.specs.Rows.{Strong, priIn, secIn}
-use Rattle.plane_block.specs.Inside.{blockFrom, paramsFrom}
+use Rattle.plane_rows.specs.Rows.{Strong, pri_in, sec_in}
+use Rattle.plane_block.specs.Inside.{block_from, params_from}
 use Rattle.plane_block.specs.PlaneLaws.{block-two, stored, pri-passed, sec-passed, strong-passed, around-row, around-four, room}
 use borrow.Author.Rules.{rules}
 use mathlib.Core.Logic.{inl, inr}
@@ -35,7 +35,7 @@ use Rattle.filter_kernel.proofs.secondary.Reads as secondary-reads
 two-parts : (y y0 w : ℕ) → y0 ≤ y → (y + 4 - y0) * w ≡ (y - y0) * w + 4 * w
 two-parts y y0 w h = let e : y + 4 - y0 ≡ (y - y0) + 4 = omega arith in rw e (omega arith)
 
-two-halves : (d mid last : List ℕ) (w : ℕ) (F : ℕ → ℕ → Tap) (y z x : ℕ) → mid ≡ putBlock d w F y x 4 4 → last ≡ putBlock mid w F z x 4 4 → z ≡ y + 4 → last ≡ putBlock d w F y x 4 8
+two-halves : (d mid last : List ℕ) (w : ℕ) (F : ℕ → ℕ → Tap) (y z x : ℕ) → mid ≡ put_block d w F y x 4 4 → last ≡ put_block mid w F z x 4 4 → z ≡ y + 4 → last ≡ put_block d w F y x 4 8
 two-halves d mid last w F y z x a b e = b ∙ rw (e, a) (block-two d w F y x 4 4 4)
 
 -- the strengths
@@ -43,15 +43,15 @@ strong : (c : tie.After-secondary) → Strong c.before.primary.result.s c.before
 strong c = let s = c.before.before.before.before.before in
     rw (c.before.primary.ensures, c.secondary.ensures) (strong-passed s.args.pri s.args.sec _ s.args.depth s.requires.0.2.pri s.requires.0.2.sec)
 
-pri-is : (c : tie.After-secondary) → let a = c.before.before.before.before.before.args in priIn c.before.primary.result.s c.before.primary.result.sh c.before.primary.result.w0 ≡ priOf a.pri (max 1 a.damping) a.depth
+pri-is : (c : tie.After-secondary) → let a = c.before.before.before.before.before.args in pri_in c.before.primary.result.s c.before.primary.result.sh c.before.primary.result.w0 ≡ pri_of a.pri (max 1 a.damping) a.depth
 pri-is c = let a = c.before.before.before.before.before.args in
     rw (c.before.primary.ensures, c.before.before.from_one.ensures) (pri-passed a.pri a.sec _ a.depth)
 
-sec-is : (c : tie.After-secondary) → let a = c.before.before.before.before.before.args in secIn c.secondary.result.s c.secondary.result.sh ≡ secOf a.sec (max 1 a.damping)
+sec-is : (c : tie.After-secondary) → let a = c.before.before.before.before.before.args in sec_in c.secondary.result.s c.secondary.result.sh ≡ sec_of a.sec (max 1 a.damping)
 sec-is c = let a = c.before.before.before.before.before.args in
     rw (c.secondary.ensures, c.before.before.from_one.ensures) (sec-passed a.pri a.sec _ a.depth)
 
-held : (s : tie.Start) → Held (upto (windowAt (planeOf s.args.src.now s.args.w s.args.h) (blockFrom s.args.x s.args.y s.args.bw s.args.bh)) 144)
+held : (s : tie.Start) → Held (upto (window_at (plane_of s.args.src.now s.args.w s.args.h) (block_from s.args.x s.args.y s.args.bw s.args.bh)) 144)
 held s = window-held _ (λ k. omega (arith, s.requires.0.1.all k)) _
 
 -- a block's first sample
@@ -122,7 +122,7 @@ returns c = let s = c.before.before.before.before.before.before.before.before.be
     let n = s.requires.1.4 in
     let k : a.bh ≡ 8 = omega arith in
     let v : a.bw ≡ 8 = omega arith in
-    rw (k, v) (stored a.src.now a.w a.h (blockFrom a.x a.y a.bw a.bh) (paramsFrom a.pri a.sec a.dir a.damping a.depth) a.y0 a.y i.wide i.high i.bw i.bh n.left n.top n.right n.bottom s.requires.1.0 (omega arith) s.requires.0.2.dir (held s) _ _ _ _ 8 8 _ _ (omega arith) (omega arith) refl refl (pri-is c.before.before.before.before.before.before) (sec-is c.before.before.before.before.before.before) c.before.before.eight-wide.ensures.block)
+    rw (k, v) (stored a.src.now a.w a.h (block_from a.x a.y a.bw a.bh) (params_from a.pri a.sec a.dir a.damping a.depth) a.y0 a.y i.wide i.high i.bw i.bh n.left n.top n.right n.bottom s.requires.1.0 (omega arith) s.requires.0.2.dir (held s) _ _ _ _ 8 8 _ _ (omega arith) (omega arith) refl refl (pri-is c.before.before.before.before.before.before) (sec-is c.before.before.before.before.before.before) c.before.before.eight-wide.ensures.block)
 
 eight-wide-requires-2 : tie.Need-eight-wide-requires-2
 eight-wide-requires-2 c κs = let s = c.before.before.before.before.before.before.before.before in
@@ -139,7 +139,7 @@ returns-2 c = let s = c.before.before.before.before.before.before.before.before.
     let n = s.requires.1.4 in
     let k : a.bh ≡ 4 = short s (λ e. omega arith) in
     let v : a.bw ≡ 8 = omega arith in
-    rw (k, v) (stored a.src.now a.w a.h (blockFrom a.x a.y a.bw a.bh) (paramsFrom a.pri a.sec a.dir a.damping a.depth) a.y0 a.y i.wide i.high i.bw i.bh n.left n.top n.right n.bottom s.requires.1.0 (omega arith) s.requires.0.2.dir (held s) _ _ _ _ 8 4 _ _ (omega arith) (omega arith) refl refl (pri-is c.before.before.before.before.before.before) (sec-is c.before.before.before.before.before.before) c.before.before.eight-wide2.ensures.block)
+    rw (k, v) (stored a.src.now a.w a.h (block_from a.x a.y a.bw a.bh) (params_from a.pri a.sec a.dir a.damping a.depth) a.y0 a.y i.wide i.high i.bw i.bh n.left n.top n.right n.bottom s.requires.1.0 (omega arith) s.requires.0.2.dir (held s) _ _ _ _ 8 4 _ _ (omega arith) (omega arith) refl refl (pri-is c.before.before.before.before.before.before) (sec-is c.before.before.before.before.before.before) c.before.before.eight-wide2.ensures.block)
 
 rows-requires : tie.Need-rows-requires
 rows-requires c κs = let s = c.before.before.before.before.before.before.before in
@@ -157,7 +157,7 @@ returns-3 c = let s = c.before.before.before.before.before.before.before.before.
     let n = s.requires.1.4 in
     let k : a.bh ≡ 4 = omega arith in
     let v : a.bw ≡ 4 = narrow s (λ e. omega arith) in
-    rw (k, v) (stored a.src.now a.w a.h (blockFrom a.x a.y a.bw a.bh) (paramsFrom a.pri a.sec a.dir a.damping a.depth) a.y0 a.y i.wide i.high i.bw i.bh n.left n.top n.right n.bottom s.requires.1.0 (omega arith) s.requires.0.2.dir (held s) _ _ _ _ 4 4 _ _ (omega arith) (omega arith) refl refl (pri-is c.before.before.before.before.before.before) (sec-is c.before.before.before.before.before.before) c.before.before.before.rows.ensures.block)
+    rw (k, v) (stored a.src.now a.w a.h (block_from a.x a.y a.bw a.bh) (params_from a.pri a.sec a.dir a.damping a.depth) a.y0 a.y i.wide i.high i.bw i.bh n.left n.top n.right n.bottom s.requires.1.0 (omega arith) s.requires.0.2.dir (held s) _ _ _ _ 4 4 _ _ (omega arith) (omega arith) refl refl (pri-is c.before.before.before.before.before.before) (sec-is c.before.before.before.before.before.before) c.before.before.before.rows.ensures.block)
 
 mul-rows : tie.Need-overflow-mul-rows
 mul-rows c = search rules
@@ -189,8 +189,8 @@ returns-4 c = let s = c.before.before.before.before.before.before.before.before.
     let v : a.bw ≡ 4 = narrow s (λ e. omega arith) in
     let l : a.y0 ≤ a.y = s.requires.1.0 in
     let z : (a.y + 4 - a.y0) * a.w ≡ (a.y - a.y0) * a.w + 4 * a.w = two-parts a.y a.y0 a.w l in
-    let p = stored a.src.now a.w a.h (blockFrom a.x a.y a.bw a.bh) (paramsFrom a.pri a.sec a.dir a.damping a.depth) a.y0 a.y i.wide i.high i.bw i.bh n.left n.top n.right n.bottom l (omega arith) s.requires.0.2.dir (held s) _ _ _ _ 4 4 _ _ (omega arith) (omega arith) refl refl (pri-is c.before.before.before.before.before.before.before.before.before.before) (sec-is c.before.before.before.before.before.before.before.before.before.before) c.before.before.before.before.before.before.before.rows.ensures.block in
-    let q = stored a.src.now a.w a.h (blockFrom a.x a.y a.bw a.bh) (paramsFrom a.pri a.sec a.dir a.damping a.depth) a.y0 (a.y + 4) i.wide i.high i.bw i.bh n.left n.top n.right n.bottom (omega arith) (omega arith) s.requires.0.2.dir (held s) _ _ _ _ 4 4 _ _ (omega arith) (omega arith) (omega arith) (omega arith) (pri-is c.before.before.before.before.before.before.before.before.before.before) (sec-is c.before.before.before.before.before.before.before.before.before.before) c.before.before.rows2.ensures.block in
+    let p = stored a.src.now a.w a.h (block_from a.x a.y a.bw a.bh) (params_from a.pri a.sec a.dir a.damping a.depth) a.y0 a.y i.wide i.high i.bw i.bh n.left n.top n.right n.bottom l (omega arith) s.requires.0.2.dir (held s) _ _ _ _ 4 4 _ _ (omega arith) (omega arith) refl refl (pri-is c.before.before.before.before.before.before.before.before.before.before) (sec-is c.before.before.before.before.before.before.before.before.before.before) c.before.before.before.before.before.before.before.rows.ensures.block in
+    let q = stored a.src.now a.w a.h (block_from a.x a.y a.bw a.bh) (params_from a.pri a.sec a.dir a.damping a.depth) a.y0 (a.y + 4) i.wide i.high i.bw i.bh n.left n.top n.right n.bottom (omega arith) (omega arith) s.requires.0.2.dir (held s) _ _ _ _ 4 4 _ _ (omega arith) (omega arith) (omega arith) (omega arith) (pri-is c.before.before.before.before.before.before.before.before.before.before) (sec-is c.before.before.before.before.before.before.before.before.before.before) c.before.before.rows2.ensures.block in
     rw (k, v) (two-halves _ _ _ _ _ _ _ _ p q (omega arith))
 
 pub filter-inside-spec : {M : Type 1} → statement M

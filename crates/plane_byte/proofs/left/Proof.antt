@@ -1,5 +1,5 @@
 -- `plane_byte::left` meets its contract.
-use Rattle.plane_byte.specs.Arithmetic.{excessOf}
+use Rattle.plane_byte.specs.Arithmetic.{excess_of}
 use borrow.Author.Rules.{rules}
 use Rattle.plane_byte.proofs.left.Statement.{statement}
 use Rattle.plane_byte.proofs.left.Tie as tie
@@ -14,7 +14,7 @@ add-result : tie.Need-overflow-add-result
 add-result c = search rules
 
 returns : tie.Need-returns
-unfolding excessOf
+unfolding excess_of
 returns c = rw c.less.ensures
 
 pub left-spec : {M : Type 1} → statement M

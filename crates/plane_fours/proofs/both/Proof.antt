@@ -1,7 +1,7 @@
 -- `plane_fours::both` meets its contract.
 use Rattle.plane_fours.specs.RunLaws.{centre-low, on-low, back_low, first-all}
 use Rattle.plane_fours.specs.FourLaws.{both-four}
-use Rattle.plane_fours.specs.Fours.{firstRun}
+use Rattle.plane_fours.specs.Fours.{first_run}
 use Rattle.std.proofs.Common.{◌≡◌, ◌∙◌, rules}
 use Rattle.arith_sample.specs.Upto.{upto-ext}
 use Rattle.plane_taps.specs.PlainLaws.{both-plain}
@@ -47,7 +47,7 @@ back-requires-4 : tie.Need-back-requires-4
 back-requires-4 c κs = let s = c.before.before.before.before.before.before.before.before.before.before in (s.requires.2, s.requires.0.r1)
 
 last-requires : tie.Need-last-requires
-unfolding firstRun
+unfolding first_run
 last-requires c κs = let s = c.before.before.before.before.before.before.before.before.before.before.before.before.before.before.before.before.before.before.before.before in
     let a = s.args in
     (rw c.before.before.before.before.before.before.before.before.before.before.before.before.before.before.before.before.before.before.first.ensures (first-all _ _ _ _ _ a.f (centre-low a.src.now s.requires.1 a.w a.k) (on-low a.src.now s.requires.1 a.w a.k a.t.p0) (back_low a.src.now s.requires.1 a.w a.k a.t.p0) (on-low a.src.now s.requires.1 a.w a.k a.t.p1) (back_low a.src.now s.requires.1 a.w a.k a.t.p1) s.requires.3), rw c.before.before.before.before.before.before.before.before.before.before.before.before.before.before.before.before.before.run.ensures (centre-low a.src.now s.requires.1 a.w a.k), record { on0 = rw c.before.before.before.before.before.before.before.before.before.before.before.before.before.before.before.before.on.ensures (on-low a.src.now s.requires.1 a.w a.k a.t.q0); back0 = rw c.before.before.before.before.before.before.before.before.before.before.before.before.before.before.before.back.ensures (back_low a.src.now s.requires.1 a.w a.k a.t.q0); on1 = rw c.before.before.before.before.before.before.before.before.before.before.before.before.before.before.on2.ensures (on-low a.src.now s.requires.1 a.w a.k a.t.q1); back1 = rw c.before.before.before.before.before.before.before.before.before.before.before.before.before.back2.ensures (back_low a.src.now s.requires.1 a.w a.k a.t.q1) }, record { on0 = rw c.before.before.before.before.before.before.before.before.before.before.before.before.on3.ensures (on-low a.src.now s.requires.1 a.w a.k a.t.r0); back0 = rw c.before.before.before.before.before.before.before.before.before.before.before.back3.ensures (back_low a.src.now s.requires.1 a.w a.k a.t.r0); on1 = rw c.before.before.before.before.before.before.before.before.before.before.on4.ensures (on-low a.src.now s.requires.1 a.w a.k a.t.r1); back1 = rw c.before.before.before.before.before.before.before.before.before.back4.ensures (back_low a.src.now s.requires.1 a.w a.k a.t.r1) }, s.requires.4)

@@ -1,7 +1,7 @@
 -- `plane_fours::first` meets its contract.
 use Rattle.std.proofs.Common.{◌≡◌, ◌∙◌, rules}
 use Rattle.plane_fours.specs.FourLaws.{first-four}
-use Rattle.plane_fours.specs.Fours.{firstRun}
+use Rattle.plane_fours.specs.Fours.{first_run}
 use Rattle.plane_fours.specs.RunLaws.{centre-low, on-low, back_low}
 use Rattle.plane_fours.proofs.first.Statement.{statement}
 use Rattle.plane_fours.proofs.first.Tie as tie

@@ -1,7 +1,7 @@
 -- `plane_fours::four` meets its contract.
 use Rattle.std.proofs.Common.{◌≡◌, ◌∙◌, rules}
 use Rattle.arith_sample.specs.Upto.{upto-ext}
-use Rattle.plane_fours.specs.Fours.{centreRun}
+use Rattle.plane_fours.specs.Fours.{centre_run}
 use Rattle.plane_rows.specs.LaneLaws.{kernel-none, kernel-sec, kernel-pri, kernel-both}
 use Rattle.plane_fours.proofs.four.Statement.{statement}
 use Rattle.plane_fours.proofs.four.Tie as tie
@@ -16,7 +16,7 @@ run-requires : tie.Need-run-requires
 run-requires c κs = search rules
 
 returns : tie.Need-returns
-unfolding centreRun
+unfolding centre_run
 returns c = c.run.ensures ∙ upto-ext _ _ 16 (λ j l. kernel-none _ _ _ _ _ c.before.before.before.if1.true c.before.if2.true)
 
 sec-requires : tie.Need-sec-requires

@@ -2,7 +2,7 @@
 use Rattle.plane_fours.specs.FourReachLaws.{row_low}
 use Rattle.std.proofs.Common.{◌≡◌, ℕ, ◌+◌, ◌-◌, ◌*◌, ◌<◌, ◌≤◌, length, get_or, take, sym, refl, ap, ◌∙◌, mul-le-mul_right, arith, length-set}
 use Rattle.arith_sample.specs.Upto.{upto, upto-none, upto-more, upto-at, upto_all}
-use Rattle.plane_fours.specs.Fours.{fourAt, centreRun}
+use Rattle.plane_fours.specs.Fours.{four_at, centre_run}
 use Rattle.plane_fours.specs.FourReachLaws.{four-place}
 use Rattle.plane_fours.proofs.run.Statement.{statement}
 use Rattle.plane_fours.proofs.run.Tie as tie
@@ -10,13 +10,13 @@ use Rattle.plane_fours.proofs.run.Reads as reads
 use Rattle.plane_fours.proofs.run.Lts as lts
 
 abbrev invariant-loop2 : tie.invariant-loop2
-invariant-loop2 src w k v₀ i at to j₀ v j = (take (to + j) v ≡ upto (λ (n : ℕ). get_or src (fourAt w k n) 0) (to + j)) × (length v ≡ 16) × (j ≤ 4)
+invariant-loop2 src w k v₀ i at to j₀ v j = (take (to + j) v ≡ upto (λ (n : ℕ). get_or src (four_at w k n) 0) (to + j)) × (length v ≡ 16) × (j ≤ 4)
 
 abbrev decreases-loop2 : tie.decreases-loop2
 decreases-loop2 src w k v₀ i at to j₀ v j = 4 - j
 
 abbrev invariant-loop : tie.invariant-loop
-invariant-loop src w k v₀ i₀ v i = (take (i * 4) v ≡ upto (λ (n : ℕ). get_or src (fourAt w k n) 0) (i * 4)) × (length v ≡ 16) × (i ≤ 4)
+invariant-loop src w k v₀ i₀ v i = (take (i * 4) v ≡ upto (λ (n : ℕ). get_or src (four_at w k n) 0) (i * 4)) × (length v ≡ 16) × (i ≤ 4)
 
 abbrev decreases-loop : tie.decreases-loop
 decreases-loop src w k v₀ i₀ v i = 4 - i
@@ -77,7 +77,7 @@ loop-again : tie.Need-loop-preserved invariant-loop2 decreases-loop2 invariant-l
 loop-again c = let p = c.before.loop2 in (upto-at _ _ _ _ (omega arith) p.invariant.0, p.invariant.1, omega arith)
 
 returns : tie.Need-returns invariant-loop2 decreases-loop2 invariant-loop decreases-loop
-unfolding centreRun
+unfolding centre_run
 returns c = let p = c.before in upto_all _ _ 16 _ p.loop.invariant.0 p.loop.invariant.1 (omega arith)
 
 pub run_spec : {M : Type 1} → statement M

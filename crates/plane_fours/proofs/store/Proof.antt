@@ -1,7 +1,7 @@
 -- `plane_fours::store` meets its contract.
 use Rattle.plane_fours.specs.FourReachLaws.{row_low}
 use Rattle.std.proofs.Common.{◌≡◌, ℕ, ◌+◌, ◌-◌, ◌*◌, ◌<◌, ◌≤◌, List, length, get_or, set, sym, refl, ap, ◌∙◌, mul-le-mul_right, arith, length-set}
-use Rattle.plane_rows.specs.Rows.{placed, placedRows}
+use Rattle.plane_rows.specs.Rows.{placed, placed_rows}
 use Rattle.plane_rows.specs.StoreLaws.{placed-none, placed-more, rows_none, rows_more}
 use Rattle.plane_fours.proofs.store.Statement.{statement}
 use Rattle.plane_fours.proofs.store.Tie as tie
@@ -11,7 +11,7 @@ use Rattle.plane_fours.proofs.store.Lts as lts
 step : (d l v : List ℕ) (at from j : ℕ) → d ≡ placed l at v from j → set d (at + j) (get_or v (from + j) 0) ≡ placed l at v from (j + 1)
 step d l v at from j e = rw (placed-more l at v from j, e)
 
-row : (l d last v : List ℕ) (w to i : ℕ) → d ≡ placedRows l w to v 4 i → last ≡ placed d (to + i * w) v (i * 4) 4 → last ≡ placedRows l w to v 4 (i + 1)
+row : (l d last v : List ℕ) (w to i : ℕ) → d ≡ placed_rows l w to v 4 i → last ≡ placed d (to + i * w) v (i * 4) 4 → last ≡ placed_rows l w to v 4 (i + 1)
 row l d last v w to i e h = h ∙ rw (rows_more l w to v 4 i, e)
 
 abbrev invariant-loop2 : tie.invariant-loop2
@@ -21,7 +21,7 @@ abbrev decreases-loop2 : tie.decreases-loop2
 decreases-loop2 dst₀ w to v i at from j₀ dst j = 4 - j
 
 abbrev invariant-loop : tie.invariant-loop
-invariant-loop dst₀ w to v i₀ dst i = (dst ≡ placedRows dst₀ w to v 4 i) × (length dst ≡ length dst₀) × (i ≤ 4)
+invariant-loop dst₀ w to v i₀ dst i = (dst ≡ placed_rows dst₀ w to v 4 i) × (length dst ≡ length dst₀) × (i ≤ 4)
 
 abbrev decreases-loop : tie.decreases-loop
 decreases-loop dst₀ w to v i₀ dst i = 4 - i

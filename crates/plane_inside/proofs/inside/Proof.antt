@@ -5,7 +5,7 @@ use Prim.Native.Nat.{ℕ, ◌+◌, ◌≤◌, ◌<◌}
 use native.Mathlib.Omega.{arith}
 use borrow.Author.Tests.{le-leb, lt-leb}
 use lib.Dec.{leb}
-use Rattle.plane_inside.specs.Inner.{innerBlock}
+use Rattle.plane_inside.specs.Inner.{inner_block}
 use borrow.Author.Rules.{rules}
 use Rattle.plane_inside.proofs.inside.Statement.{statement}
 use Rattle.plane_inside.proofs.inside.Tie as tie
@@ -13,20 +13,20 @@ use Rattle.plane_inside.proofs.inside.Reads as reads
 use Rattle.plane_inside.proofs.inside.Lts as lts
 
 module _ (w h x y bw bh : ℕ) where
-  no-left : x < 2 → false ≡ innerBlock w h x y bw bh
-  unfolding innerBlock
+  no-left : x < 2 → false ≡ inner_block w h x y bw bh
+  unfolding inner_block
   no-left e = rw (lt-leb 2 x e)
 
-  no_top : 2 ≤ x → y < 2 → false ≡ innerBlock w h x y bw bh
-  unfolding innerBlock
+  no_top : 2 ≤ x → y < 2 → false ≡ inner_block w h x y bw bh
+  unfolding inner_block
   no_top a e = rw (le-leb 2 x a, lt-leb 2 y e)
 
-  no-right : 2 ≤ x → 2 ≤ y → w < x + bw + 2 → false ≡ innerBlock w h x y bw bh
-  unfolding innerBlock
+  no-right : 2 ≤ x → 2 ≤ y → w < x + bw + 2 → false ≡ inner_block w h x y bw bh
+  unfolding inner_block
   no-right a b e = rw (le-leb 2 x a, le-leb 2 y b, lt-leb (x + bw + 2) w e)
 
-  by-bottom : 2 ≤ x → 2 ≤ y → x + bw + 2 ≤ w → leb (y + bh + 2) h ≡ innerBlock w h x y bw bh
-  unfolding innerBlock
+  by-bottom : 2 ≤ x → 2 ≤ y → x + bw + 2 ≤ w → leb (y + bh + 2) h ≡ inner_block w h x y bw bh
+  unfolding inner_block
   by-bottom a b e = rw (le-leb 2 x a, le-leb 2 y b, le-leb (x + bw + 2) w e)
 
 returns : tie.Need-returns

@@ -4,7 +4,7 @@ use mathlib.Core.Path.{◌≡◌, refl, sym}
 use Prim.Native.Nat.{ℕ, ◌+◌, ◌-◌, ◌≤◌}
 use native.Mathlib.Omega.{arith}
 use lib.ListN.{length, take, length-set}
-use Rattle.filter_rows.specs.Sums.{filteredAt}
+use Rattle.filter_rows.specs.Sums.{filtered_at}
 use Rattle.arith_sample.specs.Upto.{upto, upto-none, upto-more, upto_all}
 use Rattle.plane_taps.specs.ReachLaws.{reached-all}
 use Rattle.plane_rows.proofs.both_row.Statement.{statement}
@@ -14,7 +14,7 @@ use Rattle.plane_rows.proofs.both_row.Lts as lts
 use Rattle.plane_rows.proofs.both_at.Reads as both-at-reads
 
 abbrev invariant-loop : tie.invariant-loop
-invariant-loop src k t f g out₀ j₀ out j = (take j out ≡ upto (λ (j : ℕ). filteredAt src (k + j) t f g) j) × (length out ≡ 8) × (j ≤ 8)
+invariant-loop src k t f g out₀ j₀ out j = (take j out ≡ upto (λ (j : ℕ). filtered_at src (k + j) t f g) j) × (length out ≡ 8) × (j ≤ 8)
 
 abbrev decreases-loop : tie.decreases-loop
 decreases-loop src k t f g out₀ j₀ out j = 8 - j

@@ -4,7 +4,7 @@ use mir.Syntax.{w16}
 use mir.Val.{to_z, of_z}
 use Rattle.arith_sample.proofs.Joins.{Is, back_is}
 use Rattle.filter_rows.specs.Pairs.{pair_of}
-use Rattle.filter_rows.specs.Sums.{priAt}
+use Rattle.filter_rows.specs.Sums.{pri_at}
 use Rattle.filter_rows.proofs.Bounds.{size-pri, small-back}
 use Rattle.filter_limits.specs.Limits.{HeldPair}
 use Rattle.plane_taps.specs.PlainLaws.{low_held, pri-plain}
@@ -23,7 +23,7 @@ use Rattle.arith_sample.proofs.raised.Reads as raised-reads
 held : (s : tie.Start) (p : Rattle.filter_limits.specs.declared.Pair.Pair) (o : Prim.Native.Nat.ℕ) → p ≡ pair_of s.args.src.now s.args.k o → HeldPair p
 held s p o e = rw e (low_held (pair-low s.args.src.now s.requires.2 s.args.k o))
 
-sum : (c : tie.After-pri-sum) → let a = c.before.before.before.before.before.args in Is c.pri-sum.result (priAt a.src.now a.k a.t a.f) 3840
+sum : (c : tie.After-pri-sum) → let a = c.before.before.before.before.before.args in Is c.pri-sum.result (pri_at a.src.now a.k a.t a.f) 3840
 sum c = let s = c.before.before.before.before.before in
     let a = s.args in
     record { is = c.pri-sum.ensures ∙ rw (c.before.before.load.ensures, c.before.load2.ensures) (pri-plain a.src.now s.requires.2 a.k a.t a.f); small = size-pri a.src.now a.k a.t a.f s.requires.3 }

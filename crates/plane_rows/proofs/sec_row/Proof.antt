@@ -3,8 +3,8 @@ use mathlib.Core.Path.{◌≡◌, refl, sym}
 use Prim.Native.Nat.{ℕ, ◌+◌, ◌-◌, ◌≤◌}
 use native.Mathlib.Omega.{arith}
 use lib.ListN.{length, take, get_or, length-set}
-use Rattle.arith_sample.specs.Sample.{freeOf}
-use Rattle.filter_rows.specs.Sums.{secAt}
+use Rattle.arith_sample.specs.Sample.{free_of}
+use Rattle.filter_rows.specs.Sums.{sec_at}
 use Rattle.arith_sample.specs.Upto.{upto, upto-none, upto-more, upto_all}
 use Rattle.plane_taps.specs.ReachLaws.{reached-all}
 use Rattle.plane_rows.proofs.sec_row.Statement.{statement}
@@ -14,7 +14,7 @@ use Rattle.plane_rows.proofs.sec_row.Lts as lts
 use Rattle.plane_rows.proofs.sec_at.Reads as sec-at-reads
 
 abbrev invariant-loop : tie.invariant-loop
-invariant-loop src k t f out₀ j₀ out j = (take j out ≡ upto (λ (j : ℕ). freeOf (get_or src (k + j) 0) (secAt src (k + j) t f)) j) × (length out ≡ 8) × (j ≤ 8)
+invariant-loop src k t f out₀ j₀ out j = (take j out ≡ upto (λ (j : ℕ). free_of (get_or src (k + j) 0) (sec_at src (k + j) t f)) j) × (length out ≡ 8) × (j ≤ 8)
 
 abbrev decreases-loop : tie.decreases-loop
 decreases-loop src k t f out₀ j₀ out j = 8 - j

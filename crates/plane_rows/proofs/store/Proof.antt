@@ -4,7 +4,7 @@ use mathlib.Core.List.{List}
 use Prim.Native.Nat.{ℕ, ◌+◌, ◌-◌, ◌*◌, ◌≤◌, ◌<◌}
 use native.Mathlib.Omega.{arith}
 use lib.ListN.{length, get_or, set, length-set}
-use Rattle.plane_rows.specs.Rows.{placed, placedRows}
+use Rattle.plane_rows.specs.Rows.{placed, placed_rows}
 use Rattle.plane_rows.specs.StoreLaws.{placed-none, placed-next-from, rows_none, rows_next}
 use Rattle.plane_rows.proofs.store.Statement.{statement}
 use Rattle.plane_rows.proofs.store.Tie as tie
@@ -18,7 +18,7 @@ abbrev decreases-loop2 : tie.decreases-loop2
 decreases-loop2 dst₀ w to all n i at from j₀ dst j = 8 - j
 
 abbrev invariant-loop : tie.invariant-loop
-invariant-loop dst₀ w to all n i₀ dst i = (dst ≡ placedRows dst₀ w to all 8 i) × (length dst ≡ length dst₀) × (i ≤ n)
+invariant-loop dst₀ w to all n i₀ dst i = (dst ≡ placed_rows dst₀ w to all 8 i) × (length dst ≡ length dst₀) × (i ≤ n)
 
 abbrev decreases-loop : tie.decreases-loop
 decreases-loop dst₀ w to all n i₀ dst i = n - i

@@ -61,9 +61,9 @@ use Rattle.cdef_spec.specs.declared.Visible.{Visible}
 use Rattle.cdef_spec.specs.contracts.Visible as theVisible
 use Rattle.cdef_spec.proofs.Visible.TheLaws as theVisible'
 use mathlib.Core.Bool.{true}
-use Rattle.cdef_spec.specs.Picture.{chromaPicture}
+use Rattle.cdef_spec.specs.Picture.{chroma_picture}
 use Rattle.cdef_spec.specs.Demand3.{Agrees}
-use Rattle.agree_lists.specs.Agree.{isAgreed, agreeOutcome}
+use Rattle.agree_lists.specs.Agree.{is_agreed, agree_outcome}
 use Rattle.cdef_agree.specs.contracts.chroma.agree_chroma as callee₁
 use Rattle.cdef_agree.proofs.chroma.agree_chroma.Symbol as callee₁-def
 use Rattle.cdef_agree.proofs.chroma.agree_chroma.Symbol.{name as #callee₁}
@@ -77,11 +77,11 @@ use Rattle.testlib_lend.proofs.agree_chroma.Code as code
 module _ (tried : List ℤ) (dst : List ℕ) (measured : List ℤ) (scratch : List ℕ) (snapshot : List ℕ) (original : List ℕ) (width : ℕ) (height : ℕ) (sx : ℕ) (sy : ℕ) (visible : Visible) (depth : ℕ) (skip : List ℕ) (dirs : List ℕ) (n : ℕ) (a : List UnitPair) (damping : DampingChoice) where
   -- of `cdef_agree::chroma::agree_chroma`
   abbrev Says₁ : (r₁ : Agreement) (tried' : List ℤ) (dst' : List ℕ) (measured' : List ℤ) (scratch' : List ℕ) → Type 0
-  Says₁ r₁ tried' dst' measured' scratch' = (agreeOutcome (chromaPicture depth width height sx sy skip dirs) damping visible snapshot original (take n a) tried dst measured scratch ≡ record { answer = r₁; tried = tried'; dst = dst'; measured = measured'; scratch = scratch' }) × (isAgreed r₁ ≡ true → Agrees (chromaPicture depth width height sx sy skip dirs) (take n a) tried' measured')
+  Says₁ r₁ tried' dst' measured' scratch' = (agree_outcome (chroma_picture depth width height sx sy skip dirs) damping visible snapshot original (take n a) tried dst measured scratch ≡ record { answer = r₁; tried = tried'; dst = dst'; measured = measured'; scratch = scratch' }) × (is_agreed r₁ ≡ true → Agrees (chroma_picture depth width height sx sy skip dirs) (take n a) tried' measured')
 
   -- of this function
   abbrev Said : (r : Agreement) (tried' : List ℤ) (dst' : List ℕ) (measured' : List ℤ) (scratch' : List ℕ) → Type 0
-  Said r tried' dst' measured' scratch' = (agreeOutcome (chromaPicture depth width height sx sy skip dirs) damping visible snapshot original (take n a) tried dst measured scratch ≡ record { answer = r; tried = tried'; dst = dst'; measured = measured'; scratch = scratch' }) × (isAgreed r ≡ true → Agrees (chromaPicture depth width height sx sy skip dirs) (take n a) tried' measured')
+  Said r tried' dst' measured' scratch' = (agree_outcome (chroma_picture depth width height sx sy skip dirs) damping visible snapshot original (take n a) tried dst measured scratch ≡ record { answer = r; tried = tried'; dst = dst'; measured = measured'; scratch = scratch' }) × (is_agreed r ≡ true → Agrees (chroma_picture depth width height sx sy skip dirs) (take n a) tried' measured')
 
   answer : (r₁ : Agreement) (tried' : List ℤ) (dst' : List ℕ) (measured' : List ℤ) (scratch' : List ℕ) → Says₁ r₁ tried' dst' measured' scratch' → Said r₁ tried' dst' measured' scratch'
   answer r₁ tried' dst' measured' scratch' said₁ = said₁

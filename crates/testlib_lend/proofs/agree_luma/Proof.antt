@@ -61,9 +61,9 @@ use Rattle.cdef_spec.specs.declared.Visible.{Visible}
 use Rattle.cdef_spec.specs.contracts.Visible as theVisible
 use Rattle.cdef_spec.proofs.Visible.TheLaws as theVisible'
 use mathlib.Core.Bool.{true}
-use Rattle.cdef_spec.specs.Picture.{lumaPicture}
+use Rattle.cdef_spec.specs.Picture.{luma_picture}
 use Rattle.cdef_spec.specs.Demand3.{Agrees}
-use Rattle.agree_lists.specs.Agree.{isAgreed, agreeOutcome}
+use Rattle.agree_lists.specs.Agree.{is_agreed, agree_outcome}
 use Rattle.cdef_agree.specs.contracts.luma.agree_luma as callee₁
 use Rattle.cdef_agree.proofs.luma.agree_luma.Symbol as callee₁-def
 use Rattle.cdef_agree.proofs.luma.agree_luma.Symbol.{name as #callee₁}
@@ -77,11 +77,11 @@ use Rattle.testlib_lend.proofs.agree_luma.Code as code
 module _ (tried : List ℤ) (dst : List ℕ) (measured : List ℤ) (scratch : List ℕ) (snapshot : List ℕ) (original : List ℕ) (width : ℕ) (height : ℕ) (visible : Visible) (depth : ℕ) (skip : List ℕ) (dirs : List ℕ) (vars : List ℕ) (n : ℕ) (a : List UnitPair) (damping : DampingChoice) where
   -- of `cdef_agree::luma::agree_luma`
   abbrev Says₁ : (r₁ : Agreement) (tried' : List ℤ) (dst' : List ℕ) (measured' : List ℤ) (scratch' : List ℕ) → Type 0
-  Says₁ r₁ tried' dst' measured' scratch' = (agreeOutcome (lumaPicture depth width height skip dirs vars) damping visible snapshot original (take n a) tried dst measured scratch ≡ record { answer = r₁; tried = tried'; dst = dst'; measured = measured'; scratch = scratch' }) × (isAgreed r₁ ≡ true → Agrees (lumaPicture depth width height skip dirs vars) (take n a) tried' measured')
+  Says₁ r₁ tried' dst' measured' scratch' = (agree_outcome (luma_picture depth width height skip dirs vars) damping visible snapshot original (take n a) tried dst measured scratch ≡ record { answer = r₁; tried = tried'; dst = dst'; measured = measured'; scratch = scratch' }) × (is_agreed r₁ ≡ true → Agrees (luma_picture depth width height skip dirs vars) (take n a) tried' measured')
 
   -- of this function
   abbrev Said : (r : Agreement) (tried' : List ℤ) (dst' : List ℕ) (measured' : List ℤ) (scratch' : List ℕ) → Type 0
-  Said r tried' dst' measured' scratch' = (agreeOutcome (lumaPicture depth width height skip dirs vars) damping visible snapshot original (take n a) tried dst measured scratch ≡ record { answer = r; tried = tried'; dst = dst'; measured = measured'; scratch = scratch' }) × (isAgreed r ≡ true → Agrees (lumaPicture depth width height skip dirs vars) (take n a) tried' measured')
+  Said r tried' dst' measured' scratch' = (agree_outcome (luma_picture depth width height skip dirs vars) damping visible snapshot original (take n a) tried dst measured scratch ≡ record { answer = r; tried = tried'; dst = dst'; measured = measured'; scratch = scratch' }) × (is_agreed r ≡ true → Agrees (luma_picture depth width height skip dirs vars) (take n a) tried' measured')
 
   answer : (r₁ : Agreement) (tried' : List ℤ) (dst' : List ℕ) (measured' : List ℤ) (scratch' : List ℕ) → Says₁ r₁ tried' dst' measured' scratch' → Said r₁ tried' dst' measured' scratch'
   answer r₁ tried' dst' measured' scratch' said₁ = said₁

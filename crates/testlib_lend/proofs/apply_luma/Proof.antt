@@ -56,9 +56,9 @@ use Rattle.cdef_spec.proofs.DampingChoice.TheLaws as theDampingChoice'
 use Rattle.cdef_spec.specs.declared.UnitPair.{UnitPair}
 use Rattle.cdef_spec.specs.contracts.UnitPair as theUnitPair
 use Rattle.cdef_spec.proofs.UnitPair.TheLaws as theUnitPair'
-use Rattle.cdef_spec.specs.Answers.{readAnswer}
-use Rattle.cdef_spec.specs.Picture.{lumaPicture}
-use Rattle.cdef_spec.specs.FrameCalls.{applyingOutcome}
+use Rattle.cdef_spec.specs.Answers.{read_answer}
+use Rattle.cdef_spec.specs.Picture.{luma_picture}
+use Rattle.cdef_spec.specs.FrameCalls.{applying_outcome}
 use Rattle.cdef.specs.contracts.applying.apply_luma as callee₁
 use Rattle.cdef.proofs.applying.apply_luma.Symbol as callee₁-def
 use Rattle.cdef.proofs.applying.apply_luma.Symbol.{name as #callee₁}
@@ -72,11 +72,11 @@ use Rattle.testlib_lend.proofs.apply_luma.Code as code
 module _ (dst : List ℕ) (snapshot : List ℕ) (width : ℕ) (height : ℕ) (depth : ℕ) (skip : List ℕ) (dirs : List ℕ) (vars : List ℕ) (n : ℕ) (a : List UnitPair) (damping : DampingChoice) where
   -- of `cdef::applying::apply_luma`
   abbrev Says₁ : (r₁ : Answer) (dst' : List ℕ) → Type 0
-  Says₁ r₁ dst' = applyingOutcome (lumaPicture depth width height skip dirs vars) damping snapshot (take n a) dst ≡ record { answer = readAnswer r₁; plane = dst' }
+  Says₁ r₁ dst' = applying_outcome (luma_picture depth width height skip dirs vars) damping snapshot (take n a) dst ≡ record { answer = read_answer r₁; plane = dst' }
 
   -- of this function
   abbrev Said : (r : Answer) (dst' : List ℕ) → Type 0
-  Said r dst' = applyingOutcome (lumaPicture depth width height skip dirs vars) damping snapshot (take n a) dst ≡ record { answer = readAnswer r; plane = dst' }
+  Said r dst' = applying_outcome (luma_picture depth width height skip dirs vars) damping snapshot (take n a) dst ≡ record { answer = read_answer r; plane = dst' }
 
   answer : (r₁ : Answer) (dst' : List ℕ) → Says₁ r₁ dst' → Said r₁ dst'
   answer r₁ dst' said₁ = said₁

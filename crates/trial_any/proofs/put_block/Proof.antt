@@ -3,9 +3,9 @@ use mathlib.Core.Path.{◌≡◌, refl, sym, ◌∙◌}
 use Prim.Native.Nat.{◌-◌, ◌≤◌}
 use native.Mathlib.Omega.{arith}
 use lib.ListN.{length, length-set}
-use Rattle.cdef_spec.specs.LoopForm.{putRow}
+use Rattle.cdef_spec.specs.LoopForm.{put_row}
 use Rattle.cdef_spec.specs.PlaneLaws.{row-none}
-use Rattle.trial_runs.specs.Runs.{runTap}
+use Rattle.trial_runs.specs.Runs.{run_tap}
 use Rattle.trial_any.specs.RowLaws.{entry_more}
 use Rattle.trial_any.proofs.put_block.Statement.{statement}
 use Rattle.trial_any.proofs.put_block.Tie as tie
@@ -13,7 +13,7 @@ use Rattle.trial_any.proofs.put_block.Reads as reads
 use Rattle.trial_any.proofs.put_block.Lts as lts
 
 abbrev invariant-loop : tie.invariant-loop
-invariant-loop out₀ t n v at j₀ out j = (out ≡ putRow out₀ 64 (runTap v 0) t 0 j) × (length out ≡ length out₀) × (j ≤ n)
+invariant-loop out₀ t n v at j₀ out j = (out ≡ put_row out₀ 64 (run_tap v 0) t 0 j) × (length out ≡ length out₀) × (j ≤ n)
 
 abbrev decreases-loop : tie.decreases-loop
 decreases-loop out₀ t n v at j₀ out j = n - j

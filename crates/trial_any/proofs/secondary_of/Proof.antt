@@ -1,7 +1,7 @@
 -- `trial_any::secondary_of` meets its contract.
 use mathlib.Core.Path.{◌∙◌}
 use borrow.Author.Tests.{eq-eqb, ne_eqb}
-use Rattle.trial_any.specs.Any.{secondaryBy}
+use Rattle.trial_any.specs.Any.{secondary_by}
 use borrow.Author.Rules.{rules}
 use Rattle.trial_any.proofs.secondary_of.Statement.{statement}
 use Rattle.trial_any.proofs.secondary_of.Tie as tie
@@ -13,15 +13,15 @@ no-strength-requires : tie.Need-no-strength-requires
 no-strength-requires c κs = search rules
 
 returns : tie.Need-returns
-unfolding secondaryBy
+unfolding secondary_by
 returns c = c.no-strength.ensures ∙ rw (eq-eqb _ 0 c.before.if1.true)
 
 returns-2 : tie.Need-returns-2
-unfolding secondaryBy
+unfolding secondary_by
 returns-2 c = rw (ne_eqb _ 0 c.before.before.if1.false, eq-eqb _ 1 c.before.if2.true)
 
 returns-3 : tie.Need-returns-3
-unfolding secondaryBy
+unfolding secondary_by
 returns-3 c = rw (ne_eqb _ 0 c.before.before.if1.false, ne_eqb _ 1 c.before.if2.false)
 
 pub secondary-of-spec : {M : Type 1} → statement M

@@ -3,9 +3,9 @@ use mathlib.Core.Path.{◌≡◌, refl, sym, ◌∙◌}
 use Prim.Native.Nat.{◌-◌, ◌*◌, ◌≤◌}
 use native.Mathlib.Omega.{arith}
 use lib.ListN.{length}
-use Rattle.cdef_spec.specs.LoopForm.{putBlock}
+use Rattle.cdef_spec.specs.LoopForm.{put_block}
 use Rattle.cdef_spec.specs.PlaneLaws.{block_none}
-use Rattle.trial_any.specs.Any.{anyTap}
+use Rattle.trial_any.specs.Any.{any_tap}
 use Rattle.trial_any.specs.RowLaws.{taps-in, primary-in, secondary-in, trials-more}
 use borrow.Author.Rules.{rules}
 use Rattle.trial_any.proofs.trials.Statement.{statement}
@@ -18,7 +18,7 @@ use Rattle.trial_any.proofs.taps_of.Reads as taps-of-reads
 use Rattle.trial_any.proofs.trial.Reads as trial-reads
 
 abbrev invariant-loop : tie.invariant-loop
-invariant-loop out₀ w h win u t₀ out t = (out ≡ putBlock out₀ 64 (anyTap win u w) 0 0 (h * w) t) × (length out ≡ length out₀) × (t ≤ 12)
+invariant-loop out₀ w h win u t₀ out t = (out ≡ put_block out₀ 64 (any_tap win u w) 0 0 (h * w) t) × (length out ≡ length out₀) × (t ≤ 12)
 
 abbrev decreases-loop : tie.decreases-loop
 decreases-loop out₀ w h win u t₀ out t = 12 - t

@@ -3,11 +3,11 @@ use mathlib.Core.Path.{◌≡◌, sym, ap, ◌∙◌}
 use Prim.Native.Nat.{ℕ, ◌+◌, ◌-◌, ◌*◌, ◌≤◌}
 use native.Mathlib.Omega.{arith}
 use lib.ListN.{length}
-use Rattle.cdef_spec.specs.LoopForm.{putBlock}
+use Rattle.cdef_spec.specs.LoopForm.{put_block}
 use Rattle.cdef_spec.specs.PlaneLaws.{length-put-block}
 use Rattle.trial_runs.specs.JoinLaws.{run_join}
 use Rattle.trial_block.specs.PackedLaws.{block_none}
-use Rattle.trial_sixteen.specs.Sixteen.{rawTap}
+use Rattle.trial_sixteen.specs.Sixteen.{raw_tap}
 use Rattle.trial_block.proofs.runs.Statement.{statement}
 use Rattle.trial_block.proofs.runs.Tie as tie
 use Rattle.trial_block.proofs.runs.Reads as reads
@@ -15,7 +15,7 @@ use Rattle.trial_block.proofs.runs.Lts as lts
 use Rattle.trial_sixteen.proofs.sixteen.Reads as sixteen-reads
 
 abbrev invariant-loop : tie.invariant-loop
-invariant-loop out₀ l from n own zero same u i₀ out i = (out ≡ putBlock out₀ 64 (rawTap l from own zero u) 0 0 (i * 16) 12) × (length out ≡ 768) × (i ≤ n)
+invariant-loop out₀ l from n own zero same u i₀ out i = (out ≡ put_block out₀ 64 (raw_tap l from own zero u) 0 0 (i * 16) 12) × (length out ≡ 768) × (i ≤ n)
 
 abbrev decreases-loop : tie.decreases-loop
 decreases-loop out₀ l from n own zero same u i₀ out i = n - i

@@ -6,7 +6,7 @@ use lib.ListN.{length, take, get_or, length-set}
 use lib.IntN.{pos, ◌+ℤ◌}
 use Rattle.arith_sample.specs.Upto.{upto, upto-none, upto-more, upto_all}
 use Rattle.arith_sample.proofs.Joins.{Is, add_ok, add_is, back_is}
-use Rattle.trial_runs.specs.Runs.{clippedAt}
+use Rattle.trial_runs.specs.Runs.{clipped_at}
 use Rattle.trial_runs.proofs.both_run.Statement.{statement}
 use Rattle.trial_runs.proofs.both_run.Tie as tie
 use Rattle.trial_runs.proofs.both_run.Reads as reads
@@ -15,7 +15,7 @@ use Rattle.arith_sample.proofs.add.Reads as add_reads
 use Rattle.arith_sample.proofs.clipped.Reads as clipped-reads
 
 abbrev invariant-loop : tie.invariant-loop
-invariant-loop c p s lo hi v₀ j₀ v j = (take j v ≡ upto (clippedAt c p s lo hi) j) × (length v ≡ 16) × (j ≤ 16)
+invariant-loop c p s lo hi v₀ j₀ v j = (take j v ≡ upto (clipped_at c p s lo hi) j) × (length v ≡ 16) × (j ≤ 16)
 
 abbrev decreases-loop : tie.decreases-loop
 decreases-loop c p s lo hi v₀ j₀ v j = 16 - j
@@ -79,7 +79,7 @@ loop-less : tie.Need-loop-smaller invariant-loop decreases-loop
 loop-less c = omega arith
 
 loop-again : tie.Need-loop-preserved invariant-loop decreases-loop
-unfolding clippedAt
+unfolding clipped_at
 loop-again c = let p = c.before.before.before.before.before.before.before.before in (upto-more _ _ _ _ p.loop.invariant.0 (omega arith) (c.clipped.ensures ∙ rw (back_is (sum_is c.before.before.before) (omega arith))), simp length-set p.loop.invariant.1, omega arith)
 
 returns : tie.Need-returns invariant-loop decreases-loop

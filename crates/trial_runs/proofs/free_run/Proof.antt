@@ -6,7 +6,7 @@ use lib.ListN.{length, take, get_or, length-set}
 use lib.IntN.{pos}
 use Rattle.arith_sample.specs.Upto.{upto, upto-none, upto-more, upto_all}
 use Rattle.arith_sample.proofs.Joins.{Is, back_is}
-use Rattle.trial_runs.specs.Runs.{raisedAt}
+use Rattle.trial_runs.specs.Runs.{raised_at}
 use Rattle.trial_runs.proofs.free_run.Statement.{statement}
 use Rattle.trial_runs.proofs.free_run.Tie as tie
 use Rattle.trial_runs.proofs.free_run.Reads as reads
@@ -14,7 +14,7 @@ use Rattle.trial_runs.proofs.free_run.Lts as lts
 use Rattle.arith_sample.proofs.raised.Reads as raised-reads
 
 abbrev invariant-loop : tie.invariant-loop
-invariant-loop c s v₀ j₀ v j = (take j v ≡ upto (raisedAt c s) j) × (length v ≡ 16) × (j ≤ 16)
+invariant-loop c s v₀ j₀ v j = (take j v ≡ upto (raised_at c s) j) × (length v ≡ 16) × (j ≤ 16)
 
 abbrev decreases-loop : tie.decreases-loop
 decreases-loop c s v₀ j₀ v j = 16 - j
@@ -54,7 +54,7 @@ loop-less : tie.Need-loop-smaller invariant-loop decreases-loop
 loop-less c = omega arith
 
 loop-again : tie.Need-loop-preserved invariant-loop decreases-loop
-unfolding raisedAt
+unfolding raised_at
 loop-again c = let p = c.before.before.before.before in (upto-more _ _ _ _ p.loop.invariant.0 (omega arith) (c.raised.ensures ∙ rw (back_is (sum_of c.before) (omega arith))), simp length-set p.loop.invariant.1, omega arith)
 
 returns : tie.Need-returns invariant-loop decreases-loop

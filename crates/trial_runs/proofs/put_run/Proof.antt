@@ -3,9 +3,9 @@ use mathlib.Core.Path.{◌≡◌, refl, sym, ◌∙◌}
 use Prim.Native.Nat.{◌-◌, ◌≤◌}
 use native.Mathlib.Omega.{arith}
 use lib.ListN.{length, length-set}
-use Rattle.cdef_spec.specs.LoopForm.{putRow}
+use Rattle.cdef_spec.specs.LoopForm.{put_row}
 use Rattle.cdef_spec.specs.PlaneLaws.{row-none}
-use Rattle.trial_runs.specs.Runs.{runTap}
+use Rattle.trial_runs.specs.Runs.{run_tap}
 use Rattle.trial_runs.specs.RunLaws.{run_more}
 use Rattle.trial_runs.proofs.put_run.Statement.{statement}
 use Rattle.trial_runs.proofs.put_run.Tie as tie
@@ -13,7 +13,7 @@ use Rattle.trial_runs.proofs.put_run.Reads as reads
 use Rattle.trial_runs.proofs.put_run.Lts as lts
 
 abbrev invariant-loop : tie.invariant-loop
-invariant-loop out₀ t k v at j₀ out j = (out ≡ putRow out₀ 64 (runTap v k) t k j) × (length out ≡ length out₀) × (j ≤ 16)
+invariant-loop out₀ t k v at j₀ out j = (out ≡ put_row out₀ 64 (run_tap v k) t k j) × (length out ≡ length out₀) × (j ≤ 16)
 
 abbrev decreases-loop : tie.decreases-loop
 decreases-loop out₀ t k v at j₀ out j = 16 - j

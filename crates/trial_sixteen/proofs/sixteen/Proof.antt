@@ -8,7 +8,7 @@ use Rattle.arith_sample.specs.Bounds.{Held, Within}
 use Rattle.arith_sample.specs.Upto.{upto, upto-ext}
 use Rattle.filter_rows.specs.declared.Taps.{Taps}
 use Rattle.trial_sums.specs.declared.SecSums.{SecSums}
-use Rattle.trial_sums.specs.Raw.{secRaw, SecKnown}
+use Rattle.trial_sums.specs.Raw.{sec_raw, SecKnown}
 use Rattle.trial_sixteen.specs.Sixteen.{PriWithin}
 use Rattle.trial_sixteen.specs.SixteenLaws.{Known, held-run, pri-within, sec-within, low_held, high_held, long-first, long-four, twelve-is}
 use borrow.Author.Rules.{rules}
@@ -25,7 +25,7 @@ use Rattle.trial_sums.proofs.pri_sums.Reads as pri-sums-reads
 use Rattle.trial_sums.proofs.sec_sums.Reads as sec-sums-reads
 
 -- the same sums with other taps
-same-sums : (l : List ℕ) (at : ℕ) (o t : Taps) (s sh z zh : ℕ) (r : SecSums) → SecKnown l at o s sh z zh r → ((i v vh : ℕ) → secRaw l i o v vh ≡ secRaw l i t v vh) → SecKnown l at t s sh z zh r
+same-sums : (l : List ℕ) (at : ℕ) (o t : Taps) (s sh z zh : ℕ) (r : SecSums) → SecKnown l at o s sh z zh r → ((i v vh : ℕ) → sec_raw l i o v vh ≡ sec_raw l i t v vh) → SecKnown l at t s sh z zh r
 same-sums l at o t s sh z zh r k e = record { s1-is = k.s1-is ∙ upto-ext _ _ 16 (λ j h. e (at + j) s sh); s2-is = k.s2-is ∙ upto-ext _ _ 16 (λ j h. e (at + j) z zh) }
 
 known : (c : tie.After-limits-of) → let a = c.before.before.before.before.before.before.before.args in Known a.l.now (a.from + a.k) a.own a.zero a.u c.before.before.before.before.centre.result c.before.before.before.pri-sums.result c.Limits-of.result c.before.zero-sums.result c.before.before.sec-sums.result

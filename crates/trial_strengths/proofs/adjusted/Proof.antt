@@ -1,7 +1,7 @@
 -- `trial_strengths::adjusted` meets its contract.
 use mathlib.Core.Path.{ap, sym, ◌∙◌}
 use Rattle.cdef_spec.specs.declared.TrialWay.{TrialWay}
-use Rattle.trial_strengths.specs.Strengths.{adjustedBy}
+use Rattle.trial_strengths.specs.Strengths.{adjusted_by}
 use borrow.Author.Rules.{rules}
 use Rattle.trial_strengths.proofs.adjusted.Statement.{statement}
 use Rattle.trial_strengths.proofs.adjusted.Tie as tie
@@ -19,12 +19,12 @@ enum_told : tie.Need-enum-told
 enum_told c = search rules
 
 returns : tie.Need-returns
-unfolding adjustedBy
-returns c = c.adjust-pri.ensures ∙ sym (ap (λ (w : TrialWay). adjustedBy w c.before.before.before.before.args.s) c.before.before.way.given.1)
+unfolding adjusted_by
+returns c = c.adjust-pri.ensures ∙ sym (ap (λ (w : TrialWay). adjusted_by w c.before.before.before.before.args.s) c.before.before.way.given.1)
 
 returns-2 : tie.Need-returns-2
-unfolding adjustedBy
-returns-2 c = sym (ap (λ (w : TrialWay). adjustedBy w c.before.before.args.s) c.enum_told.given.1)
+unfolding adjusted_by
+returns-2 c = sym (ap (λ (w : TrialWay). adjusted_by w c.before.before.args.s) c.enum_told.given.1)
 
 pub adjusted-spec : {M : Type 1} → statement M
 adjusted-spec = tie.close (tie.spec enum-known-way adjust-pri-requires enum_told returns returns-2)

@@ -7,7 +7,7 @@ use Rattle.arith_sample.specs.Upto.{upto, upto-none, upto-more, upto_all}
 use Rattle.arith_sample.proofs.Joins.{Is, scale_ok, scale-is, back_is}
 use Rattle.plane_taps.specs.ReachLaws.{reached-all}
 use Rattle.filter_rows.specs.Pairs.{pair_of}
-use Rattle.trial_sums.specs.Raw.{side_of, nearRaw}
+use Rattle.trial_sums.specs.Raw.{side_of, near_raw}
 use Rattle.trial_sums.specs.RawLaws.{held-pair, size-side}
 use Rattle.trial_sums.proofs.near_sums.Statement.{statement}
 use Rattle.trial_sums.proofs.near_sums.Tie as tie
@@ -18,7 +18,7 @@ use Rattle.plane_taps.proofs.load.load.Reads as load-reads
 use Rattle.trial_sums.proofs.side.Reads as side-reads
 
 abbrev invariant-loop : tie.invariant-loop
-invariant-loop t at o s sh z zh s1₀ s2₀ j₀ s1 s2 j = (take j s1 ≡ upto (λ (j : ℕ). nearRaw t (at + j) o s sh) j) × (take j s2 ≡ upto (λ (j : ℕ). nearRaw t (at + j) o z zh) j) × (length s1 ≡ 16) × (length s2 ≡ 16) × (j ≤ 16)
+invariant-loop t at o s sh z zh s1₀ s2₀ j₀ s1 s2 j = (take j s1 ≡ upto (λ (j : ℕ). near_raw t (at + j) o s sh) j) × (take j s2 ≡ upto (λ (j : ℕ). near_raw t (at + j) o z zh) j) × (length s1 ≡ 16) × (length s2 ≡ 16) × (j ≤ 16)
 
 abbrev decreases-loop : tie.decreases-loop
 decreases-loop t at o s sh z zh s1₀ s2₀ j₀ s1 s2 j = 16 - j
@@ -78,7 +78,7 @@ loop-less : tie.Need-loop-smaller invariant-loop decreases-loop
 loop-less c = omega arith
 
 loop-again : tie.Need-loop-preserved invariant-loop decreases-loop
-unfolding nearRaw
+unfolding near_raw
 loop-again c = let p = c.before.before.before.before.before.before.before.before in (upto-more _ _ _ _ p.loop.invariant.0 (omega arith) (back_is (scale-is {t = 2} (side-s c.before.before.before) (omega arith) (omega arith) (omega arith) (omega arith) c.before.before.scale.ensures) (omega arith)), upto-more _ _ _ _ p.loop.invariant.1 (omega arith) (back_is (scale-is {t = 2} (side-z c.before) (omega arith) (omega arith) (omega arith) (omega arith) c.scale2.ensures) (omega arith)), simp length-set p.loop.invariant.2, simp length-set p.loop.invariant.3, omega arith)
 
 returns : tie.Need-returns invariant-loop decreases-loop

@@ -6,7 +6,7 @@ use lib.ListN.{get_or, length, take, length-set}
 use Rattle.arith_sample.specs.Upto.{upto, upto-none, upto-more, upto_all}
 use Rattle.arith_sample.proofs.Joins.{back_is}
 use Rattle.plane_taps.specs.ReachLaws.{reached-all}
-use Rattle.trial_sums.specs.Raw.{priRaw}
+use Rattle.trial_sums.specs.Raw.{pri_raw}
 use Rattle.trial_sums.specs.RawLaws.{held-pair, size-raw}
 use Rattle.trial_sums.proofs.pri_one.Statement.{statement}
 use Rattle.trial_sums.proofs.pri_one.Tie as tie
@@ -16,13 +16,13 @@ use Rattle.plane_taps.proofs.load.load.Reads as load-reads
 use Rattle.plane_taps.proofs.plain.pri_sum.Reads as pri-sum-reads
 
 abbrev invariant-loop : tie.invariant-loop
-invariant-loop t at o f p₀ j₀ p j = (take j p ≡ upto (λ (j : ℕ). priRaw t (at + j) o f) j) × (length p ≡ 16) × (j ≤ 16)
+invariant-loop t at o f p₀ j₀ p j = (take j p ≡ upto (λ (j : ℕ). pri_raw t (at + j) o f) j) × (length p ≡ 16) × (j ≤ 16)
 
 abbrev decreases-loop : tie.decreases-loop
 decreases-loop t at o f p₀ j₀ p j = 16 - j
 
-sum_is : (c : tie.After-pri-sum invariant-loop decreases-loop) → let p = c.before.before.before.before.before in let a = p.before.before.args in c.pri-sum.result ≡ priRaw a.t.now (a.at + p.loop.j) a.o a.f
-unfolding priRaw
+sum_is : (c : tie.After-pri-sum invariant-loop decreases-loop) → let p = c.before.before.before.before.before in let a = p.before.before.args in c.pri-sum.result ≡ pri_raw a.t.now (a.at + p.loop.j) a.o a.f
+unfolding pri_raw
 sum_is c = c.pri-sum.ensures ∙ rw (c.before.before.load.ensures, c.before.load2.ensures)
 
 loop-holds : tie.Need-loop-init invariant-loop decreases-loop

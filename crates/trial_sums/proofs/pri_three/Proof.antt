@@ -6,7 +6,7 @@ use lib.ListN.{get_or, length, take, length-set}
 use Rattle.arith_sample.specs.Upto.{upto, upto-none, upto-more, upto_all}
 use Rattle.arith_sample.proofs.Joins.{back_is}
 use Rattle.plane_taps.specs.ReachLaws.{reached-all}
-use Rattle.trial_sums.specs.Raw.{priRaw}
+use Rattle.trial_sums.specs.Raw.{pri_raw}
 use Rattle.trial_sums.specs.RawLaws.{held-pair, size-raw}
 use Rattle.trial_sums.proofs.pri_three.Statement.{statement}
 use Rattle.trial_sums.proofs.pri_three.Tie as tie
@@ -16,7 +16,7 @@ use Rattle.plane_taps.proofs.load.load.Reads as load-reads
 use Rattle.plane_taps.proofs.plain.pri_sum.Reads as pri-sum-reads
 
 abbrev invariant-loop : tie.invariant-loop
-invariant-loop t at o f g h p1₀ p2₀ p3₀ j₀ p1 p2 p3 j = (take j p1 ≡ upto (λ (j : ℕ). priRaw t (at + j) o f) j) × (take j p2 ≡ upto (λ (j : ℕ). priRaw t (at + j) o g) j) × (take j p3 ≡ upto (λ (j : ℕ). priRaw t (at + j) o h) j) × (length p1 ≡ 16) × (length p2 ≡ 16) × (length p3 ≡ 16) × (j ≤ 16)
+invariant-loop t at o f g h p1₀ p2₀ p3₀ j₀ p1 p2 p3 j = (take j p1 ≡ upto (λ (j : ℕ). pri_raw t (at + j) o f) j) × (take j p2 ≡ upto (λ (j : ℕ). pri_raw t (at + j) o g) j) × (take j p3 ≡ upto (λ (j : ℕ). pri_raw t (at + j) o h) j) × (length p1 ≡ 16) × (length p2 ≡ 16) × (length p3 ≡ 16) × (j ≤ 16)
 
 abbrev decreases-loop : tie.decreases-loop
 decreases-loop t at o f g h p1₀ p2₀ p3₀ j₀ p1 p2 p3 j = 16 - j
@@ -24,16 +24,16 @@ decreases-loop t at o f g h p1₀ p2₀ p3₀ j₀ p1 p2 p3 j = 16 - j
 inside : (c : tie.In-loop invariant-loop decreases-loop) → suc c.before.loop.j ≤ 16
 inside c = omega arith
 
-sum-f : (c : tie.After-pri-sum invariant-loop decreases-loop) → let p = c.before.before.before.before.before in let a = p.before.before.args in c.pri-sum.result ≡ priRaw a.t.now (a.at + p.loop.j) a.o a.f
-unfolding priRaw
+sum-f : (c : tie.After-pri-sum invariant-loop decreases-loop) → let p = c.before.before.before.before.before in let a = p.before.before.args in c.pri-sum.result ≡ pri_raw a.t.now (a.at + p.loop.j) a.o a.f
+unfolding pri_raw
 sum-f c = c.pri-sum.ensures ∙ rw (c.before.before.load.ensures, c.before.load2.ensures)
 
-sum-g : (c : tie.After-pri-sum2 invariant-loop decreases-loop) → let p = c.before.before.before.before.before.before in let a = p.before.before.args in c.pri-sum2.result ≡ priRaw a.t.now (a.at + p.loop.j) a.o a.g
-unfolding priRaw
+sum-g : (c : tie.After-pri-sum2 invariant-loop decreases-loop) → let p = c.before.before.before.before.before.before in let a = p.before.before.args in c.pri-sum2.result ≡ pri_raw a.t.now (a.at + p.loop.j) a.o a.g
+unfolding pri_raw
 sum-g c = c.pri-sum2.ensures ∙ rw (c.before.before.before.load.ensures, c.before.before.load2.ensures)
 
-sum-h : (c : tie.After-pri-sum3 invariant-loop decreases-loop) → let p = c.before.before.before.before.before.before.before in let a = p.before.before.args in c.pri-sum3.result ≡ priRaw a.t.now (a.at + p.loop.j) a.o a.h
-unfolding priRaw
+sum-h : (c : tie.After-pri-sum3 invariant-loop decreases-loop) → let p = c.before.before.before.before.before.before.before in let a = p.before.before.args in c.pri-sum3.result ≡ pri_raw a.t.now (a.at + p.loop.j) a.o a.h
+unfolding pri_raw
 sum-h c = c.pri-sum3.ensures ∙ rw (c.before.before.before.before.load.ensures, c.before.before.before.load2.ensures)
 
 loop-holds : tie.Need-loop-init invariant-loop decreases-loop

@@ -4,11 +4,11 @@ use Prim.Native.Nat.{ℕ, suc, ◌+◌, ◌-◌, ◌*◌, ◌≤◌}
 use native.Mathlib.Omega.{arith}
 use lib.ListN.{get_or, length, take, length-set}
 use lib.IntN.{pos}
-use Rattle.arith_sample.specs.Upto.{upto, upto-none, upto-more, upto_all, getD-upto}
+use Rattle.arith_sample.specs.Upto.{upto, upto-none, upto-more, upto_all, get_or-upto}
 use Rattle.arith_sample.proofs.Joins.{Is, add_ok, add_is, back_is}
 use Rattle.plane_taps.specs.ReachLaws.{reached-all}
 use Rattle.filter_rows.specs.Pairs.{pair_of}
-use Rattle.trial_sums.specs.Raw.{side_of, nearRaw, secRaw}
+use Rattle.trial_sums.specs.Raw.{side_of, near_raw, sec_raw}
 use Rattle.trial_sums.specs.RawLaws.{held-pair, size-side, size-near}
 use Rattle.trial_sums.proofs.sec_sums.Statement.{statement}
 use Rattle.trial_sums.proofs.sec_sums.Tie as tie
@@ -20,7 +20,7 @@ use Rattle.trial_sums.proofs.near_sums.Reads as near-sums-reads
 use Rattle.trial_sums.proofs.side.Reads as side-reads
 
 abbrev invariant-loop : tie.invariant-loop
-invariant-loop t at o s sh z zh n1 n2 s1₀ s2₀ j₀ s1 s2 j = (take j s1 ≡ upto (λ (j : ℕ). secRaw t (at + j) o s sh) j) × (take j s2 ≡ upto (λ (j : ℕ). secRaw t (at + j) o z zh) j) × (length s1 ≡ 16) × (length s2 ≡ 16) × (j ≤ 16)
+invariant-loop t at o s sh z zh n1 n2 s1₀ s2₀ j₀ s1 s2 j = (take j s1 ≡ upto (λ (j : ℕ). sec_raw t (at + j) o s sh) j) × (take j s2 ≡ upto (λ (j : ℕ). sec_raw t (at + j) o z zh) j) × (length s1 ≡ 16) × (length s2 ≡ 16) × (j ≤ 16)
 
 abbrev decreases-loop : tie.decreases-loop
 decreases-loop t at o s sh z zh n1 n2 s1₀ s2₀ j₀ s1 s2 j = 16 - j
@@ -31,11 +31,11 @@ near-sums-requires c κs = let s = c.before in (s.requires.0, s.requires.1, s.re
 inside : (c : tie.In-loop invariant-loop decreases-loop) → suc c.before.loop.j ≤ 16
 inside c = omega arith
 
-near-s : (c : tie.In-loop invariant-loop decreases-loop) → let p = c.before in let a = p.before.before.before.before.before.args in Is (get_or p.before.before.before.near-sums.result.s1 p.loop.j (pos 0)) (nearRaw a.t.now (a.at + p.loop.j) a.o a.s a.sh) 1920
-near-s c = let p = c.before in record { is = rw p.before.before.before.near-sums.ensures.s1-is (getD-upto _ 16 p.loop.j (pos 0) (omega arith)); small = size-near _ _ _ _ _ p.before.before.before.before.before.requires.2 }
+near-s : (c : tie.In-loop invariant-loop decreases-loop) → let p = c.before in let a = p.before.before.before.before.before.args in Is (get_or p.before.before.before.near-sums.result.s1 p.loop.j (pos 0)) (near_raw a.t.now (a.at + p.loop.j) a.o a.s a.sh) 1920
+near-s c = let p = c.before in record { is = rw p.before.before.before.near-sums.ensures.s1-is (get_or-upto _ 16 p.loop.j (pos 0) (omega arith)); small = size-near _ _ _ _ _ p.before.before.before.before.before.requires.2 }
 
-near-z : (c : tie.In-loop invariant-loop decreases-loop) → let p = c.before in let a = p.before.before.before.before.before.args in Is (get_or p.before.before.before.near-sums.result.s2 p.loop.j (pos 0)) (nearRaw a.t.now (a.at + p.loop.j) a.o a.z a.zh) 1920
-near-z c = let p = c.before in record { is = rw p.before.before.before.near-sums.ensures.s2-is (getD-upto _ 16 p.loop.j (pos 0) (omega arith)); small = size-near _ _ _ _ _ p.before.before.before.before.before.requires.4 }
+near-z : (c : tie.In-loop invariant-loop decreases-loop) → let p = c.before in let a = p.before.before.before.before.before.args in Is (get_or p.before.before.before.near-sums.result.s2 p.loop.j (pos 0)) (near_raw a.t.now (a.at + p.loop.j) a.o a.z a.zh) 1920
+near-z c = let p = c.before in record { is = rw p.before.before.before.near-sums.ensures.s2-is (get_or-upto _ 16 p.loop.j (pos 0) (omega arith)); small = size-near _ _ _ _ _ p.before.before.before.before.before.requires.4 }
 
 far-s : (c : tie.After-side invariant-loop decreases-loop) → let p = c.before.before.before.before.before.before in let a = p.before.before.before.before.before.args in let k = a.at + p.loop.j in Is c.side.result (side_of (pair_of a.t.now k a.o.q1) (pair_of a.t.now k a.o.r1) (get_or a.t.now k 0) a.s a.sh) 960
 far-s c = let p = c.before.before.before.before.before.before in record { is = c.side.ensures ∙ rw (c.before.before.before.load.ensures, c.before.before.load2.ensures); small = size-side _ _ _ _ _ p.before.before.before.before.before.requires.2 }
@@ -104,7 +104,7 @@ loop-less : tie.Need-loop-smaller invariant-loop decreases-loop
 loop-less c = omega arith
 
 loop-again : tie.Need-loop-preserved invariant-loop decreases-loop
-unfolding secRaw
+unfolding sec_raw
 loop-again c = let p = c.before.before.before.before.before.before.before.before.before.before in let n = c.before.before.before.before.before.before.before.before.before in (
   upto-more _ _ _ _ p.loop.invariant.0 (omega (arith, inside n, p.loop.invariant.2)) (back_is (add_is (near-s n) (far-s c.before.before.before.before) (omega arith) c.before.before.before.add.ensures) (omega arith)),
   upto-more _ _ _ _ p.loop.invariant.1 (omega (arith, inside n, p.loop.invariant.3)) (back_is (add_is (near-z n) (far-z c.before) (omega arith) c.add2.ensures) (omega arith)),

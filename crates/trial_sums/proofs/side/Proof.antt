@@ -1,7 +1,7 @@
 -- `trial_sums::side` meets its contract.
 use native.Mathlib.Omega.{arith}
 use Rattle.arith_sample.proofs.Joins.{Is, add_ok, add_is, back_is}
-use Rattle.plane_taps.specs.Plain.{pairPlain}
+use Rattle.plane_taps.specs.Plain.{pair_plain}
 use Rattle.plane_taps.specs.PlainLaws.{size-pair}
 use Rattle.trial_sums.specs.Raw.{side_of}
 use borrow.Author.Rules.{rules}
@@ -12,10 +12,10 @@ use Rattle.trial_sums.proofs.side.Lts as lts
 use Rattle.arith_sample.proofs.add.Reads as add_reads
 use Rattle.plane_taps.proofs.plain.pair_sum.Reads as pair-sum-reads
 
-one : (c : tie.After-pair-sum) → let a = c.before.args in Is c.pair-sum.result (pairPlain a.q a.c a.s a.sh) 480
+one : (c : tie.After-pair-sum) → let a = c.before.args in Is c.pair-sum.result (pair_plain a.q a.c a.s a.sh) 480
 one c = let s = c.before in record { is = c.pair-sum.ensures; small = size-pair s.args.q s.args.c s.args.s s.args.sh s.requires.3 }
 
-other : (c : tie.After-pair-sum2) → let a = c.before.before.args in Is c.pair-sum2.result (pairPlain a.r a.c a.s a.sh) 480
+other : (c : tie.After-pair-sum2) → let a = c.before.before.args in Is c.pair-sum2.result (pair_plain a.r a.c a.s a.sh) 480
 other c = let s = c.before.before in record { is = c.pair-sum2.ensures; small = size-pair s.args.r s.args.c s.args.s s.args.sh s.requires.3 }
 
 pair-sum-requires : tie.Need-pair-sum-requires

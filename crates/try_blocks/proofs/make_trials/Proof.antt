@@ -6,7 +6,7 @@ use borrow.Author.Rules.{rules}
 use Prim.Native.Nat.{◌/◌}
 use native.Mathlib.Nat.{mul-le-mul}
 use Rattle.frame_shape.specs.FrameLaws.{side-facts}
-use Rattle.frame_shape.specs.Lent.{blocksOf, Listed}
+use Rattle.frame_shape.specs.Lent.{blocks_of, Listed}
 use Rattle.frame_shape.specs.BlockLaws.{counts-low, number-low, block_in, window-low}
 use Rattle.try_blocks.specs.TrialBlockLaws.{dir-low, damping-low, trials-are}
 use Rattle.try_blocks.proofs.make_trials.Statement.{statement}
@@ -16,7 +16,7 @@ listed : (s : tie.Start) → Listed s.args.f s.requires.1.0 s.args.dirs.now s.ar
 listed s = s.requires.1.1
 
 -- the block's index
-number : (s : tie.Start) → let a = s.args in a.by * (a.f.width / 8) + a.bx < blocksOf a.f
+number : (s : tie.Start) → let a = s.args in a.by * (a.f.width / 8) + a.bx < blocks_of a.f
 number s = let a = s.args in let p = s.requires.0 in number-low a.f p.0 s.requires.1.0 a.dirs.now a.vars.now a.by a.bx p.3 p.4
 
 few : (s : tie.Start) → let a = s.args in a.by * (a.f.width / 8) + a.bx < 512 * 512

@@ -8,11 +8,11 @@ use Prim.Native.Nat.{◌/◌, ◌^◌}
 use lib.ListN.{length}
 use borrow.Author.Tests.{not-true, not-false}
 use Rattle.cdef_spec.specs.LoopForm.{signed}
-use Rattle.cdef_spec.specs.Picture.{Picture, planeWidth, blockWidth, counted, unit_at, units}
-use Rattle.frame_shape.specs.Frame.{pictureOf}
+use Rattle.cdef_spec.specs.Picture.{Picture, plane_width, block_width, counted, unit_at, units}
+use Rattle.frame_shape.specs.Frame.{picture_of}
 use Rattle.arith_totals.specs.Turns.{Low}
 use Rattle.try_one.specs.Trying.{Ready}
-use Rattle.try_blocks.specs.TrialBlocks.{visiblePart}
+use Rattle.try_blocks.specs.TrialBlocks.{visible_part}
 use Rattle.try_blocks.specs.TrialBlockLaws.{block-parts}
 use Rattle.try_one.specs.DistanceLaws.{part-sides, part_step, part_held, begin-low, trials-held}
 use Rattle.try_one.specs.TryLaws.{begun, blocks-pass, blocks-long, low, asked, units-low, base-in, added}
@@ -20,7 +20,7 @@ use Rattle.try_one.proofs.try_block.Statement.{statement}
 use Rattle.try_one.proofs.try_block.Tie as tie
 
 abbrev picture : tie.Start → Picture
-picture s = let a = s.args in pictureOf a.f a.skip.now a.dirs.now a.vars.now
+picture s = let a = s.args in picture_of a.f a.skip.now a.dirs.now a.vars.now
 
 ready : (s : tie.Start) → let a = s.args in Ready a.f a.v a.d a.snapshot.now a.original.now a.skip.now a.dirs.now a.vars.now
 ready s = s.requires.0.0
@@ -39,13 +39,13 @@ long s = ap length s.requires.1 ∙ blocks-long _ _ _ _ _ _ _
 low-now : (s : tie.Start) → Low s.args.totals.now
 low-now s = rw s.requires.1 (low _ _ _ _ _ _ _ _ (ready s) _ _ s.requires.0.2 (omega (arith, s.requires.0.3)))
 
-part : (c : tie.After-visible-part) → let s = c.before.before.before.before.before.before.before.before.before.before.before.before.before in c.visible-part.result ≡ visiblePart (picture s) s.args.v s.args.by s.args.bx
+part : (c : tie.After-visible-part) → let s = c.before.before.before.before.before.before.before.before.before.before.before.before.before in c.visible-part.result ≡ visible_part (picture s) s.args.v s.args.by s.args.bx
 part c = let a = c.before.before.before.before.before.before.before.before.before.before.before.before.before.args in c.visible-part.ensures a.skip.now a.dirs.now a.vars.now
 
-wide : (c : tie.After-plane-width) → c.plane-width.result ≡ planeWidth (picture c.before.before.before.before.before.before.before.before.before.before.before.before.before.before.before)
+wide : (c : tie.After-plane-width) → c.plane-width.result ≡ plane_width (picture c.before.before.before.before.before.before.before.before.before.before.before.before.before.before.before)
 wide c = let a = c.before.before.before.before.before.before.before.before.before.before.before.before.before.before.before.args in c.plane-width.ensures a.skip.now a.dirs.now a.vars.now
 
-step : (c : tie.After-block-of) → c.Block-of.result.width ≡ blockWidth (picture c.before.before.before.before.before.before.before.before.before.before.before.before.before.before)
+step : (c : tie.After-block-of) → c.Block-of.result.width ≡ block_width (picture c.before.before.before.before.before.before.before.before.before.before.before.before.before.before)
 step c = let a = c.before.before.before.before.before.before.before.before.before.before.before.before.before.before.args in (block-parts _ _ _ _ (c.Block-of.ensures a.skip.now a.dirs.now a.vars.now)).2
 
 unit : (c : tie.After-unit-at) → let s = c.before.before.before.before.before.before.before.before.before.before.before.before.before.before.before.before in c.unit-at.result ≡ unit_at (picture s) s.args.by s.args.bx

@@ -6,7 +6,7 @@ use native.Mathlib.Omega.{arith}
 use lib.ListN.{length, take, length-set}
 use Rattle.arith_numbers.specs.PackedLaws.{width_low, runs-are, area, few}
 use Rattle.arith_sample.specs.Upto.{upto, upto-none, upto-more, upto_all}
-use Rattle.try_packed.specs.Rows.{packedDistances}
+use Rattle.try_packed.specs.Rows.{packed_distances}
 use Rattle.try_packed.specs.RowLaws.{both-low, rows-squares, runs-held}
 use Rattle.try_packed.proofs.packed_distances.Statement.{statement}
 use Rattle.try_packed.proofs.packed_distances.Tie as tie
@@ -16,7 +16,7 @@ use Rattle.try_packed.proofs.pack.Reads as pack-reads
 use Rattle.try_packed.proofs.squares_of.Reads as squares-of-reads
 
 abbrev invariant-loop : tie.invariant-loop
-invariant-loop original at pitch blocks rows cols a n d₀ t₀ d t = (take t d ≡ upto (packedDistances original at pitch blocks rows cols) t) × (length d ≡ 12) × (t ≤ 12)
+invariant-loop original at pitch blocks rows cols a n d₀ t₀ d t = (take t d ≡ upto (packed_distances original at pitch blocks rows cols) t) × (length d ≡ 12) × (t ≤ 12)
 
 abbrev decreases-loop : tie.decreases-loop
 decreases-loop original at pitch blocks rows cols a n d₀ t₀ d t = 12 - t
@@ -60,7 +60,7 @@ loop-again c =
     let s = c.before.before.before.before.before.before.before in
     let l = c.before.before.before.loop in
     let e = rows-squares _ s.args.blocks.now _ _ _ (l.t * 64) _ _ s.requires.0 c.before.before.before.before.pack.ensures in
-    (upto-more _ _ _ _ l.invariant.0 (omega arith) (unfold packedDistances in c.squares-of.ensures ∙ rw (runs-are _ _ s.requires.0) e), simp length-set l.invariant.1, omega arith)
+    (upto-more _ _ _ _ l.invariant.0 (omega arith) (unfold packed_distances in c.squares-of.ensures ∙ rw (runs-are _ _ s.requires.0) e), simp length-set l.invariant.1, omega arith)
 
 returns : tie.Need-returns invariant-loop decreases-loop
 returns c = let l = c.before.loop in upto_all _ _ 12 _ l.invariant.0 l.invariant.1 (omega arith)

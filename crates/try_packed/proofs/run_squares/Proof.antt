@@ -9,7 +9,7 @@ use borrow.Author.Rules.{rules}
 use Rattle.cdef_spec.specs.SignedLaws.{back, size-diff}
 use Rattle.cdef_spec.specs.Words.{sum}
 use Rattle.cdef_spec.specs.Standard.{square}
-use Rattle.cdef_spec.specs.Distance.{squaredDifference}
+use Rattle.cdef_spec.specs.Distance.{squared_difference}
 use Rattle.distance_sums.specs.SumLaws.{sum-none, sum_more, difference-square}
 use Rattle.try_packed.specs.RowLaws.{square-high}
 use Rattle.try_packed.proofs.run_squares.Statement.{statement}
@@ -20,14 +20,14 @@ use Rattle.arith_numbers.proofs.difference.Reads as difference-reads
 use Rattle.arith_numbers.proofs.square_of.Reads as square-of-reads
 
 abbrev invariant-loop : tie.invariant-loop
-invariant-loop a k s from t₀ j₀ t j = (t ≡ sum j (λ n. squaredDifference (get_or a (k + n) 0) (get_or s (from + n) 0))) × (j ≤ 16) × (t ≤ j * 16769025)
+invariant-loop a k s from t₀ j₀ t j = (t ≡ sum j (λ n. squared_difference (get_or a (k + n) 0) (get_or s (from + n) 0))) × (j ≤ 16) × (t ≤ j * 16769025)
 
 abbrev decreases-loop : tie.decreases-loop
 decreases-loop a k s from t₀ j₀ t j = 16 - j
 
 -- the square of an iteration
 one : (c : tie.After-square-of invariant-loop decreases-loop) → let a = c.before.before.before.before.before.before.before.args in let j = c.before.before.before.before.before.loop.j in
-    let v = squaredDifference (get_or a.a.now (a.k + j) 0) (get_or a.s.now (a.from + j) 0) in
+    let v = squared_difference (get_or a.a.now (a.k + j) 0) (get_or a.s.now (a.from + j) 0) in
     (c.square-of.result ≡ v) × (v ≤ 16769025)
 one c =
     let s = c.before.before.before.before.before.before.before in

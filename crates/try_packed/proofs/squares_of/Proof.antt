@@ -5,7 +5,7 @@ use native.Mathlib.Omega.{arith}
 use lib.ListN.{get_or, length}
 use Rattle.cdef_spec.specs.Words.{sum}
 use Rattle.distance_sums.specs.SumLaws.{sum-none, sum_more}
-use Rattle.try_packed.specs.RowLaws.{runSquares, run_is, runs-all, run-high}
+use Rattle.try_packed.specs.RowLaws.{run_squares, run_is, runs-all, run-high}
 use Rattle.try_packed.proofs.squares_of.Statement.{statement}
 use Rattle.try_packed.proofs.squares_of.Tie as tie
 use Rattle.try_packed.proofs.squares_of.Reads as reads
@@ -13,7 +13,7 @@ use Rattle.try_packed.proofs.squares_of.Lts as lts
 use Rattle.try_packed.proofs.run_squares.Reads as run-squares-reads
 
 abbrev invariant-loop : tie.invariant-loop
-invariant-loop a n s from t₀ i₀ t i = (t ≡ sum i (runSquares a s from)) × (i ≤ n) × (t ≤ i * 268304400)
+invariant-loop a n s from t₀ i₀ t i = (t ≡ sum i (run_squares a s from)) × (i ≤ n) × (t ≤ i * 268304400)
 
 abbrev decreases-loop : tie.decreases-loop
 decreases-loop a n s from t₀ i₀ t i = n - i
@@ -31,7 +31,7 @@ samples c j h =
     (l.0, rw z l.1)
 
 -- the squares of an iteration
-one : (c : tie.After-run-squares invariant-loop decreases-loop) → let a = c.before.before.before.before.args in let v = runSquares a.a.now a.s.now a.from c.before.before.loop.i in
+one : (c : tie.After-run-squares invariant-loop decreases-loop) → let a = c.before.before.before.before.args in let v = run_squares a.a.now a.s.now a.from c.before.before.loop.i in
     (c.run-squares.result ≡ v) × (v ≤ 268304400)
 one c =
     let p = c.before.before.before.before.requires.1 in

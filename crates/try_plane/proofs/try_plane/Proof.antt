@@ -6,15 +6,15 @@ use borrow.Author.Rules.{rules}
 use Prim.Native.Nat.{◌/◌}
 use lib.ListN.{length}
 use Rattle.cdef_spec.specs.LoopForm.{signed}
-use Rattle.frame_shape.specs.Frame.{pictureOf}
-use Rattle.try_one.specs.Trying.{Ready, triedRows}
+use Rattle.frame_shape.specs.Frame.{picture_of}
+use Rattle.try_one.specs.Trying.{Ready, tried_rows}
 use Rattle.try_one.specs.TryLaws.{plane-none, plane-all}
 use Rattle.try_plane.proofs.try_plane.Statement.{statement}
 use Rattle.try_plane.proofs.try_plane.Tie as tie
 
 abbrev invariant-loop : tie.invariant-loop
 invariant-loop totals₀ snapshot original f v skip dirs vars d blocks₀ c by₀ by_end totals blocks by =
-    (totals ≡ signed (triedRows (pictureOf f skip dirs vars) d v snapshot original by)) × (length blocks ≡ 768) × (by ≤ f.height / 8) × (length totals ≡ length totals₀)
+    (totals ≡ signed (tried_rows (picture_of f skip dirs vars) d v snapshot original by)) × (length blocks ≡ 768) × (by ≤ f.height / 8) × (length totals ≡ length totals₀)
 
 abbrev decreases-loop : tie.decreases-loop
 decreases-loop totals₀ snapshot original f v skip dirs vars d blocks₀ c by₀ by_end totals blocks by = f.height / 8 - by

@@ -6,15 +6,15 @@ use borrow.Author.Rules.{rules}
 use Prim.Native.Nat.{◌/◌}
 use lib.ListN.{length}
 use Rattle.cdef_spec.specs.LoopForm.{signed}
-use Rattle.frame_shape.specs.Frame.{pictureOf}
-use Rattle.try_one.specs.Trying.{triedBlocks}
+use Rattle.frame_shape.specs.Frame.{picture_of}
+use Rattle.try_one.specs.Trying.{tried_blocks}
 use Rattle.try_one.specs.TryLaws.{blocks-none, row-all}
 use Rattle.try_plane.proofs.try_row.Statement.{statement}
 use Rattle.try_plane.proofs.try_row.Tie as tie
 
 abbrev invariant-loop : tie.invariant-loop
 invariant-loop totals₀ blocks₀ snapshot original f v skip dirs vars d by c bx₀ bx-end totals blocks bx =
-    (totals ≡ signed (triedBlocks (pictureOf f skip dirs vars) d v snapshot original by bx)) × (length totals ≡ length totals₀) × (length blocks ≡ length blocks₀) × (bx ≤ f.width / 8)
+    (totals ≡ signed (tried_blocks (picture_of f skip dirs vars) d v snapshot original by bx)) × (length totals ≡ length totals₀) × (length blocks ≡ length blocks₀) × (bx ≤ f.width / 8)
 
 abbrev decreases-loop : tie.decreases-loop
 decreases-loop totals₀ blocks₀ snapshot original f v skip dirs vars d by c bx₀ bx-end totals blocks bx = f.width / 8 - bx

@@ -3,7 +3,7 @@ use mathlib.Core.Path.{ap, ◌∙◌}
 use Prim.Native.Nat.{ℕ, ◌^◌, ◌<◌}
 use Rattle.cdef_spec.specs.LoopForm.{signed}
 use Rattle.distance_visible.specs.CutLaws.{cut-within}
-use Rattle.try_totals.specs.Totals.{trialDistances}
+use Rattle.try_totals.specs.Totals.{trial_distances}
 use Rattle.try_totals.specs.SameLaws.{listed-turns, listed-low}
 use borrow.Author.Rules.{rules}
 use Rattle.try_totals.proofs.add_trials.Statement.{statement}
@@ -17,8 +17,8 @@ distances-requires : tie.Need-distances-requires
 distances-requires c κs = search rules
 
 -- each distance is below 2 ^ 53
-each : (s : tie.Start) (k : ℕ) → k < 12 → let a = s.args in trialDistances a.luma a.c a.rows a.cols a.original.now a.at a.pitch a.blocks.now a.step k < 2 ^ 53
-unfolding trialDistances
+each : (s : tie.Start) (k : ℕ) → k < 12 → let a = s.args in trial_distances a.luma a.c a.rows a.cols a.original.now a.at a.pitch a.blocks.now a.step k < 2 ^ 53
+unfolding trial_distances
 each s k h = let p = s.requires.1 in cut-within _ _ p.0 _ _ _ _ _ _ _ _ s.requires.0.2 s.requires.0.3 p.1 p.2 (p.3 k h)
 
 add-twelve-requires : tie.Need-add-twelve-requires

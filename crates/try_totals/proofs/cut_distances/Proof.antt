@@ -4,7 +4,7 @@ use Prim.Native.Nat.{ℕ, ◌-◌, ◌≤◌}
 use native.Mathlib.Omega.{arith}
 use lib.ListN.{length, take, length-set}
 use Rattle.arith_sample.specs.Upto.{upto, upto-none, upto-more, upto_all}
-use Rattle.try_totals.specs.Totals.{trialDistances}
+use Rattle.try_totals.specs.Totals.{trial_distances}
 use Rattle.try_totals.proofs.cut_distances.Statement.{statement}
 use Rattle.try_totals.proofs.cut_distances.Tie as tie
 use Rattle.try_totals.proofs.cut_distances.Reads as reads
@@ -12,7 +12,7 @@ use Rattle.try_totals.proofs.cut_distances.Lts as lts
 use Rattle.distance_visible.proofs.distance_cut.Reads as distance-cut-reads
 
 abbrev invariant-loop : tie.invariant-loop
-invariant-loop original at pitch blocks step rows cols luma c d₀ t₀ d t = (take t d ≡ upto (trialDistances luma c rows cols original at pitch blocks step) t) × (length d ≡ 12) × (t ≤ 12)
+invariant-loop original at pitch blocks step rows cols luma c d₀ t₀ d t = (take t d ≡ upto (trial_distances luma c rows cols original at pitch blocks step) t) × (length d ≡ 12) × (t ≤ 12)
 
 abbrev decreases-loop : tie.decreases-loop
 decreases-loop original at pitch blocks step rows cols luma c d₀ t₀ d t = 12 - t
@@ -39,7 +39,7 @@ loop-less : tie.Need-loop-smaller invariant-loop decreases-loop
 loop-less c = omega arith
 
 loop-again : tie.Need-loop-preserved invariant-loop decreases-loop
-loop-again c = let l = c.before.before.loop in (upto-more _ _ _ _ l.invariant.0 (omega arith) (unfold trialDistances in c.distance-cut.ensures.0), simp length-set l.invariant.1, omega arith)
+loop-again c = let l = c.before.before.loop in (upto-more _ _ _ _ l.invariant.0 (omega arith) (unfold trial_distances in c.distance-cut.ensures.0), simp length-set l.invariant.1, omega arith)
 
 returns : tie.Need-returns invariant-loop decreases-loop
 returns c = let l = c.before.loop in upto_all _ _ 12 _ l.invariant.0 l.invariant.1 (omega arith)

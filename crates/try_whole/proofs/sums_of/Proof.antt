@@ -7,7 +7,7 @@ use Rattle.cdef_spec.specs.Distance.{spread, squares}
 use Rattle.arith_sample.specs.Upto.{upto, upto-none, upto-more, upto_all}
 use Rattle.distance_sums.specs.Blocks.{at, cell, Below, Within}
 use Rattle.distance_sums.specs.BlockLaws.{below-4096}
-use Rattle.try_whole.specs.Whole.{spreadsOf, errorsOf}
+use Rattle.try_whole.specs.Whole.{spreads_of, errors_of}
 use Rattle.try_whole.specs.WholeLaws.{trial-below, spread-so, error-so}
 use borrow.Author.Rules.{rules}
 --
@@ -76,7 +76,7 @@ loop-again c =
 
 returns : tie.Need-returns invariant-loop decreases-loop
 returns c = let l = c.before.loop in
-    ((unfold spreadsOf in upto_all _ _ 12 _ l.invariant.0 l.invariant.2 (omega arith)), (unfold errorsOf in upto_all _ _ 12 _ l.invariant.1 l.invariant.3 (omega arith)))
+    ((unfold spreads_of in upto_all _ _ 12 _ l.invariant.0 l.invariant.2 (omega arith)), (unfold errors_of in upto_all _ _ 12 _ l.invariant.1 l.invariant.3 (omega arith)))
 
 pub sums-of-spec : {M : Type 1} → statement M
 sums-of-spec =

@@ -3,10 +3,10 @@ use mathlib.Core.Path.{◌≡◌, refl, sym, ◌∙◌}
 use Prim.Native.Nat.{ℕ, ◌+◌, ◌-◌, ◌*◌, ◌≤◌, ◌<◌}
 use native.Mathlib.Omega.{arith}
 use lib.ListN.{get_or, length, take, length-set}
-use Rattle.cdef_spec.specs.Distance.{weight, squaresLimit}
+use Rattle.cdef_spec.specs.Distance.{weight, squares_limit}
 use Rattle.arith_sample.specs.Upto.{upto, upto-none, upto-more, upto_all}
 use Rattle.distance_weight.specs.Weighing.{OfDepth}
-use Rattle.try_whole.specs.Whole.{weightsOf}
+use Rattle.try_whole.specs.Whole.{weights_of}
 use Rattle.try_whole.proofs.weights_of.Statement.{statement}
 use Rattle.try_whole.proofs.weights_of.Tie as tie
 use Rattle.try_whole.proofs.weights_of.Reads as reads
@@ -60,7 +60,7 @@ loop-again : tie.Need-loop-preserved invariant-loop decreases-loop
 loop-again c = let l = c.before.before.before.before.loop in (upto-more _ _ _ _ l.invariant.0 (omega arith) c.before.weight-after.ensures, simp length-set l.invariant.1, omega arith, c.before.weight-after.ensures)
 
 returns : tie.Need-returns invariant-loop decreases-loop
-returns c = unfold weightsOf in let l = c.before.loop in upto_all _ _ 12 _ l.invariant.0 l.invariant.1 (omega arith)
+returns c = unfold weights_of in let l = c.before.loop in upto_all _ _ 12 _ l.invariant.0 l.invariant.1 (omega arith)
 
 pub weights-of-spec : {M : Type 1} → statement M
 weights-of-spec =

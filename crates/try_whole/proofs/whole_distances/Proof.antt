@@ -5,7 +5,7 @@ use native.Mathlib.Omega.{arith}
 use lib.ListN.{length, take, length-set}
 use Rattle.arith_sample.specs.Upto.{upto, upto-none, upto-more, upto_all, upto-ext}
 use Rattle.distance_sums.specs.BlockLaws.{below-4096}
-use Rattle.try_whole.specs.Whole.{timesAt, Weighed}
+use Rattle.try_whole.specs.Whole.{times_at, Weighed}
 use Rattle.try_whole.specs.WholeLaws.{own-limit, spreads-limit, weighed}
 use Rattle.try_whole.proofs.whole_distances.Statement.{statement}
 use Rattle.try_whole.proofs.whole_distances.Tie as tie
@@ -17,7 +17,7 @@ use Rattle.try_whole.proofs.sums_of.Reads as sums-of-reads
 use Rattle.try_whole.proofs.weights_of.Reads as weights-of-reads
 
 abbrev invariant-loop : tie.invariant-loop
-invariant-loop a blocks x s w d₀ t₀ d t = (take t d ≡ upto (timesAt s.errors w) t) × (length d ≡ 12) × (t ≤ 12)
+invariant-loop a blocks x s w d₀ t₀ d t = (take t d ≡ upto (times_at s.errors w) t) × (length d ≡ 12) × (t ≤ 12)
 
 abbrev decreases-loop : tie.decreases-loop
 decreases-loop a blocks x s w d₀ t₀ d t = 12 - t
@@ -73,7 +73,7 @@ loop-less : tie.Need-loop-smaller invariant-loop decreases-loop
 loop-less c = omega arith
 
 loop-again : tie.Need-loop-preserved invariant-loop decreases-loop
-loop-again c = let l = c.before.before.before.loop in (upto-more _ _ _ _ l.invariant.0 (omega arith) (unfold timesAt in c.times.ensures), simp length-set l.invariant.1, omega arith)
+loop-again c = let l = c.before.before.before.loop in (upto-more _ _ _ _ l.invariant.0 (omega arith) (unfold times_at in c.times.ensures), simp length-set l.invariant.1, omega arith)
 
 returns : tie.Need-returns invariant-loop decreases-loop
 returns c = let l = c.before.loop in upto_all _ _ 12 _ l.invariant.0 l.invariant.1 (omega arith) ∙ upto-ext _ _ 12 (known c.before.before).is

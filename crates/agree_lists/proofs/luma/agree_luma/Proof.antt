@@ -4,8 +4,8 @@ use Prim.Native.Nat.{ℕ}
 use Rattle.cdef_answer.specs.JoinLaws.{applying-parts, measuring-parts, trying-parts}
 use borrow.Author.Rules.{rules}
 use mathlib.Core.List.{List}
-use Rattle.cdef_spec.specs.Picture.{lumaPicture}
-use Rattle.cdef_spec.specs.FrameCalls.{applyingListsOutcome}
+use Rattle.cdef_spec.specs.Picture.{luma_picture}
+use Rattle.cdef_spec.specs.FrameCalls.{applying_lists_outcome}
 use Rattle.agree_lists.specs.WayLaws.{trying-stops, pairs-stop, applying-stops, measuring-stops, all-agree}
 use Rattle.check_sides.specs.Said.{no-so, yes-so}
 use Rattle.agree_lists.proofs.luma.agree_luma.Statement.{statement}
@@ -29,7 +29,7 @@ same_length : tie.Need-same-length
 same_length c = search rules
 
 returns : tie.Need-returns
-returns c = let a = c.before.before.before.before.before.before.before.before.before.before.before.before.before.before.args in trying-stops (lumaPicture a.depth a.width a.height a.skip.now a.dirs.now a.vars.now) a.damping a.visible a.snapshot.now a.original.now a.pris.now a.secs.now a.tried.now a.dst.now a.decreases.now a.scratch.now _ _ _ (trying-parts _ _ _ c.before.before.before.try-luma.ensures).0 c.before.number.ensures (trying-parts _ _ _ c.before.before.before.try-luma.ensures).1 c.if1.true
+returns c = let a = c.before.before.before.before.before.before.before.before.before.before.before.before.before.before.args in trying-stops (luma_picture a.depth a.width a.height a.skip.now a.dirs.now a.vars.now) a.damping a.visible a.snapshot.now a.original.now a.pris.now a.secs.now a.tried.now a.dst.now a.decreases.now a.scratch.now _ _ _ (trying-parts _ _ _ c.before.before.before.try-luma.ensures).0 c.before.number.ensures (trying-parts _ _ _ c.before.before.before.try-luma.ensures).1 c.if1.true
 
 trial-pairs-requires : tie.Need-trial-pairs-requires
 trial-pairs-requires c κs = search rules
@@ -38,7 +38,7 @@ same-length-2 : tie.Need-same-length-2
 same-length-2 c = search rules
 
 returns-2 : tie.Need-returns-2
-returns-2 c = let a = c.before.before.before.before.before.before.before.before.before.before.before.before.before.before.before.before.args in pairs-stop (lumaPicture a.depth a.width a.height a.skip.now a.dirs.now a.vars.now) a.damping a.visible a.snapshot.now a.original.now a.pris.now a.secs.now a.tried.now a.dst.now a.decreases.now a.scratch.now _ _ _ (trying-parts _ _ _ c.before.before.before.before.before.try-luma.ensures).0 c.before.before.before.number.ensures (trying-parts _ _ _ c.before.before.before.before.before.try-luma.ensures).1 c.before.before.if1.false (no-so c.before.trial-pairs.ensures c.if2.true)
+returns-2 c = let a = c.before.before.before.before.before.before.before.before.before.before.before.before.before.before.before.before.args in pairs-stop (luma_picture a.depth a.width a.height a.skip.now a.dirs.now a.vars.now) a.damping a.visible a.snapshot.now a.original.now a.pris.now a.secs.now a.tried.now a.dst.now a.decreases.now a.scratch.now _ _ _ (trying-parts _ _ _ c.before.before.before.before.before.try-luma.ensures).0 c.before.before.before.number.ensures (trying-parts _ _ _ c.before.before.before.before.before.try-luma.ensures).1 c.before.before.if1.false (no-so c.before.trial-pairs.ensures c.if2.true)
 
 copy-requires : tie.Need-copy-requires
 copy-requires c κs = search rules
@@ -56,7 +56,7 @@ same-length-4 : tie.Need-same-length-4
 same-length-4 c = search rules
 
 returns-3 : tie.Need-returns-3
-returns-3 c = let a = c.before.before.before.before.before.before.before.before.before.before.before.before.before.before.before.before.before.before.before.before.before.before.before.before.before.before.args in applying-stops (lumaPicture a.depth a.width a.height a.skip.now a.dirs.now a.vars.now) a.damping a.visible a.snapshot.now a.original.now a.pris.now a.secs.now a.tried.now a.dst.now a.decreases.now a.scratch.now _ _ _ (trying-parts _ _ _ c.before.before.before.before.before.before.before.before.before.before.before.before.before.before.before.try-luma.ensures).0 c.before.before.before.before.before.before.before.before.before.before.before.before.before.number.ensures (trying-parts _ _ _ c.before.before.before.before.before.before.before.before.before.before.before.before.before.before.before.try-luma.ensures).1 c.before.before.before.before.before.before.before.before.before.before.before.before.if1.false (yes-so c.before.before.before.before.before.before.before.before.before.before.before.trial-pairs.ensures c.before.before.before.before.before.before.before.before.before.before.if2.false) _ _ _ ((applying-parts _ _ _ c.before.before.before.before.apply-luma.ensures).0 ∙ ap (λ (x : List ℕ). (applyingListsOutcome (lumaPicture a.depth a.width a.height a.skip.now a.dirs.now a.vars.now) a.damping a.snapshot.now a.pris.now a.secs.now x).answer) c.before.before.before.before.before.before.before.before.copy.ensures) c.before.number2.ensures ((applying-parts _ _ _ c.before.before.before.before.apply-luma.ensures).1 ∙ ap (λ (x : List ℕ). (applyingListsOutcome (lumaPicture a.depth a.width a.height a.skip.now a.dirs.now a.vars.now) a.damping a.snapshot.now a.pris.now a.secs.now x).plane) c.before.before.before.before.before.before.before.before.copy.ensures) c.if3.true
+returns-3 c = let a = c.before.before.before.before.before.before.before.before.before.before.before.before.before.before.before.before.before.before.before.before.before.before.before.before.before.before.args in applying-stops (luma_picture a.depth a.width a.height a.skip.now a.dirs.now a.vars.now) a.damping a.visible a.snapshot.now a.original.now a.pris.now a.secs.now a.tried.now a.dst.now a.decreases.now a.scratch.now _ _ _ (trying-parts _ _ _ c.before.before.before.before.before.before.before.before.before.before.before.before.before.before.before.try-luma.ensures).0 c.before.before.before.before.before.before.before.before.before.before.before.before.before.number.ensures (trying-parts _ _ _ c.before.before.before.before.before.before.before.before.before.before.before.before.before.before.before.try-luma.ensures).1 c.before.before.before.before.before.before.before.before.before.before.before.before.if1.false (yes-so c.before.before.before.before.before.before.before.before.before.before.before.trial-pairs.ensures c.before.before.before.before.before.before.before.before.before.before.if2.false) _ _ _ ((applying-parts _ _ _ c.before.before.before.before.apply-luma.ensures).0 ∙ ap (λ (x : List ℕ). (applying_lists_outcome (luma_picture a.depth a.width a.height a.skip.now a.dirs.now a.vars.now) a.damping a.snapshot.now a.pris.now a.secs.now x).answer) c.before.before.before.before.before.before.before.before.copy.ensures) c.before.number2.ensures ((applying-parts _ _ _ c.before.before.before.before.apply-luma.ensures).1 ∙ ap (λ (x : List ℕ). (applying_lists_outcome (luma_picture a.depth a.width a.height a.skip.now a.dirs.now a.vars.now) a.damping a.snapshot.now a.pris.now a.secs.now x).plane) c.before.before.before.before.before.before.before.before.copy.ensures) c.if3.true
 
 measure-luma-requires : tie.Need-measure-luma-requires
 measure-luma-requires c κs = search rules
@@ -77,7 +77,7 @@ same-length-8 : tie.Need-same-length-8
 same-length-8 c = search rules
 
 returns-4 : tie.Need-returns-4
-returns-4 c = let a = c.before.before.before.before.before.before.before.before.before.before.before.before.before.before.before.before.before.before.before.before.before.before.before.before.before.before.before.before.before.before.before.before.before.before.before.args in measuring-stops (lumaPicture a.depth a.width a.height a.skip.now a.dirs.now a.vars.now) a.damping a.visible a.snapshot.now a.original.now a.pris.now a.secs.now a.tried.now a.dst.now a.decreases.now a.scratch.now _ _ _ (trying-parts _ _ _ c.before.before.before.before.before.before.before.before.before.before.before.before.before.before.before.before.before.before.before.before.before.before.before.before.try-luma.ensures).0 c.before.before.before.before.before.before.before.before.before.before.before.before.before.before.before.before.before.before.before.before.before.before.number.ensures (trying-parts _ _ _ c.before.before.before.before.before.before.before.before.before.before.before.before.before.before.before.before.before.before.before.before.before.before.before.before.try-luma.ensures).1 c.before.before.before.before.before.before.before.before.before.before.before.before.before.before.before.before.before.before.before.before.before.if1.false (yes-so c.before.before.before.before.before.before.before.before.before.before.before.before.before.before.before.before.before.before.before.before.trial-pairs.ensures c.before.before.before.before.before.before.before.before.before.before.before.before.before.before.before.before.before.before.before.if2.false) _ _ _ ((applying-parts _ _ _ c.before.before.before.before.before.before.before.before.before.before.before.before.before.apply-luma.ensures).0 ∙ ap (λ (x : List ℕ). (applyingListsOutcome (lumaPicture a.depth a.width a.height a.skip.now a.dirs.now a.vars.now) a.damping a.snapshot.now a.pris.now a.secs.now x).answer) c.before.before.before.before.before.before.before.before.before.before.before.before.before.before.before.before.before.copy.ensures) c.before.before.before.before.before.before.before.before.before.before.number2.ensures ((applying-parts _ _ _ c.before.before.before.before.before.before.before.before.before.before.before.before.before.apply-luma.ensures).1 ∙ ap (λ (x : List ℕ). (applyingListsOutcome (lumaPicture a.depth a.width a.height a.skip.now a.dirs.now a.vars.now) a.damping a.snapshot.now a.pris.now a.secs.now x).plane) c.before.before.before.before.before.before.before.before.before.before.before.before.before.before.before.before.before.copy.ensures) c.before.before.before.before.before.before.before.before.before.if3.false _ _ _ _ (measuring-parts _ _ _ _ c.before.before.before.before.before.measure-luma.ensures).0 c.before.number3.ensures (measuring-parts _ _ _ _ c.before.before.before.before.before.measure-luma.ensures).1.0 (measuring-parts _ _ _ _ c.before.before.before.before.before.measure-luma.ensures).1.1 c.if4.true
+returns-4 c = let a = c.before.before.before.before.before.before.before.before.before.before.before.before.before.before.before.before.before.before.before.before.before.before.before.before.before.before.before.before.before.before.before.before.before.before.before.args in measuring-stops (luma_picture a.depth a.width a.height a.skip.now a.dirs.now a.vars.now) a.damping a.visible a.snapshot.now a.original.now a.pris.now a.secs.now a.tried.now a.dst.now a.decreases.now a.scratch.now _ _ _ (trying-parts _ _ _ c.before.before.before.before.before.before.before.before.before.before.before.before.before.before.before.before.before.before.before.before.before.before.before.before.try-luma.ensures).0 c.before.before.before.before.before.before.before.before.before.before.before.before.before.before.before.before.before.before.before.before.before.before.number.ensures (trying-parts _ _ _ c.before.before.before.before.before.before.before.before.before.before.before.before.before.before.before.before.before.before.before.before.before.before.before.before.try-luma.ensures).1 c.before.before.before.before.before.before.before.before.before.before.before.before.before.before.before.before.before.before.before.before.before.if1.false (yes-so c.before.before.before.before.before.before.before.before.before.before.before.before.before.before.before.before.before.before.before.before.trial-pairs.ensures c.before.before.before.before.before.before.before.before.before.before.before.before.before.before.before.before.before.before.before.if2.false) _ _ _ ((applying-parts _ _ _ c.before.before.before.before.before.before.before.before.before.before.before.before.before.apply-luma.ensures).0 ∙ ap (λ (x : List ℕ). (applying_lists_outcome (luma_picture a.depth a.width a.height a.skip.now a.dirs.now a.vars.now) a.damping a.snapshot.now a.pris.now a.secs.now x).answer) c.before.before.before.before.before.before.before.before.before.before.before.before.before.before.before.before.before.copy.ensures) c.before.before.before.before.before.before.before.before.before.before.number2.ensures ((applying-parts _ _ _ c.before.before.before.before.before.before.before.before.before.before.before.before.before.apply-luma.ensures).1 ∙ ap (λ (x : List ℕ). (applying_lists_outcome (luma_picture a.depth a.width a.height a.skip.now a.dirs.now a.vars.now) a.damping a.snapshot.now a.pris.now a.secs.now x).plane) c.before.before.before.before.before.before.before.before.before.before.before.before.before.before.before.before.before.copy.ensures) c.before.before.before.before.before.before.before.before.before.if3.false _ _ _ _ (measuring-parts _ _ _ _ c.before.before.before.before.before.measure-luma.ensures).0 c.before.number3.ensures (measuring-parts _ _ _ _ c.before.before.before.before.before.measure-luma.ensures).1.0 (measuring-parts _ _ _ _ c.before.before.before.before.before.measure-luma.ensures).1.1 c.if4.true
 
 same-length-9 : tie.Need-same-length-9
 same-length-9 c = c.before.before.before.before.before.before.before.before.before.before.before.before.before.before.before.before.before.before.before.before.before.before.before.before.try-luma.auto.0
@@ -92,7 +92,7 @@ same-length-12 : tie.Need-same-length-12
 same-length-12 c = search rules
 
 returns-5 : tie.Need-returns-5
-returns-5 c = let a = c.before.before.before.before.before.before.before.before.before.before.before.before.before.before.before.before.before.before.before.before.before.before.before.before.before.before.before.before.before.before.before.before.before.before.before.args in all-agree (lumaPicture a.depth a.width a.height a.skip.now a.dirs.now a.vars.now) a.damping a.visible a.snapshot.now a.original.now a.pris.now a.secs.now a.tried.now a.dst.now a.decreases.now a.scratch.now _ _ _ (trying-parts _ _ _ c.before.before.before.before.before.before.before.before.before.before.before.before.before.before.before.before.before.before.before.before.before.before.before.before.try-luma.ensures).0 c.before.before.before.before.before.before.before.before.before.before.before.before.before.before.before.before.before.before.before.before.before.before.number.ensures (trying-parts _ _ _ c.before.before.before.before.before.before.before.before.before.before.before.before.before.before.before.before.before.before.before.before.before.before.before.before.try-luma.ensures).1 c.before.before.before.before.before.before.before.before.before.before.before.before.before.before.before.before.before.before.before.before.before.if1.false (yes-so c.before.before.before.before.before.before.before.before.before.before.before.before.before.before.before.before.before.before.before.before.trial-pairs.ensures c.before.before.before.before.before.before.before.before.before.before.before.before.before.before.before.before.before.before.before.if2.false) _ _ _ ((applying-parts _ _ _ c.before.before.before.before.before.before.before.before.before.before.before.before.before.apply-luma.ensures).0 ∙ ap (λ (x : List ℕ). (applyingListsOutcome (lumaPicture a.depth a.width a.height a.skip.now a.dirs.now a.vars.now) a.damping a.snapshot.now a.pris.now a.secs.now x).answer) c.before.before.before.before.before.before.before.before.before.before.before.before.before.before.before.before.before.copy.ensures) c.before.before.before.before.before.before.before.before.before.before.number2.ensures ((applying-parts _ _ _ c.before.before.before.before.before.before.before.before.before.before.before.before.before.apply-luma.ensures).1 ∙ ap (λ (x : List ℕ). (applyingListsOutcome (lumaPicture a.depth a.width a.height a.skip.now a.dirs.now a.vars.now) a.damping a.snapshot.now a.pris.now a.secs.now x).plane) c.before.before.before.before.before.before.before.before.before.before.before.before.before.before.before.before.before.copy.ensures) c.before.before.before.before.before.before.before.before.before.if3.false _ _ _ _ (measuring-parts _ _ _ _ c.before.before.before.before.before.measure-luma.ensures).0 c.before.number3.ensures (measuring-parts _ _ _ _ c.before.before.before.before.before.measure-luma.ensures).1.0 (measuring-parts _ _ _ _ c.before.before.before.before.before.measure-luma.ensures).1.1 c.if4.false
+returns-5 c = let a = c.before.before.before.before.before.before.before.before.before.before.before.before.before.before.before.before.before.before.before.before.before.before.before.before.before.before.before.before.before.before.before.before.before.before.before.args in all-agree (luma_picture a.depth a.width a.height a.skip.now a.dirs.now a.vars.now) a.damping a.visible a.snapshot.now a.original.now a.pris.now a.secs.now a.tried.now a.dst.now a.decreases.now a.scratch.now _ _ _ (trying-parts _ _ _ c.before.before.before.before.before.before.before.before.before.before.before.before.before.before.before.before.before.before.before.before.before.before.before.before.try-luma.ensures).0 c.before.before.before.before.before.before.before.before.before.before.before.before.before.before.before.before.before.before.before.before.before.before.number.ensures (trying-parts _ _ _ c.before.before.before.before.before.before.before.before.before.before.before.before.before.before.before.before.before.before.before.before.before.before.before.before.try-luma.ensures).1 c.before.before.before.before.before.before.before.before.before.before.before.before.before.before.before.before.before.before.before.before.before.if1.false (yes-so c.before.before.before.before.before.before.before.before.before.before.before.before.before.before.before.before.before.before.before.before.trial-pairs.ensures c.before.before.before.before.before.before.before.before.before.before.before.before.before.before.before.before.before.before.before.if2.false) _ _ _ ((applying-parts _ _ _ c.before.before.before.before.before.before.before.before.before.before.before.before.before.apply-luma.ensures).0 ∙ ap (λ (x : List ℕ). (applying_lists_outcome (luma_picture a.depth a.width a.height a.skip.now a.dirs.now a.vars.now) a.damping a.snapshot.now a.pris.now a.secs.now x).answer) c.before.before.before.before.before.before.before.before.before.before.before.before.before.before.before.before.before.copy.ensures) c.before.before.before.before.before.before.before.before.before.before.number2.ensures ((applying-parts _ _ _ c.before.before.before.before.before.before.before.before.before.before.before.before.before.apply-luma.ensures).1 ∙ ap (λ (x : List ℕ). (applying_lists_outcome (luma_picture a.depth a.width a.height a.skip.now a.dirs.now a.vars.now) a.damping a.snapshot.now a.pris.now a.secs.now x).plane) c.before.before.before.before.before.before.before.before.before.before.before.before.before.before.before.before.before.copy.ensures) c.before.before.before.before.before.before.before.before.before.if3.false _ _ _ _ (measuring-parts _ _ _ _ c.before.before.before.before.before.measure-luma.ensures).0 c.before.number3.ensures (measuring-parts _ _ _ _ c.before.before.before.before.before.measure-luma.ensures).1.0 (measuring-parts _ _ _ _ c.before.before.before.before.before.measure-luma.ensures).1.1 c.if4.false
 
 pub agree-luma-spec : {M : Type 1} → statement M
 agree-luma-spec =

@@ -51,9 +51,9 @@ use Rattle.cdef_spec.specs.declared.UnitPair.{UnitPair}
 use Rattle.cdef_spec.specs.contracts.UnitPair as theUnitPair
 use Rattle.cdef_spec.proofs.UnitPair.TheLaws as theUnitPair'
 use Rattle.cdef_pairs.specs.PairLaws.{applying-gathered}
-use Rattle.cdef_spec.specs.Answers.{readAnswer}
-use Rattle.cdef_spec.specs.Picture.{lumaPicture}
-use Rattle.cdef_spec.specs.FrameCalls.{applyingOutcome}
+use Rattle.cdef_spec.specs.Answers.{read_answer}
+use Rattle.cdef_spec.specs.Picture.{luma_picture}
+use Rattle.cdef_spec.specs.FrameCalls.{applying_outcome}
 use Rattle.cdef_pairs.specs.Gather.{listed, gathered}
 use Rattle.cdef_pairs.specs.contracts.gather as callee₁
 use Rattle.cdef_pairs.proofs.gather.Symbol as callee₁-def
@@ -76,14 +76,14 @@ module _ (dst : List ℕ) (snapshot : List ℕ) (width : ℕ) (height : ℕ) (de
 
   -- of `cdef::applying::apply_luma_of`
   abbrev Says₂ : (r₁ : List UnitPair) (r₂ : Answer) (dst' : List ℕ) → Type 0
-  Says₂ r₁ r₂ dst' = applyingOutcome (lumaPicture depth width height skip dirs vars) damping snapshot (listed (length pairs) r₁) dst ≡ record { answer = readAnswer r₂; plane = dst' }
+  Says₂ r₁ r₂ dst' = applying_outcome (luma_picture depth width height skip dirs vars) damping snapshot (listed (length pairs) r₁) dst ≡ record { answer = read_answer r₂; plane = dst' }
 
   -- of this function
   abbrev Said : (r : Answer) (dst' : List ℕ) → Type 0
-  Said r dst' = applyingOutcome (lumaPicture depth width height skip dirs vars) damping snapshot pairs dst ≡ record { answer = readAnswer r; plane = dst' }
+  Said r dst' = applying_outcome (luma_picture depth width height skip dirs vars) damping snapshot pairs dst ≡ record { answer = read_answer r; plane = dst' }
 
   answer : (r₁ : List UnitPair) (r₂ : Answer) (dst' : List ℕ) → Says₁ r₁ → Says₂ r₁ r₂ dst' → Said r₂ dst'
-  answer r₁ r₂ dst' said₁ said₂ = applying-gathered (lumaPicture depth width height skip dirs vars) damping snapshot pairs r₁ dst _ said₁ said₂
+  answer r₁ r₂ dst' said₁ said₂ = applying-gathered (luma_picture depth width height skip dirs vars) damping snapshot pairs r₁ dst _ said₁ said₂
 
 -- what is had of each parameter at exit: of a mutable slice, which is passed on for good, what says its last list
 abbrev stayed : Stays (fun.ended).signature.params (fun.ended).kept

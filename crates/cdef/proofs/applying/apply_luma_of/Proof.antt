@@ -1,7 +1,7 @@
 -- `cdef::applying::apply_luma_of` meets its contract.
 use Rattle.cdef_answer.specs.JoinLaws.{applying-parts}
 use borrow.Author.Rules.{rules}
-use Rattle.cdef_spec.specs.Picture.{lumaPicture}
+use Rattle.cdef_spec.specs.Picture.{luma_picture}
 use Rattle.cdef_pairs.specs.LentLaws.{primaries-within, primaries-counted, secondaries-within, secondaries-counted, applying-lent}
 use Rattle.cdef.proofs.applying.apply_luma_of.Statement.{statement}
 use Rattle.cdef.proofs.applying.apply_luma_of.Tie as tie
@@ -44,7 +44,7 @@ returns c =
     let at = c.before.before.before.before.before.before in
     let l = c.before.before.before.before.before.before.before.before.before.before in
     let x = c.before.before.before.before.before.before.before.before.before.before.before.before.before.before.before.before.args in
-    applying-lent (lumaPicture x.depth x.width x.height x.skip.now x.dirs.now x.vars.now) x.damping x.snapshot.now x.dst.now x.n x.a _ _ _ _ l.Lists-of.ensures at.before.or-none.ensures at.at_most.ensures _ _ (applying-parts _ _ _ c.before.before.apply-luma.ensures).0 (applying-parts _ _ _ c.before.before.apply-luma.ensures).1
+    applying-lent (luma_picture x.depth x.width x.height x.skip.now x.dirs.now x.vars.now) x.damping x.snapshot.now x.dst.now x.n x.a _ _ _ _ l.Lists-of.ensures at.before.or-none.ensures at.at_most.ensures _ _ (applying-parts _ _ _ c.before.before.apply-luma.ensures).0 (applying-parts _ _ _ c.before.before.apply-luma.ensures).1
 
 pub apply-luma-of-spec : {M : Type 1} → statement M
 apply-luma-of-spec =

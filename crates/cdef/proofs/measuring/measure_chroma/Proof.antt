@@ -5,8 +5,8 @@ use native.Mathlib.Omega.{arith}
 use Rattle.cdef_answer.specs.JoinLaws.{measuring-joined}
 use borrow.Author.Rules.{rules}
 use Rattle.cdef_spec.specs.Answers.{nothing, result_of}
-use Rattle.cdef_spec.specs.FrameCalls.{measuringOutcome}
-use Rattle.frame_shape.specs.Frame.{kind_of, pictureOf}
+use Rattle.cdef_spec.specs.FrameCalls.{measuring_outcome}
+use Rattle.frame_shape.specs.Frame.{kind_of, picture_of}
 use borrow.Author.Rules.{rules}
 use Rattle.cdef.proofs.measuring.measure_chroma.Statement.{statement}
 use Rattle.cdef.proofs.measuring.measure_chroma.Tie as tie
@@ -32,7 +32,7 @@ same-length-2 : tie.Need-same-length-2
 same-length-2 c = search rules
 
 returns : tie.Need-returns
-unfolding measuringOutcome pictureOf kind_of
+unfolding measuring_outcome picture_of kind_of
 returns c = measuring-joined _ _ _ _ ((c.answer-of.ensures ∙ ap (λ (n : ℕ). result_of n nothing) c.before.before.before.before.measure-frame.ensures.0, c.before.before.before.before.measure-frame.ensures.1))
 
 pub measure-chroma-spec : {M : Type 1} → statement M

@@ -5,8 +5,8 @@ use native.Mathlib.Omega.{arith}
 use Rattle.cdef_answer.specs.JoinLaws.{trying-joined}
 use borrow.Author.Rules.{rules}
 use Rattle.cdef_spec.specs.Answers.{nothing, result_of}
-use Rattle.cdef_spec.specs.FrameCalls.{tryingOutcome}
-use Rattle.frame_shape.specs.Frame.{kind_of, pictureOf}
+use Rattle.cdef_spec.specs.FrameCalls.{trying_outcome}
+use Rattle.frame_shape.specs.Frame.{kind_of, picture_of}
 use borrow.Author.Rules.{rules}
 use Rattle.cdef.proofs.trying.try_chroma.Statement.{statement}
 use Rattle.cdef.proofs.trying.try_chroma.Tie as tie
@@ -29,7 +29,7 @@ same_length : tie.Need-same-length
 same_length c = search rules
 
 returns : tie.Need-returns
-unfolding tryingOutcome pictureOf kind_of
+unfolding trying_outcome picture_of kind_of
 returns c = trying-joined _ _ _ ((c.answer-of.ensures ∙ ap (λ (n : ℕ). result_of n nothing) c.before.before.try-frame.ensures.0, c.before.before.try-frame.ensures.1))
 
 pub try-chroma-spec : {M : Type 1} → statement M

@@ -56,10 +56,10 @@ use Rattle.cdef_spec.specs.contracts.Visible as theVisible
 use Rattle.cdef_spec.proofs.Visible.TheLaws as theVisible'
 use Rattle.cdef_agree.specs.ArrayLaws.{agree-said}
 use mathlib.Core.Bool.{true}
-use Rattle.cdef_spec.specs.Picture.{lumaPicture}
+use Rattle.cdef_spec.specs.Picture.{luma_picture}
 use Rattle.cdef_pairs.specs.Gather.{listed, gathered}
 use Rattle.cdef_spec.specs.Demand3.{Agrees}
-use Rattle.agree_lists.specs.Agree.{isAgreed, agreeOutcome}
+use Rattle.agree_lists.specs.Agree.{is_agreed, agree_outcome}
 use Rattle.cdef_pairs.specs.contracts.gather as callee₁
 use Rattle.cdef_pairs.proofs.gather.Symbol as callee₁-def
 use Rattle.cdef_pairs.proofs.gather.Symbol.{name as #callee₁}
@@ -81,14 +81,14 @@ module _ (tried : List ℤ) (dst : List ℕ) (measured : List ℤ) (scratch : Li
 
   -- of `cdef_agree::luma::agree_luma_of`
   abbrev Says₂ : (r₁ : List UnitPair) (r₂ : Agreement) (tried' : List ℤ) (dst' : List ℕ) (measured' : List ℤ) (scratch' : List ℕ) → Type 0
-  Says₂ r₁ r₂ tried' dst' measured' scratch' = agreeOutcome (lumaPicture depth width height skip dirs vars) damping visible snapshot original (listed (length pairs) r₁) tried dst measured scratch ≡ record { answer = r₂; tried = tried'; dst = dst'; measured = measured'; scratch = scratch' }
+  Says₂ r₁ r₂ tried' dst' measured' scratch' = agree_outcome (luma_picture depth width height skip dirs vars) damping visible snapshot original (listed (length pairs) r₁) tried dst measured scratch ≡ record { answer = r₂; tried = tried'; dst = dst'; measured = measured'; scratch = scratch' }
 
   -- of this function
   abbrev Said : (r : Agreement) (tried' : List ℤ) (dst' : List ℕ) (measured' : List ℤ) (scratch' : List ℕ) → Type 0
-  Said r tried' dst' measured' scratch' = (agreeOutcome (lumaPicture depth width height skip dirs vars) damping visible snapshot original pairs tried dst measured scratch ≡ record { answer = r; tried = tried'; dst = dst'; measured = measured'; scratch = scratch' }) × (isAgreed r ≡ true → Agrees (lumaPicture depth width height skip dirs vars) pairs tried' measured')
+  Said r tried' dst' measured' scratch' = (agree_outcome (luma_picture depth width height skip dirs vars) damping visible snapshot original pairs tried dst measured scratch ≡ record { answer = r; tried = tried'; dst = dst'; measured = measured'; scratch = scratch' }) × (is_agreed r ≡ true → Agrees (luma_picture depth width height skip dirs vars) pairs tried' measured')
 
   answer : (r₁ : List UnitPair) (r₂ : Agreement) (tried' : List ℤ) (dst' : List ℕ) (measured' : List ℤ) (scratch' : List ℕ) → Says₁ r₁ → Says₂ r₁ r₂ tried' dst' measured' scratch' → Said r₂ tried' dst' measured' scratch'
-  answer r₁ r₂ tried' dst' measured' scratch' said₁ said₂ = agree-said (lumaPicture depth width height skip dirs vars) damping visible snapshot original pairs r₁ tried dst measured scratch _ _ _ _ _ said₁ said₂
+  answer r₁ r₂ tried' dst' measured' scratch' said₁ said₂ = agree-said (luma_picture depth width height skip dirs vars) damping visible snapshot original pairs r₁ tried dst measured scratch _ _ _ _ _ said₁ said₂
 
 -- what is had of each parameter at exit: of a mutable slice, which is passed on for good, what says its last list
 abbrev stayed : Stays (fun.ended).signature.params (fun.ended).kept

@@ -1,6 +1,6 @@
 -- `cdef_agree::luma::agree_luma_of` meets its contract.
 use borrow.Author.Rules.{rules}
-use Rattle.cdef_spec.specs.Picture.{lumaPicture}
+use Rattle.cdef_spec.specs.Picture.{luma_picture}
 use Rattle.cdef_pairs.specs.LentLaws.{primaries-within, primaries-counted, secondaries-within, secondaries-counted}
 use Rattle.cdef_agree.specs.ArrayLaws.{agree-lent}
 use Rattle.cdef_agree.proofs.luma.agree_luma_of.Statement.{statement}
@@ -54,7 +54,7 @@ returns c =
     let at = done.before.before.before.before.before.before.before in
     let l = at.before.before.before.before in
     let x = c.before.before.before.before.before.before.before.before.before.before.before.before.before.before.before.before.before.before.before.before.before.before.before.before.before.args in
-    agree-lent (lumaPicture x.depth x.width x.height x.skip.now x.dirs.now x.vars.now) x.damping x.visible x.snapshot.now x.original.now x.n x.a _ _ _ _ x.tried.now x.dst.now x.decreases.now x.scratch.now l.Lists-of.ensures at.before.or-none.ensures at.at_most.ensures _ _ _ _ _ done.agree-luma.ensures
+    agree-lent (luma_picture x.depth x.width x.height x.skip.now x.dirs.now x.vars.now) x.damping x.visible x.snapshot.now x.original.now x.n x.a _ _ _ _ x.tried.now x.dst.now x.decreases.now x.scratch.now l.Lists-of.ensures at.before.or-none.ensures at.at_most.ensures _ _ _ _ _ done.agree-luma.ensures
 
 pub agree-luma-of-spec : {M : Type 1} → statement M
 agree-luma-of-spec =

@@ -6,19 +6,19 @@ use lib.IntN.{pos}
 use mir.Syntax.{w64}
 use mir.ValLaws.{to_z_pos}
 use Rattle.cdef_spec.specs.Document01.{Plane}
-use Rattle.cdef_spec.specs.BlockCalls.{planeDistance}
+use Rattle.cdef_spec.specs.BlockCalls.{plane_distance}
 use Rattle.distance_block.specs.PlaneLaws.{distance-low}
 use Rattle.check_block.specs.DistanceLaws.{DistanceFacts, distance-facts, distance-refused, distance-done}
 use Rattle.cdef_blocks.proofs.distance.distance.Statement.{statement}
 use Rattle.cdef_blocks.proofs.distance.distance.Tie as tie
 
-abbrev planeOf : tie.Start → Plane
-planeOf s = record { samples = s.args.orig.now; width = s.args.width; height = s.args.height }
+abbrev plane_of : tie.Start → Plane
+plane_of s = record { samples = s.args.orig.now; width = s.args.width; height = s.args.height }
 
-facts : (c : tie.Else1) → let s = c.before.before.before.before in DistanceFacts (planeOf s) s.args.other.now s.args.depth s.args.y s.args.x
+facts : (c : tie.Else1) → let s = c.before.before.before.before in DistanceFacts (plane_of s) s.args.other.now s.args.depth s.args.y s.args.x
 facts c = distance-facts _ _ _ _ _ (sym c.before.distance-no.ensures ∙ c.if1.false)
 
-is : (c : tie.After-cdef-dist-8x8) → let s = c.before.before.before.before.before.before in c.cdef-dist-8x8.result ≡ planeDistance (planeOf s) s.args.other.now s.args.depth s.args.y s.args.x
+is : (c : tie.After-cdef-dist-8x8) → let s = c.before.before.before.before.before.before in c.cdef-dist-8x8.result ≡ plane_distance (plane_of s) s.args.other.now s.args.depth s.args.y s.args.x
 is c = c.cdef-dist-8x8.ensures _ c.before.constants-of.ensures
 
 low : (c : tie.After-cdef-dist-8x8) → c.cdef-dist-8x8.result < 2 ^ 53

@@ -11,10 +11,10 @@ use Rattle.check_block.specs.DistanceLaws.{DistanceFacts, distance-facts, square
 use Rattle.cdef_blocks.proofs.distance.squares.Statement.{statement}
 use Rattle.cdef_blocks.proofs.distance.squares.Tie as tie
 
-abbrev planeOf : tie.Start → Plane
-planeOf s = record { samples = s.args.orig.now; width = s.args.width; height = s.args.height }
+abbrev plane_of : tie.Start → Plane
+plane_of s = record { samples = s.args.orig.now; width = s.args.width; height = s.args.height }
 
-facts : (c : tie.Else1) → let s = c.before.before.before.before in DistanceFacts (planeOf s) s.args.other.now s.args.depth s.args.y s.args.x
+facts : (c : tie.Else1) → let s = c.before.before.before.before in DistanceFacts (plane_of s) s.args.other.now s.args.depth s.args.y s.args.x
 facts c = distance-facts _ _ _ _ _ (sym c.before.distance-no.ensures ∙ c.if1.false)
 
 low : (c : tie.After-block-sse-8x8) → c.block-sse-8x8.result < 2 ^ 53

@@ -11,8 +11,8 @@ use Rattle.cdef_spec.specs.declared.WorkingDamping.{WorkingDamping}
 use Rattle.cdef_spec.specs.declared.DifferenceAnswer.TheVariants.{Difference, NoDifference}
 use Rattle.cdef_spec.specs.Standard.{constrain}
 use Rattle.cdef_spec.specs.LeafLaws.{size-constrain}
-use Rattle.cdef_spec.specs.Answers.{result_of, readDifference}
-use Rattle.cdef_spec.specs.BlockCalls.{constrainNo, constrainOutcome}
+use Rattle.cdef_spec.specs.Answers.{result_of, read_difference}
+use Rattle.cdef_spec.specs.BlockCalls.{constrain_no, constrain_outcome}
 use Rattle.cdef_spec.specs.SignedLaws.{back}
 use Rattle.check_numbers.specs.NumberLaws.{constrain-yes}
 use borrow.Author.Rules.{rules}
@@ -21,21 +21,21 @@ use Rattle.cdef_blocks.proofs.numbers.constrain.Tie as tie
 
 -- the outcome, by the error code
 module _ (z : ℤ) (s : ℕ) (d : WorkingDamping) where
-  refused : (n : ℕ) → n ≡ constrainNo z s d → (n ≡ 0 → ⊥) → readDifference (NoDifference n) ≡ constrainOutcome z s d
-  unfolding constrainOutcome result_of readDifference
+  refused : (n : ℕ) → n ≡ constrain_no z s d → (n ≡ 0 → ⊥) → read_difference (NoDifference n) ≡ constrain_outcome z s d
+  unfolding constrain_outcome result_of read_difference
   refused n e h = rw (← e, ne_eqb n 0 h)
 
-  done : constrainNo z s d ≡ 0 → readDifference (Difference (constrain z s d.0)) ≡ constrainOutcome z s d
-  unfolding constrainOutcome result_of readDifference
+  done : constrain_no z s d ≡ 0 → read_difference (Difference (constrain z s d.0)) ≡ constrain_outcome z s d
+  unfolding constrain_outcome result_of read_difference
   done e = rw e
 
 same : (c : tie.After-constrain-no) → let a = c.before.args in to_z w32 (of_z w32 a.difference) ≡ a.difference
 same c = to_z-of_z w32 c.before.args.difference c.before.ranges.difference
 
-no-is : (c : tie.After-constrain-no) → let a = c.before.args in c.constrain-no.result ≡ constrainNo a.difference a.strength a.damping
+no-is : (c : tie.After-constrain-no) → let a = c.before.args in c.constrain-no.result ≡ constrain_no a.difference a.strength a.damping
 no-is c = c.constrain-no.ensures ∙ rw (same c)
 
-zero : (c : tie.Else1) → let a = c.before.before.args in constrainNo a.difference a.strength a.damping ≡ 0
+zero : (c : tie.Else1) → let a = c.before.before.args in constrain_no a.difference a.strength a.damping ≡ 0
 zero c = sym (no-is c.before) ∙ c.if1.false
 
 -- what the core returns

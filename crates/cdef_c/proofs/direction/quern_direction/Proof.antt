@@ -1,6 +1,6 @@
 -- `cdef_c::direction::quern_direction` meets its contract.
 use mathlib.Core.Path.{ap, sym, ◌∙◌}
-use Rattle.cdef_spec.specs.Answers.{DirectionFound, readDirection}
+use Rattle.cdef_spec.specs.Answers.{DirectionFound, read_direction}
 use Rattle.cdef_c.proofs.Left.{done, not_done}
 use borrow.Author.Rules.{rules}
 use Rattle.cdef_c.proofs.direction.quern_direction.Statement.{statement}
@@ -23,11 +23,11 @@ cast-result : tie.Need-overflow-cast-result
 cast-result c = search rules
 
 returns : tie.Need-returns
-returns c = unfold readDirection in let b = done _ (old c.before.before.before.before.before) _ (sym (ap readDirection c.before.d.given.1) ∙ c.before.before.before.direction.ensures) in
+returns c = unfold read_direction in let b = done _ (old c.before.before.before.before.before) _ (sym (ap read_direction c.before.d.given.1) ∙ c.before.before.before.direction.ensures) in
     (b.0, (ap (λ (f : DirectionFound). f.direction) b.1, ap (λ (f : DirectionFound). f.variance) b.1))
 
 returns-2 : tie.Need-returns-2
-returns-2 c = unfold readDirection in let b = not_done _ (old c.before.before.before.before.before) _ (sym (ap readDirection c.before.n.given.1) ∙ c.before.before.before.direction.ensures) in
+returns-2 c = unfold read_direction in let b = not_done _ (old c.before.before.before.before.before) _ (sym (ap read_direction c.before.n.given.1) ∙ c.before.before.before.direction.ensures) in
     (b.0, (ap (λ (f : DirectionFound). f.direction) b.1, ap (λ (f : DirectionFound). f.variance) b.1))
 
 pub quern-direction-spec : {M : Type 1} → statement M

@@ -2,7 +2,7 @@
 use mathlib.Core.Path.{ap, sym, ◌∙◌}
 use mir.Syntax.{w64}
 use mir.ValLaws.{to_z-of_z}
-use Rattle.cdef_spec.specs.Answers.{readDistance}
+use Rattle.cdef_spec.specs.Answers.{read_distance}
 use Rattle.cdef_c.proofs.Left.{done, not_done}
 use borrow.Author.Rules.{rules}
 use Rattle.cdef_c.proofs.distance.quern_distance.Statement.{statement}
@@ -21,11 +21,11 @@ cast-result : tie.Need-overflow-cast-result
 cast-result c = search rules
 
 returns : tie.Need-returns
-returns c = unfold readDistance in let b = done _ c.before.before.before.before.before.before.args.out.now _ (sym (ap readDistance c.before.d.given.1) ∙ c.before.before.before.distance.ensures) in
+returns c = unfold read_distance in let b = done _ c.before.before.before.before.before.before.args.out.now _ (sym (ap read_distance c.before.d.given.1) ∙ c.before.before.before.distance.ensures) in
     (b.0, to_z-of_z w64 c.before.d.given.0.0 (record { sfits = c.known-told.given.0.1 }) ∙ b.1)
 
 returns-2 : tie.Need-returns-2
-returns-2 c = unfold readDistance in not_done _ _ _ (sym (ap readDistance c.before.n.given.1) ∙ c.before.before.before.distance.ensures)
+returns-2 c = unfold read_distance in not_done _ _ _ (sym (ap read_distance c.before.n.given.1) ∙ c.before.before.before.distance.ensures)
 
 pub quern-distance-spec : {M : Type 1} → statement M
 quern-distance-spec =

@@ -1,7 +1,7 @@
 -- `cdef_c::numbers::quern_chroma_damping` meets its contract.
 use mathlib.Core.Path.{ap, sym, ◌∙◌}
 use Rattle.cdef_spec.specs.declared.WorkingDamping.{WorkingDamping}
-use Rattle.cdef_spec.specs.Answers.{readWorking}
+use Rattle.cdef_spec.specs.Answers.{read_working}
 use Rattle.cdef_c.proofs.Left.{done, not_done}
 use borrow.Author.Rules.{rules}
 use Rattle.cdef_c.proofs.numbers.quern_chroma_damping.Statement.{statement}
@@ -20,11 +20,11 @@ cast-result : tie.Need-overflow-cast-result
 cast-result c = search rules
 
 returns : tie.Need-returns
-returns c = unfold readWorking in let b = done _ (record { 0 = c.before.before.before.before.args.out.now }) _ (sym (ap readWorking c.before.d.given.1) ∙ c.before.before.before.chroma-damping.ensures) in
+returns c = unfold read_working in let b = done _ (record { 0 = c.before.before.before.before.args.out.now }) _ (sym (ap read_working c.before.d.given.1) ∙ c.before.before.before.chroma-damping.ensures) in
     (b.0, ap (λ (d : WorkingDamping). d.0) b.1)
 
 returns-2 : tie.Need-returns-2
-returns-2 c = unfold readWorking in let b = not_done _ (record { 0 = c.before.before.before.before.args.out.now }) _ (sym (ap readWorking c.before.n.given.1) ∙ c.before.before.before.chroma-damping.ensures) in
+returns-2 c = unfold read_working in let b = not_done _ (record { 0 = c.before.before.before.before.args.out.now }) _ (sym (ap read_working c.before.n.given.1) ∙ c.before.before.before.chroma-damping.ensures) in
     (b.0, ap (λ (d : WorkingDamping). d.0) b.1)
 
 pub quern-chroma-damping-spec : {M : Type 1} → statement M

@@ -1,7 +1,7 @@
 -- `cdef_c::numbers::quern_damping` meets its contract.
 use mathlib.Core.Path.{ap, sym, ◌∙◌}
 use Rattle.cdef_spec.specs.declared.SignalledDamping.{SignalledDamping}
-use Rattle.cdef_spec.specs.Answers.{readDamping}
+use Rattle.cdef_spec.specs.Answers.{read_damping}
 use Rattle.cdef_c.proofs.Left.{done, not_done}
 use borrow.Author.Rules.{rules}
 use Rattle.cdef_c.proofs.numbers.quern_damping.Statement.{statement}
@@ -20,11 +20,11 @@ cast-result : tie.Need-overflow-cast-result
 cast-result c = search rules
 
 returns : tie.Need-returns
-returns c = unfold readDamping in let b = done _ (record { 0 = c.before.before.before.before.args.out.now }) _ (sym (ap readDamping c.before.d.given.1) ∙ c.before.before.before.damping.ensures) in
+returns c = unfold read_damping in let b = done _ (record { 0 = c.before.before.before.before.args.out.now }) _ (sym (ap read_damping c.before.d.given.1) ∙ c.before.before.before.damping.ensures) in
     (b.0, ap (λ (d : SignalledDamping). d.0) b.1)
 
 returns-2 : tie.Need-returns-2
-returns-2 c = unfold readDamping in let b = not_done _ (record { 0 = c.before.before.before.before.args.out.now }) _ (sym (ap readDamping c.before.n.given.1) ∙ c.before.before.before.damping.ensures) in
+returns-2 c = unfold read_damping in let b = not_done _ (record { 0 = c.before.before.before.before.args.out.now }) _ (sym (ap read_damping c.before.n.given.1) ∙ c.before.before.before.damping.ensures) in
     (b.0, ap (λ (d : SignalledDamping). d.0) b.1)
 
 pub quern-damping-spec : {M : Type 1} → statement M

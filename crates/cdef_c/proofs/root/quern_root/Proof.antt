@@ -3,12 +3,12 @@ use mathlib.Core.Path.{◌≡◌, refl, sym, ap, ◌∙◌, subst}
 use mathlib.Core.Bool.{Bool, true, false, cond, ◌&&◌}
 use lib.Dec.{T}
 use lib.Ieee.{Float, binary64, inf, le, lt, of_bits, nan_bits}
-use Rattle.cdef_spec.specs.Root.{leastNormal, rootOf}
+use Rattle.cdef_spec.specs.Root.{least_normal, root_of}
 use borrow.Author.Rules.{rules}
 use Rattle.cdef_c.proofs.root.quern_root.Statement.{statement}
 use Rattle.cdef_c.proofs.root.quern_root.Tie as tie
 
-low-is : of_bits binary64 0x10_0000_0000_0000 ≡ leastNormal
+low-is : of_bits binary64 0x10_0000_0000_0000 ≡ least_normal
 unfolding of_bits
 low-is = refl
 
@@ -17,13 +17,13 @@ unfolding of_bits
 top-is = refl
 
 -- the tests with the definition's two bounds
-from_low : (v : Float) (t : Bool) → le (of_bits binary64 0x10_0000_0000_0000) v ≡ t → le leastNormal v ≡ t
+from_low : (v : Float) (t : Bool) → le (of_bits binary64 0x10_0000_0000_0000) v ≡ t → le least_normal v ≡ t
 from_low v t e = subst (λ (z : Float). le z v ≡ t) low-is e
 
 to-top : (v : Float) (t : Bool) → lt v (of_bits binary64 0x7ff0_0000_0000_0000) ≡ t → lt v (inf false) ≡ t
 to-top v t e = subst (λ (z : Float). lt v z ≡ t) top-is e
 
-both : (v : Float) → le (of_bits binary64 0x10_0000_0000_0000) v ≡ true → lt v (of_bits binary64 0x7ff0_0000_0000_0000) ≡ true → le leastNormal v && lt v (inf false) ≡ true
+both : (v : Float) → le (of_bits binary64 0x10_0000_0000_0000) v ≡ true → lt v (of_bits binary64 0x7ff0_0000_0000_0000) ≡ true → le least_normal v && lt v (inf false) ≡ true
 both v a b = rw (from_low v true a) (to-top v true b)
 
 float-from-bits-if1 : tie.Need-float-from-bits-if1
@@ -40,7 +40,7 @@ root-requires c κs = subst T (sym (both _ c.before.if1.true c.if2.true)) tt
 returns : tie.Need-returns
 returns c = let d = c.before in
     let v = d.before.before.args.v in
-    c.root.ensures.0 ∙ sym (ap (λ (t : Bool). cond t (rootOf v) v) (both v d.before.if1.true d.if2.true))
+    c.root.ensures.0 ∙ sym (ap (λ (t : Bool). cond t (root_of v) v) (both v d.before.if1.true d.if2.true))
 
 returns-2 : tie.Need-returns-2
 returns-2 c = let v = c.before.before.args.v in rw (from_low v true c.before.if1.true, to-top v false c.if2.false)

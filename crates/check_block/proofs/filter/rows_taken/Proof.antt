@@ -10,7 +10,7 @@ use borrow.Author.Tests.{lt-leb, le-leb, eq-eqb, ne_eqb}
 use lib.Dec.{leb, eqb}
 use lib.ListN.{length}
 use Rattle.cdef_spec.specs.declared.Block.{Block}
-use Rattle.cdef_spec.specs.Questions.{rowsTaken}
+use Rattle.cdef_spec.specs.Questions.{rows_taken}
 use borrow.Author.Rules.{rules}
 use Rattle.check_block.proofs.filter.rows_taken.Statement.{statement}
 use Rattle.check_block.proofs.filter.rows_taken.Tie as tie
@@ -18,16 +18,16 @@ use Rattle.check_block.proofs.filter.rows_taken.Reads as reads
 use Rattle.check_block.proofs.filter.rows_taken.Lts as lts
 
 module _ (d s : List ℕ) (y0 w h : ℕ) (b : Block) where
-  no_rows : (length d % w ≡ 0 → ⊥) → false ≡ rowsTaken (record { samples = s; width = w; height = h }) b y0 d
-  unfolding rowsTaken
+  no_rows : (length d % w ≡ 0 → ⊥) → false ≡ rows_taken (record { samples = s; width = w; height = h }) b y0 d
+  unfolding rows_taken
   no_rows n = rw (ne_eqb (length d % w) 0 n)
 
-  no_start : length d % w ≡ 0 → b.y < y0 → false ≡ rowsTaken (record { samples = s; width = w; height = h }) b y0 d
-  unfolding rowsTaken
+  no_start : length d % w ≡ 0 → b.y < y0 → false ≡ rows_taken (record { samples = s; width = w; height = h }) b y0 d
+  unfolding rows_taken
   no_start e l = rw (eq-eqb (length d % w) 0 e, lt-leb y0 b.y l)
 
-  by_end : length d % w ≡ 0 → y0 ≤ b.y → (n : ℕ) → n ≡ min (b.y + b.height) h → y0 ≤ n → leb (n - y0) (length d / w) ≡ rowsTaken (record { samples = s; width = w; height = h }) b y0 d
-  unfolding rowsTaken
+  by_end : length d % w ≡ 0 → y0 ≤ b.y → (n : ℕ) → n ≡ min (b.y + b.height) h → y0 ≤ n → leb (n - y0) (length d / w) ≡ rows_taken (record { samples = s; width = w; height = h }) b y0 d
+  unfolding rows_taken
   by_end e l n f g = rw (eq-eqb (length d % w) 0 e, le-leb y0 b.y l, ← f) (go (dec_le (n - y0) (length d / w)))
     where
       go : Dec (n - y0 ≤ length d / w) → leb (n - y0) (length d / w) ≡ leb n (y0 + length d / w)

@@ -3,19 +3,19 @@ use mathlib.Core.Path.{◌≡◌, refl, ◌∙◌}
 use Prim.Native.Nat.{◌-◌, ◌≤◌}
 use native.Mathlib.Omega.{arith}
 use Rattle.arith_sample.specs.Upto.{upto}
-use Rattle.direction_best.specs.Best.{bestTo}
-use Rattle.direction_eight.specs.Best.{bestsOf}
+use Rattle.direction_best.specs.Best.{best_to}
+use Rattle.direction_eight.specs.Best.{bests_of}
 use Rattle.direction_eight.proofs.best.best.Statement.{statement}
 use Rattle.direction_eight.proofs.best.best.Tie as tie
 
 abbrev invariant-loop : tie.invariant-loop
-invariant-loop c b₀ d₀ b d = (b ≡ bestsOf c d) × (d ≤ 8)
+invariant-loop c b₀ d₀ b d = (b ≡ bests_of c d) × (d ≤ 8)
 
 abbrev decreases-loop : tie.decreases-loop
 decreases-loop c b₀ d₀ b d = 8 - d
 
 loop-holds : tie.Need-loop-init invariant-loop decreases-loop
-loop-holds c = ((unfold bestsOf bestTo upto in refl), omega arith)
+loop-holds c = ((unfold bests_of best_to upto in refl), omega arith)
 
 better-requires : tie.Need-better-requires invariant-loop decreases-loop
 better-requires c κs = (c.loop-test.true, c.before.before.requires, c.before.loop.invariant.0)

@@ -7,37 +7,37 @@ use native.Mathlib.Omega.{arith}
 use lib.Dec.{ltb}
 use lib.ListN.{get_or, length, take, length-set}
 use Rattle.arith_sample.specs.Upto.{upto, upto-none, upto-more, upto_all}
-use Rattle.direction_best.specs.Best.{bestTo}
+use Rattle.direction_best.specs.Best.{best_to}
 use Rattle.direction_eight.specs.declared.best.Best8.{Best8}
-use Rattle.direction_eight.specs.Best.{CostListFits, laneCost, bestsOf}
+use Rattle.direction_eight.specs.Best.{CostListFits, lane_cost, bests_of}
 use Rattle.direction_eight.specs.BestLaws.{dir-more, most-more, dir-at, most-at, lane-held}
 use borrow.Author.Rules.{rules}
 use Rattle.direction_eight.proofs.best.better.Statement.{statement}
 use Rattle.direction_eight.proofs.best.better.Tie as tie
 
 abbrev invariant-loop : tie.invariant-loop
-invariant-loop c d from top directions₀ most₀ at l₀ directions most l = (take l directions ≡ upto (λ (n : ℕ). (bestTo (laneCost c n) (d + 1)).yDir) l) × (take l most ≡ upto (λ (n : ℕ). (bestTo (laneCost c n) (d + 1)).bestCost) l) × (length directions ≡ 8) × (length most ≡ 8) × (l ≤ 8)
+invariant-loop c d from top directions₀ most₀ at l₀ directions most l = (take l directions ≡ upto (λ (n : ℕ). (best_to (lane_cost c n) (d + 1)).y_dir) l) × (take l most ≡ upto (λ (n : ℕ). (best_to (lane_cost c n) (d + 1)).best_cost) l) × (length directions ≡ 8) × (length most ≡ 8) × (l ≤ 8)
 
 abbrev decreases-loop : tie.decreases-loop
 decreases-loop c d from top directions₀ most₀ at l₀ directions most l = 8 - l
 
 -- a lane's step, from what the calls return
-module _ (c : List ℕ) (d l : ℕ) (b : Best8) (e : b ≡ bestsOf c d) (hl : l < 8) where
+module _ (c : List ℕ) (d l : ℕ) (b : Best8) (e : b ≡ bests_of c d) (hl : l < 8) where
   held : CostListFits c → get_or b.most l 0 ≤ 880803840
   held h = rw (e, most-at c d l hl) (lane-held c l d h)
 
   module _ (u : Bool) (eu : u ≡ ltb (get_or b.most l 0) (get_or c (d * 8 + l) 0)) where
-    next-dir : (r : ℕ) → r ≡ cond u d (get_or b.directions l 0) → r ≡ (bestTo (laneCost c l) (d + 1)).yDir
-    unfolding laneCost
-    next-dir r er = er ∙ rw (eu, e, dir-at c d l hl, most-at c d l hl) (dir-more (laneCost c l) d)
+    next-dir : (r : ℕ) → r ≡ cond u d (get_or b.directions l 0) → r ≡ (best_to (lane_cost c l) (d + 1)).y_dir
+    unfolding lane_cost
+    next-dir r er = er ∙ rw (eu, e, dir-at c d l hl, most-at c d l hl) (dir-more (lane_cost c l) d)
 
-    next-most : (r : ℕ) → r ≡ cond u (get_or c (d * 8 + l) 0) (get_or b.most l 0) → r ≡ (bestTo (laneCost c l) (d + 1)).bestCost
-    unfolding laneCost
-    next-most r er = er ∙ rw (eu, e, most-at c d l hl) (most-more (laneCost c l) d)
+    next-most : (r : ℕ) → r ≡ cond u (get_or c (d * 8 + l) 0) (get_or b.most l 0) → r ≡ (best_to (lane_cost c l) (d + 1)).best_cost
+    unfolding lane_cost
+    next-most r er = er ∙ rw (eu, e, most-at c d l hl) (most-more (lane_cost c l) d)
 
-both : (c : List ℕ) (n : ℕ) (x y : List ℕ) → x ≡ upto (λ (l : ℕ). (bestTo (laneCost c l) n).yDir) 8
-    → y ≡ upto (λ (l : ℕ). (bestTo (laneCost c l) n).bestCost) 8 → record { directions = x; most = y } ≡ bestsOf c n
-unfolding bestsOf
+both : (c : List ℕ) (n : ℕ) (x y : List ℕ) → x ≡ upto (λ (l : ℕ). (best_to (lane_cost c l) n).y_dir) 8
+    → y ≡ upto (λ (l : ℕ). (best_to (lane_cost c l) n).best_cost) 8 → record { directions = x; most = y } ≡ bests_of c n
+unfolding bests_of
 both c n x y ex ey = rw (ex, ey)
 
 mul_at : tie.Need-overflow-mul-at invariant-loop decreases-loop

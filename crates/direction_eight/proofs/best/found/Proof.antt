@@ -5,32 +5,32 @@ use Prim.Native.Nat.{ℕ, ◌-◌, ◌≤◌, ◌<◌}
 use native.Mathlib.Omega.{arith}
 use lib.ListN.{get_or, length, take, length-set}
 use Rattle.arith_sample.specs.Upto.{upto, upto-none, upto-more, upto_all}
-use Rattle.direction_best.specs.Best.{bestTo}
-use Rattle.direction_eight.specs.Best.{laneCost, laneDirection, laneVariance, foundByCosts}
+use Rattle.direction_best.specs.Best.{best_to}
+use Rattle.direction_eight.specs.Best.{lane_cost, lane_direction, lane_variance, found_by_costs}
 use Rattle.direction_eight.specs.BestLaws.{dir-at, most-at, dir-8, across-low, dir-found, variance-found}
 use Rattle.direction_eight.proofs.best.found.Statement.{statement}
 use Rattle.direction_eight.proofs.best.found.Tie as tie
 
 abbrev invariant-loop : tie.invariant-loop
-invariant-loop c from top directions₀ variances₀ l₀ directions variances l = (take l directions ≡ upto (laneDirection c) l) × (take l variances ≡ upto (laneVariance c) l) × (length directions ≡ 8) × (length variances ≡ 8) × (l ≤ 8)
+invariant-loop c from top directions₀ variances₀ l₀ directions variances l = (take l directions ≡ upto (lane_direction c) l) × (take l variances ≡ upto (lane_variance c) l) × (length directions ≡ 8) × (length variances ≡ 8) × (l ≤ 8)
 
 abbrev decreases-loop : tie.decreases-loop
 decreases-loop c from top directions₀ variances₀ l₀ directions variances l = 8 - l
 
 -- a lane's best direction and its cost
 dir : (c : tie.In-loop invariant-loop decreases-loop)
-    → get_or c.before.before.before.before.best.result.directions c.before.loop.l 0 ≡ (bestTo (laneCost c.before.before.before.before.before.args.c.now c.before.loop.l) 8).yDir
+    → get_or c.before.before.before.before.best.result.directions c.before.loop.l 0 ≡ (best_to (lane_cost c.before.before.before.before.before.args.c.now c.before.loop.l) 8).y_dir
 dir c = rw c.before.before.before.before.best.ensures (dir-at _ 8 _ c.loop-test.true)
 
 most : (c : tie.In-loop invariant-loop decreases-loop)
-    → get_or c.before.before.before.before.best.result.most c.before.loop.l 0 ≡ (bestTo (laneCost c.before.before.before.before.before.args.c.now c.before.loop.l) 8).bestCost
+    → get_or c.before.before.before.before.best.result.most c.before.loop.l 0 ≡ (best_to (lane_cost c.before.before.before.before.before.args.c.now c.before.loop.l) 8).best_cost
 most c = rw c.before.before.before.before.best.ensures (most-at _ 8 _ c.loop-test.true)
 
 low : (c : tie.In-loop invariant-loop decreases-loop) → get_or c.before.before.before.before.best.result.directions c.before.loop.l 0 < 8
 low c = rw (dir c) (dir-8 _ _)
 
-both : (c x y : List ℕ) → x ≡ upto (laneDirection c) 8 → y ≡ upto (laneVariance c) 8 → record { directions = x; variances = y } ≡ foundByCosts c
-unfolding foundByCosts
+both : (c x y : List ℕ) → x ≡ upto (lane_direction c) 8 → y ≡ upto (lane_variance c) 8 → record { directions = x; variances = y } ≡ found_by_costs c
+unfolding found_by_costs
 both c x y ex ey = rw (ex, ey)
 
 best-requires : tie.Need-best-requires invariant-loop decreases-loop

@@ -1,6 +1,6 @@
 -- `filter_rows::alone::pri_at` meets its contract.
 use Rattle.std.proofs.Common.{get_or, ◌∙◌, arith, rules}
-use Rattle.filter_rows.specs.Pairs.{pairsOf, priSum}
+use Rattle.filter_rows.specs.Pairs.{pairs_of, pri_sum}
 use Rattle.filter_rows.specs.PairsLaws.{held-pairs, pri-free}
 use Rattle.filter_rows.proofs.Bounds.{size-pri-sum, small-back}
 use Rattle.arith_sample.proofs.Joins.{Is, back_is}
@@ -12,7 +12,7 @@ use Rattle.filter_rows.proofs.both.load_pairs.Reads as load-pairs-reads
 use Rattle.filter_rows.proofs.both.pri_sum.Reads as pri-sum-reads
 use Rattle.arith_sample.proofs.free.Reads as free-reads
 
-sum : (c : tie.After-pri-sum) → let a = c.before.before.before.args in Is c.pri-sum.result (priSum (pairsOf a.w.now a.k a.t) (get_or a.w.now a.k 0) a.f) 3840
+sum : (c : tie.After-pri-sum) → let a = c.before.before.before.args in Is c.pri-sum.result (pri_sum (pairs_of a.w.now a.k a.t) (get_or a.w.now a.k 0) a.f) 3840
 sum c = let s = c.before.before.before in
     let a = s.args in
     record { is = c.pri-sum.ensures ∙ rw c.before.load-pairs.ensures; small = size-pri-sum _ _ a.f s.requires.4 }

@@ -1,7 +1,7 @@
 -- `filter_rows::alone::pri_row` meets its contract.
 use Rattle.std.proofs.Common.{◌≡◌, ℕ, ◌+◌, ◌-◌, ◌≤◌, length, get_or, take, sym, refl, arith, length-set}
-use Rattle.arith_sample.specs.Sample.{freeOf}
-use Rattle.filter_rows.specs.Sums.{priAt}
+use Rattle.arith_sample.specs.Sample.{free_of}
+use Rattle.filter_rows.specs.Sums.{pri_at}
 use Rattle.arith_sample.specs.Upto.{upto, upto-none, upto-more, upto_all}
 use Rattle.filter_rows.proofs.alone.pri_row.Statement.{statement}
 use Rattle.filter_rows.proofs.alone.pri_row.Tie as tie
@@ -10,7 +10,7 @@ use Rattle.filter_rows.proofs.alone.pri_row.Lts as lts
 use Rattle.filter_rows.proofs.alone.pri_at.Reads as pri-at-reads
 
 abbrev invariant-loop : tie.invariant-loop
-invariant-loop w row t f out₀ j₀ out j = (take j out ≡ upto (λ (j : ℕ). freeOf (get_or w (row + j) 0) (priAt w (row + j) t f)) j) × (length out ≡ 8) × (j ≤ 8)
+invariant-loop w row t f out₀ j₀ out j = (take j out ≡ upto (λ (j : ℕ). free_of (get_or w (row + j) 0) (pri_at w (row + j) t f)) j) × (length out ≡ 8) × (j ≤ 8)
 
 abbrev decreases-loop : tie.decreases-loop
 decreases-loop w row t f out₀ j₀ out j = 8 - j

@@ -1,6 +1,6 @@
 -- `filter_rows::alone::sec_at` meets its contract.
 use Rattle.std.proofs.Common.{get_or, ◌∙◌, arith, rules}
-use Rattle.filter_rows.specs.Pairs.{pairsOf, secSum}
+use Rattle.filter_rows.specs.Pairs.{pairs_of, sec_sum}
 use Rattle.filter_rows.specs.PairsLaws.{held-pairs, sec-free}
 use Rattle.filter_rows.proofs.Bounds.{size-sec-sum, small-back}
 use Rattle.arith_sample.proofs.Joins.{Is, back_is}
@@ -12,7 +12,7 @@ use Rattle.filter_rows.proofs.both.load_pairs.Reads as load-pairs-reads
 use Rattle.filter_rows.proofs.both.sec_sum.Reads as sec-sum-reads
 use Rattle.arith_sample.proofs.free.Reads as free-reads
 
-sum : (c : tie.After-sec-sum) → let a = c.before.before.before.args in Is c.sec-sum.result (secSum (pairsOf a.w.now a.k a.t) (get_or a.w.now a.k 0) a.f) 7680
+sum : (c : tie.After-sec-sum) → let a = c.before.before.before.args in Is c.sec-sum.result (sec_sum (pairs_of a.w.now a.k a.t) (get_or a.w.now a.k 0) a.f) 7680
 sum c = let s = c.before.before.before in
     let a = s.args in
     record { is = c.sec-sum.ensures ∙ rw c.before.load-pairs.ensures; small = size-sec-sum _ _ a.f s.requires.4 }

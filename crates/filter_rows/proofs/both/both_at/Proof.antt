@@ -1,6 +1,6 @@
 -- `filter_rows::both::both_at` meets its contract.
 use Rattle.std.proofs.Common.{get_or, ◌+ℤ◌, ◌∙◌, arith, rules}
-use Rattle.filter_rows.specs.Pairs.{priSum, secSum}
+use Rattle.filter_rows.specs.Pairs.{pri_sum, sec_sum}
 use Rattle.filter_limits.specs.Limits.{HeldPairs}
 use Rattle.filter_rows.specs.PairsLaws.{held-pairs, both_is}
 use Rattle.filter_rows.proofs.Bounds.{size-pri-sum, size-sec-sum, small-back}
@@ -21,17 +21,17 @@ held : (c : tie.After-load-pairs) → HeldPairs c.load-pairs.result
 held c = let s = c.before.before in
     rw c.load-pairs.ensures (held-pairs s.args.w.now s.args.k s.args.t s.requires.2)
 
-one : (c : tie.After-pri-sum) → let a = c.before.before.before.args in Is c.pri-sum.result (priSum c.before.load-pairs.result (get_or a.w.now a.k 0) a.f) 3840
+one : (c : tie.After-pri-sum) → let a = c.before.before.before.args in Is c.pri-sum.result (pri_sum c.before.load-pairs.result (get_or a.w.now a.k 0) a.f) 3840
 one c = let s = c.before.before.before in
     let a = s.args in
     record { is = c.pri-sum.ensures; small = size-pri-sum c.before.load-pairs.result (get_or a.w.now a.k 0) a.f s.requires.4 }
 
-other : (c : tie.After-sec-sum) → let a = c.before.before.before.before.args in Is c.sec-sum.result (secSum c.before.before.load-pairs.result (get_or a.w.now a.k 0) a.g) 7680
+other : (c : tie.After-sec-sum) → let a = c.before.before.before.before.args in Is c.sec-sum.result (sec_sum c.before.before.load-pairs.result (get_or a.w.now a.k 0) a.g) 7680
 other c = let s = c.before.before.before.before in
     let a = s.args in
     record { is = c.sec-sum.ensures; small = size-sec-sum c.before.before.load-pairs.result (get_or a.w.now a.k 0) a.g s.requires.5 }
 
-sum : (c : tie.After-add) → let a = c.before.before.before.before.before.args in let e = c.before.before.before.load-pairs.result in let m = get_or a.w.now a.k 0 in Is c.add.result (priSum e m a.f +ℤ secSum e m a.g) 11520
+sum : (c : tie.After-add) → let a = c.before.before.before.before.before.args in let e = c.before.before.before.load-pairs.result in let m = get_or a.w.now a.k 0 in Is c.add.result (pri_sum e m a.f +ℤ sec_sum e m a.g) 11520
 sum c = add_is (one c.before.before) (other c.before) (omega arith) c.add.ensures
 
 mul-c : tie.Need-overflow-mul-c

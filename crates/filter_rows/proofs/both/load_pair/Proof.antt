@@ -1,6 +1,6 @@
 -- `filter_rows::both::load_pair` meets its contract.
 use Rattle.std.proofs.Common.{◌≡◌, arith, rules}
-use Rattle.filter_rows.specs.Place.{onFrom, backFrom, on_in, back_in, back_is}
+use Rattle.filter_rows.specs.Place.{on_from, back_from, on_in, back_in, back_is}
 use Rattle.filter_rows.specs.Pairs.{pair_of}
 use Rattle.filter_rows.proofs.both.load_pair.Statement.{statement}
 use Rattle.filter_rows.proofs.both.load_pair.Tie as tie
@@ -9,11 +9,11 @@ use Rattle.filter_rows.proofs.both.load_pair.Lts as lts
 use Rattle.std.proofs.num.wrapping_add_usize.Reads as wrapping-add-usize-reads
 use Rattle.std.proofs.num.wrapping_sub_usize.Reads as wrapping-sub-usize-reads
 
-on-is : (c : tie.After-wrapping-add-usize) → c.wrapping-add-usize.result ≡ onFrom c.before.args.k c.before.args.o
-unfolding onFrom
+on-is : (c : tie.After-wrapping-add-usize) → c.wrapping-add-usize.result ≡ on_from c.before.args.k c.before.args.o
+unfolding on_from
 on-is c = c.wrapping-add-usize.ensures
 
-opposite-is : (c : tie.After-wrapping-sub-usize) → c.wrapping-sub-usize.result ≡ backFrom c.before.before.args.k c.before.before.args.o
+opposite-is : (c : tie.After-wrapping-sub-usize) → c.wrapping-sub-usize.result ≡ back_from c.before.before.args.k c.before.before.args.o
 opposite-is c = let s = c.before.before in back_is s.args.k s.args.o s.requires.0 s.requires.1 s.requires.2 c.wrapping-sub-usize.result (omega arith) c.wrapping-sub-usize.ensures
 
 wrapping-add-usize-requires : tie.Need-wrapping-add-usize-requires

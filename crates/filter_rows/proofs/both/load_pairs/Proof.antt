@@ -1,5 +1,5 @@
 -- `filter_rows::both::load_pairs` meets its contract.
-use Rattle.filter_rows.specs.Pairs.{pairsOf}
+use Rattle.filter_rows.specs.Pairs.{pairs_of}
 use Rattle.std.proofs.Common.{rules}
 use Rattle.filter_rows.proofs.both.load_pairs.Statement.{statement}
 use Rattle.filter_rows.proofs.both.load_pairs.Tie as tie
@@ -26,7 +26,7 @@ load-pair-requires-6 : tie.Need-load-pair-requires-6
 load-pair-requires-6 c κs = search rules
 
 returns : tie.Need-returns
-unfolding pairsOf
+unfolding pairs_of
 returns c = rw (c.before.before.before.before.before.load_pair.ensures, c.before.before.before.before.load-pair2.ensures, c.before.before.before.load-pair3.ensures, c.before.before.load-pair4.ensures, c.before.load-pair5.ensures, c.load-pair6.ensures)
 
 pub load-pairs-spec : {M : Type 1} → statement M

@@ -1,6 +1,6 @@
 -- `filter_rows::both::pri_sum` meets its contract.
 use Rattle.std.proofs.Common.{◌∙◌, arith, rules}
-use Rattle.filter_rows.specs.Pairs.{pairSum, priSum}
+use Rattle.filter_rows.specs.Pairs.{pair_sum, pri_sum}
 use Rattle.filter_rows.proofs.Bounds.{size-pair-sum, size-pri-sum, small-back}
 use Rattle.arith_sample.proofs.Joins.{Is, back_is}
 use Rattle.filter_rows.proofs.both.pri_sum.Statement.{statement}
@@ -10,12 +10,12 @@ use Rattle.filter_rows.proofs.both.pri_sum.Lts as lts
 use Rattle.filter_rows.proofs.both.pair_sum.Reads as pair-sum-reads
 use Rattle.filter_rows.proofs.both.weigh.Reads as weigh-reads
 
-one : (c : tie.After-pair-sum) → let a = c.before.args in Is c.pair-sum.result (pairSum a.e.p0 a.c a.f.s a.f.sh) 480
+one : (c : tie.After-pair-sum) → let a = c.before.args in Is c.pair-sum.result (pair_sum a.e.p0 a.c a.f.s a.f.sh) 480
 one c = let s = c.before in
     let a = s.args in
     record { is = c.pair-sum.ensures; small = size-pair-sum a.e.p0 a.c a.f.s a.f.sh s.requires.2.s }
 
-other : (c : tie.After-pair-sum2) → let a = c.before.before.args in Is c.pair-sum2.result (pairSum a.e.p1 a.c a.f.s a.f.sh) 480
+other : (c : tie.After-pair-sum2) → let a = c.before.before.args in Is c.pair-sum2.result (pair_sum a.e.p1 a.c a.f.s a.f.sh) 480
 other c = let s = c.before.before in
     let a = s.args in
     record { is = c.pair-sum2.ensures; small = size-pair-sum a.e.p1 a.c a.f.s a.f.sh s.requires.2.s }
@@ -30,7 +30,7 @@ weigh-requires : tie.Need-weigh-requires
 weigh-requires c κs = (small-back (one c.before) (omega arith) (omega arith), small-back (other c) (omega arith) (omega arith), c.before.before.requires.2)
 
 returns : tie.Need-returns
-unfolding priSum
+unfolding pri_sum
 returns c = let s = c.before.before.before in
     let a = s.args in
     back_is {m = 3840} (record { is = c.weigh.ensures ∙ rw (back_is (one c.before.before) (omega arith), back_is (other c.before) (omega arith)); small = size-pri-sum a.e a.c a.f s.requires.2 }) (omega arith)

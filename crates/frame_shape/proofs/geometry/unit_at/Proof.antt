@@ -5,7 +5,7 @@ use native.Mathlib.Omega.{arith}
 use borrow.Author.Rules.{rules}
 use native.Mathlib.Nat.{mul-le-mul}
 use Rattle.cdef_spec.specs.Picture.{unit_at}
-use Rattle.frame_shape.specs.Frame.{pictureOf}
+use Rattle.frame_shape.specs.Frame.{picture_of}
 use Rattle.frame_shape.specs.FrameLaws.{side-facts}
 use Rattle.frame_shape.proofs.geometry.unit_at.Statement.{statement}
 use Rattle.frame_shape.proofs.geometry.unit_at.Tie as tie
@@ -33,7 +33,7 @@ add-result-2 : tie.Need-overflow-add-result-2
 add-result-2 c = omega (arith, low c.before, c.before.requires.2)
 
 returns : tie.Need-returns
-unfolding unit_at pictureOf
+unfolding unit_at picture_of
 returns c = λ l d vs. refl
 
 pub unit-at-spec : {M : Type 1} → statement M

@@ -1,7 +1,7 @@
 -- `frame_shape::params::damping_of` meets its contract.
 use native.Mathlib.Omega.{arith}
 use borrow.Author.Rules.{rules}
-use Rattle.frame_shape.specs.Frame.{dampingOf}
+use Rattle.frame_shape.specs.Frame.{damping_of}
 use Rattle.frame_shape.specs.FrameLaws.{kind-luma, kind-chroma}
 use borrow.Author.Rules.{rules}
 use Rattle.frame_shape.proofs.params.damping_of.Statement.{statement}
@@ -15,14 +15,14 @@ luma-damping-requires : tie.Need-luma-damping-requires
 luma-damping-requires c κs = search rules
 
 returns : tie.Need-returns
-unfolding dampingOf
+unfolding damping_of
 returns c = λ vs. rw (kind-luma c.before.before.args.f vs c.before.if1.true) c.luma-damping.ensures
 
 chroma-damping-requires : tie.Need-chroma-damping-requires
 chroma-damping-requires c κs = search rules
 
 returns-2 : tie.Need-returns-2
-unfolding dampingOf
+unfolding damping_of
 returns-2 c = λ vs. rw (kind-chroma c.before.before.args.f vs c.before.if1.false) c.chroma-damping.ensures
 
 pub damping-of-spec : {M : Type 1} → statement M

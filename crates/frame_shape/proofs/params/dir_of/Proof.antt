@@ -1,7 +1,7 @@
 -- `frame_shape::params::dir_of` meets its contract.
 use native.Mathlib.Omega.{arith}
 use borrow.Author.Rules.{rules}
-use Rattle.frame_shape.specs.Frame.{dirOf}
+use Rattle.frame_shape.specs.Frame.{dir_of}
 use Rattle.frame_shape.specs.FrameLaws.{kind-luma, kind-chroma}
 use borrow.Author.Rules.{rules}
 use Rattle.frame_shape.proofs.params.dir_of.Statement.{statement}
@@ -14,7 +14,7 @@ shared-slice-read-result : tie.Need-shared-slice-read-result
 shared-slice-read-result c = search rules
 
 returns : tie.Need-returns
-unfolding dirOf
+unfolding dir_of
 returns c = λ vs. rw (kind-luma c.before.before.before.args.f vs c.before.if1.true)
 
 shared-slice-read-chroma-direction : tie.Need-shared-slice-read-chroma-direction
@@ -24,7 +24,7 @@ chroma-direction-requires : tie.Need-chroma-direction-requires
 chroma-direction-requires c κs = search rules
 
 returns-2 : tie.Need-returns-2
-unfolding dirOf
+unfolding dir_of
 returns-2 c = λ vs. rw (kind-chroma c.before.before.before.before.args.f vs c.before.before.if1.false) c.chroma-direction.ensures
 
 pub dir-of-spec : {M : Type 1} → statement M

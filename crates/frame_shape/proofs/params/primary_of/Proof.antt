@@ -3,7 +3,7 @@ use mathlib.Core.Path.{◌∙◌}
 use native.Mathlib.Omega.{arith}
 use borrow.Author.Rules.{rules}
 use Rattle.arith_strength.specs.StrengthLaws.{limit, limit-low}
-use Rattle.frame_shape.specs.Frame.{primaryOf}
+use Rattle.frame_shape.specs.Frame.{primary_of}
 use Rattle.frame_shape.specs.FrameLaws.{kind-luma, kind-chroma}
 use borrow.Author.Rules.{rules}
 use Rattle.frame_shape.proofs.params.primary_of.Statement.{statement}
@@ -31,11 +31,11 @@ adjust-pri-requires : tie.Need-adjust-pri-requires
 adjust-pri-requires c κs = let s = c.before.before.before.before in omega (arith, limit s.args.s s.args.f.depth s.requires.2 s.requires.0.flat, limit-low s.args.s s.args.f.depth s.requires.2 s.requires.0.flat)
 
 returns : tie.Need-returns
-unfolding primaryOf
+unfolding primary_of
 returns c = let a = c.before.before.before.before.before.args in rw (kind-luma a.f a.vars.now c.before.before.if1.true) (c.adjust-pri.ensures ∙ rw (limit a.s a.f.depth c.before.before.before.before.before.requires.2 c.before.before.before.before.before.requires.0.flat))
 
 returns-2 : tie.Need-returns-2
-unfolding primaryOf
+unfolding primary_of
 returns-2 c = let a = c.before.before.before.args in rw (kind-chroma a.f a.vars.now c.if1.false, limit a.s a.f.depth c.before.before.before.requires.2 c.before.before.before.requires.0.flat)
 
 pub primary-of-spec : {M : Type 1} → statement M

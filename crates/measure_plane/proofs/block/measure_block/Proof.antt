@@ -7,9 +7,9 @@ use mathlib.Core.Bool.{true, true≢false}
 use mathlib.Core.List.{List, []}
 use mathlib.Core.Logic.{⊎_elim}
 use lib.ListN.{length}
-use Rattle.frame_shape.specs.Frame.{pictureOf}
+use Rattle.frame_shape.specs.Frame.{picture_of}
 use Rattle.frame_shape.specs.FrameLaws.{width_is}
-use Rattle.measure_plane.specs.Measure.{Filled, scratchOf}
+use Rattle.measure_plane.specs.Measure.{Filled, scratch_of}
 use Rattle.measure_plane.specs.FilledLaws.{filled-block}
 use Rattle.measure_plane.specs.DistanceLaws.{measured}
 use borrow.Author.Rules.{rules}
@@ -26,7 +26,7 @@ width : (c : tie.After-plane-width) → let f = c.before.before.before.before.be
 width c = let s = c.before.before.before.before.before.before.before in c.plane-width.ensures [] [] [] ∙ width_is s.args.f s.requires.0.1.shaped [] [] []
 
 -- where the two branches join, the scratch has its length and, where the pair filters, the filtered block
-at_join : (c : tie.Joined1) → let a = c.before.before.before.before.before.before.before.before.args in (length c.if1.scratch ≡ scratchOf a.f) × (c.before.before.filters.result ≡ true → (t : List ℕ) → Filled (pictureOf a.f t a.dirs.now a.vars.now) a.d a.plane.now a.p a.by a.bx c.if1.scratch)
+at_join : (c : tie.Joined1) → let a = c.before.before.before.before.before.before.before.before.args in (length c.if1.scratch ≡ scratch_of a.f) × (c.before.before.filters.result ≡ true → (t : List ℕ) → Filled (picture_of a.f t a.dirs.now a.vars.now) a.d a.plane.now a.p a.by a.bx c.if1.scratch)
 at_join c =
     let len = c.before.before.before.before.before.before.before.before.requires.1.2 in
     ⊎_elim (λ w. (ap length w.5 ∙ w.2.kept.0 ∙ len, λ e t. rw w.5 (w.2.ensures t)))

@@ -8,7 +8,7 @@ use borrow.Author.Tests.{not-true, not-false}
 use Rattle.cdef_spec.specs.Picture.{counted}
 use Rattle.cdef_spec.specs.LoopForm.{signed}
 use Rattle.cdef_spec.specs.GeometryLaws.{unit-low}
-use Rattle.frame_shape.specs.Frame.{pictureOf}
+use Rattle.frame_shape.specs.Frame.{picture_of}
 use Rattle.frame_shape.specs.FrameLaws.{side-facts}
 use Rattle.frame_shape.specs.BlockLaws.{counts-low, number-low}
 use Rattle.measure_plane.specs.DistanceLaws.{begun}
@@ -24,7 +24,7 @@ use Rattle.measure_plane.proofs.block.measure_block.Reads as measure-block-reads
 use Rattle.arith_totals.proofs.add_at.Reads as add-at-reads
 
 -- past the test the block counts
-is-counted : (c : tie.Else1) → let a = c.before.before.before.before.before.before.before.before.args in counted (pictureOf a.f a.skip.now a.dirs.now a.vars.now) a.v a.by a.bx ≡ true
+is-counted : (c : tie.Else1) → let a = c.before.before.before.before.before.before.before.before.args in counted (picture_of a.f a.skip.now a.dirs.now a.vars.now) a.v a.by a.bx ≡ true
 is-counted c = let a = c.before.before.before.before.before.before.before.before.args in sym (c.before.counted.ensures a.dirs.now a.vars.now) ∙ not-false _ c.if1.false
 
 small : (s : tie.Start) → let a = s.args in (a.by ≤ 512) × (a.bx ≤ 512)
@@ -50,7 +50,7 @@ unit-at-requires c κs = let s = c.before.before.before.before.before.before.bef
 add-at-requires : tie.Need-add-at-requires
 add-at-requires c κs = let s = c.before.before.before.before.before.before.before.before.before.before.before.before.before.before in let a = s.args in
     let l = s.requires.0.0 in
-    let u = unit-low (pictureOf a.f a.skip.now a.dirs.now a.vars.now) a.by a.bx (unfold pictureOf in s.requires.0.2) (unfold pictureOf in s.requires.0.3) in
+    let u = unit-low (picture_of a.f a.skip.now a.dirs.now a.vars.now) a.by a.bx (unfold picture_of in s.requires.0.2) (unfold picture_of in s.requires.0.3) in
     (omega (arith, u, c.unit-at.ensures a.skip.now a.dirs.now a.vars.now, units-is a.f a.v a.plane.now a.original.now a.skip.now a.dirs.now a.vars.now a.p a.d l, s.requires.1.1), c.before.before.before.before.measure-block.ensures.1, s.requires.1.2)
 
 same_length : tie.Need-same-length

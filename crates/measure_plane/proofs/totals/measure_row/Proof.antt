@@ -5,10 +5,10 @@ use native.Mathlib.Omega.{arith}
 use borrow.Author.Rules.{rules}
 use mathlib.Core.List.{List}
 use lib.ListN.{length}
-use Rattle.cdef_spec.specs.LoopForm.{signed, measureRow}
+use Rattle.cdef_spec.specs.LoopForm.{signed, measure_row}
 use Rattle.arith_totals.specs.FoldLaws.{measure-row-none}
-use Rattle.frame_shape.specs.Frame.{pictureOf}
-use Rattle.measure_plane.specs.Measure.{measuredDistance}
+use Rattle.frame_shape.specs.Frame.{picture_of}
+use Rattle.measure_plane.specs.Measure.{measured_distance}
 use Rattle.measure_plane.specs.AddLaws.{row_step}
 use Rattle.measure_plane.proofs.totals.measure_row.Statement.{statement}
 use Rattle.measure_plane.proofs.totals.measure_row.Tie as tie
@@ -18,7 +18,7 @@ use Rattle.measure_plane.proofs.totals.measure_one.Reads as measure-one-reads
 
 abbrev invariant-loop : tie.invariant-loop
 invariant-loop totals₀ scratch₀ plane original f v skip dirs vars p d by c bx₀ bx-end totals scratch bx =
-    ((t : List ℕ) → totals₀ ≡ signed t → totals ≡ signed (measureRow (pictureOf f skip dirs vars) v (measuredDistance (pictureOf f skip dirs vars) d v plane original p) by t bx)) × (length totals ≡ length totals₀) × (length scratch ≡ length scratch₀) × (bx ≤ bx-end)
+    ((t : List ℕ) → totals₀ ≡ signed t → totals ≡ signed (measure_row (picture_of f skip dirs vars) v (measured_distance (picture_of f skip dirs vars) d v plane original p) by t bx)) × (length totals ≡ length totals₀) × (length scratch ≡ length scratch₀) × (bx ≤ bx-end)
 
 abbrev decreases-loop : tie.decreases-loop
 decreases-loop totals₀ scratch₀ plane original f v skip dirs vars p d by c bx₀ bx-end totals scratch bx =
@@ -30,7 +30,7 @@ loop-holds c = (λ t e. e ∙ ap signed (sym (measure-row-none _ _ _ _ t)), refl
 measure-one-requires : tie.Need-measure-one-requires invariant-loop decreases-loop
 measure-one-requires c κs = let s = c.before.before.before.before.before.before.before.before.before.before.before in let p = c.before.before.before.loop in
     let k = s.requires.1.1 in
-    ((s.requires.0.0, s.requires.0.1, s.requires.0.2, omega arith), (p.invariant.2 ∙ s.requires.1.0.0, p.invariant.1 ∙ s.requires.1.0.1, (_, p.invariant.0 k.0 k.1, k.2.turn _ (unfold pictureOf in omega arith))))
+    ((s.requires.0.0, s.requires.0.1, s.requires.0.2, omega arith), (p.invariant.2 ∙ s.requires.1.0.0, p.invariant.1 ∙ s.requires.1.0.1, (_, p.invariant.0 k.0 k.1, k.2.turn _ (unfold picture_of in omega arith))))
 
 add-bx : tie.Need-overflow-add-bx invariant-loop decreases-loop
 add-bx c = omega arith

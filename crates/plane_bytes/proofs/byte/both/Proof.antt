@@ -1,6 +1,6 @@
 -- `plane_bytes::byte::both` meets its contract.
 use Rattle.std.proofs.Common.{◌≡◌, ℕ, ◌+◌, ◌≤◌, max, ◌∙◌, arith, rules}
-use Rattle.plane_bytes.specs.Byte.{bothOf}
+use Rattle.plane_bytes.specs.Byte.{both_of}
 use Rattle.plane_bytes.proofs.byte.both.Statement.{statement}
 use Rattle.plane_bytes.proofs.byte.both.Tie as tie
 use Rattle.plane_bytes.proofs.byte.both.Reads as reads
@@ -73,7 +73,7 @@ clipped-requires c κs =
     (omega (arith, c.before.before.before.before.before.before.before.before.before.before.before.before.before.pri-up.ensures.1, c.before.before.before.before.before.before.before.before.before.before.before.before.sec-up.ensures.1), omega (arith, c.before.before.before.before.before.before.before.before.before.before.before.pri-down.ensures.1, c.before.before.before.before.before.before.before.before.before.before.sec-down.ensures.1), three _ _ _ _ _ _ c.before.before.before.before.before.before.before.before.before.high-four.ensures.1 c.before.before.before.before.before.before.before.before.high-four2.ensures.1 c.before.before.before.before.before.before.before.high-four3.ensures.1 c.before.before.before.before.before.before.most.ensures c.before.before.before.before.before.most2.ensures, three-low _ _ _ _ _ _ c.before.before.before.before.low-four.ensures.1 c.before.before.before.low-four2.ensures.1 c.before.before.low-four3.ensures.1 c.before.most3.ensures c.most4.ensures)
 
 returns : tie.Need-returns
-unfolding bothOf
+unfolding both_of
 returns c = c.clipped.ensures ∙ rw (c.before.most4.ensures, c.before.before.most3.ensures, c.before.before.before.low-four3.ensures.0, c.before.before.before.before.low-four2.ensures.0, c.before.before.before.before.before.low-four.ensures.0, c.before.before.before.before.before.before.most2.ensures, c.before.before.before.before.before.before.before.most.ensures, c.before.before.before.before.before.before.before.before.high-four3.ensures.0, c.before.before.before.before.before.before.before.before.before.high-four2.ensures.0, c.before.before.before.before.before.before.before.before.before.before.high-four.ensures.0, c.before.before.before.before.before.before.before.before.before.before.before.sec-down.ensures.0, c.before.before.before.before.before.before.before.before.before.before.before.before.pri-down.ensures.0, c.before.before.before.before.before.before.before.before.before.before.before.before.before.sec-up.ensures.0, c.before.before.before.before.before.before.before.before.before.before.before.before.before.before.pri-up.ensures.0)
 
 pub both-spec : {M : Type 1} → statement M

@@ -1,5 +1,5 @@
 -- `plane_bytes::byte::clipped` meets its contract.
-use Rattle.plane_bytes.specs.Byte.{clippedOf}
+use Rattle.plane_bytes.specs.Byte.{clipped_of}
 use Rattle.std.proofs.Common.{rules}
 use Rattle.plane_bytes.proofs.byte.clipped.Statement.{statement}
 use Rattle.plane_bytes.proofs.byte.clipped.Tie as tie
@@ -27,7 +27,7 @@ sub-result : tie.Need-overflow-sub-result
 sub-result c = search rules
 
 returns : tie.Need-returns
-unfolding clippedOf
+unfolding clipped_of
 returns c = rw (c.before.before.least.ensures, c.before.before.before.left.ensures, c.least2.ensures, c.before.left2.ensures)
 
 pub clipped-spec : {M : Type 1} → statement M

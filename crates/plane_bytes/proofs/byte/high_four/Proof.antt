@@ -1,6 +1,6 @@
 -- `plane_bytes::byte::high_four` meets its contract.
 use Rattle.std.proofs.Common.{◌≡◌, ◌∙◌, rules}
-use Rattle.plane_bytes.specs.Byte.{highFour}
+use Rattle.plane_bytes.specs.Byte.{high_four}
 use Rattle.plane_bytes.specs.ByteBounds.{high_le}
 use Rattle.plane_bytes.proofs.byte.high_four.Statement.{statement}
 use Rattle.plane_bytes.proofs.byte.high_four.Tie as tie
@@ -9,8 +9,8 @@ use Rattle.plane_bytes.proofs.byte.high_four.Lts as lts
 use Rattle.plane_byte.proofs.less.Reads as less-reads
 use Rattle.plane_byte.proofs.most.Reads as most-reads
 
-is : (c : tie.After-most3) → let a = c.before.before.before.before.before.before.before.args in c.most3.result ≡ highFour a.a0 a.b0 a.a1 a.b1 a.c
-unfolding highFour
+is : (c : tie.After-most3) → let a = c.before.before.before.before.before.before.before.args in c.most3.result ≡ high_four a.a0 a.b0 a.a1 a.b1 a.c
+unfolding high_four
 is c = c.most3.ensures ∙ rw (c.before.most2.ensures, c.before.before.less4.ensures, c.before.before.before.less3.ensures, c.before.before.before.before.most.ensures, c.before.before.before.before.before.less2.ensures, c.before.before.before.before.before.before.less.ensures)
 
 less-requires : tie.Need-less-requires

@@ -1,6 +1,6 @@
 -- `plane_bytes::byte::low_four` meets its contract.
 use Rattle.std.proofs.Common.{◌≡◌, ◌∙◌, rules}
-use Rattle.plane_bytes.specs.Byte.{lowFour}
+use Rattle.plane_bytes.specs.Byte.{low_four}
 use Rattle.plane_bytes.specs.ByteBounds.{low-le}
 use Rattle.plane_bytes.proofs.byte.low_four.Statement.{statement}
 use Rattle.plane_bytes.proofs.byte.low_four.Tie as tie
@@ -9,8 +9,8 @@ use Rattle.plane_bytes.proofs.byte.low_four.Lts as lts
 use Rattle.plane_byte.proofs.less.Reads as less-reads
 use Rattle.plane_byte.proofs.most.Reads as most-reads
 
-is : (c : tie.After-most3) → let a = c.before.before.before.before.before.before.before.args in c.most3.result ≡ lowFour a.a0 a.b0 a.a1 a.b1 a.c
-unfolding lowFour
+is : (c : tie.After-most3) → let a = c.before.before.before.before.before.before.before.args in c.most3.result ≡ low_four a.a0 a.b0 a.a1 a.b1 a.c
+unfolding low_four
 is c = c.most3.ensures ∙ rw (c.before.most2.ensures, c.before.before.less4.ensures, c.before.before.before.less3.ensures, c.before.before.before.before.most.ensures, c.before.before.before.before.before.less2.ensures, c.before.before.before.before.before.before.less.ensures)
 
 less-requires : tie.Need-less-requires

@@ -1,6 +1,6 @@
 -- `plane_bytes::byte::pair_down` meets its contract.
 use Rattle.std.proofs.Common.{arith, rules}
-use Rattle.plane_bytes.specs.Byte.{downPair}
+use Rattle.plane_bytes.specs.Byte.{down_pair}
 use Rattle.plane_bytes.proofs.byte.pair_down.Statement.{statement}
 use Rattle.plane_bytes.proofs.byte.pair_down.Tie as tie
 use Rattle.plane_bytes.proofs.byte.pair_down.Reads as reads
@@ -17,7 +17,7 @@ add-result : tie.Need-overflow-add-result
 add-result c = search rules
 
 returns : tie.Need-returns
-unfolding downPair
+unfolding down_pair
 returns c = (rw (c.before.above.ensures.0, c.above2.ensures.0), omega (arith, c.before.above.ensures.1, c.above2.ensures.1))
 
 pub pair-down-spec : {M : Type 1} → statement M

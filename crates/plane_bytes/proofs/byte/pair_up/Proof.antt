@@ -1,6 +1,6 @@
 -- `plane_bytes::byte::pair_up` meets its contract.
 use Rattle.std.proofs.Common.{arith, rules}
-use Rattle.plane_bytes.specs.Byte.{upPair}
+use Rattle.plane_bytes.specs.Byte.{up_pair}
 use Rattle.plane_bytes.proofs.byte.pair_up.Statement.{statement}
 use Rattle.plane_bytes.proofs.byte.pair_up.Tie as tie
 use Rattle.plane_bytes.proofs.byte.pair_up.Reads as reads
@@ -17,7 +17,7 @@ add-result : tie.Need-overflow-add-result
 add-result c = search rules
 
 returns : tie.Need-returns
-unfolding upPair
+unfolding up_pair
 returns c = (rw (c.before.above.ensures.0, c.above2.ensures.0), omega (arith, c.before.above.ensures.1, c.above2.ensures.1))
 
 pub pair-up-spec : {M : Type 1} → statement M

@@ -1,6 +1,6 @@
 -- `plane_bytes::byte::pri_down` meets its contract.
 use Rattle.std.proofs.Common.{◌∙◌, rules}
-use Rattle.plane_bytes.specs.Byte.{downPri}
+use Rattle.plane_bytes.specs.Byte.{down_pri}
 use Rattle.plane_bytes.proofs.byte.pri_down.Statement.{statement}
 use Rattle.plane_bytes.proofs.byte.pri_down.Tie as tie
 use Rattle.plane_bytes.proofs.byte.pri_down.Reads as reads
@@ -18,7 +18,7 @@ weigh-requires : tie.Need-weigh-requires
 weigh-requires c κs = search rules
 
 returns : tie.Need-returns
-unfolding downPri
+unfolding down_pri
 returns c = (c.weigh.ensures.0 ∙ rw (c.before.pair-down2.ensures.0, c.before.before.pair-down.ensures.0), c.weigh.ensures.1)
 
 pub pri-down-spec : {M : Type 1} → statement M

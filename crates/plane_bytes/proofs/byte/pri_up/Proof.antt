@@ -1,6 +1,6 @@
 -- `plane_bytes::byte::pri_up` meets its contract.
 use Rattle.std.proofs.Common.{◌∙◌, rules}
-use Rattle.plane_bytes.specs.Byte.{upPri}
+use Rattle.plane_bytes.specs.Byte.{up_pri}
 use Rattle.plane_bytes.proofs.byte.pri_up.Statement.{statement}
 use Rattle.plane_bytes.proofs.byte.pri_up.Tie as tie
 use Rattle.plane_bytes.proofs.byte.pri_up.Reads as reads
@@ -18,7 +18,7 @@ weigh-requires : tie.Need-weigh-requires
 weigh-requires c κs = search rules
 
 returns : tie.Need-returns
-unfolding upPri
+unfolding up_pri
 returns c = (c.weigh.ensures.0 ∙ rw (c.before.pair-up2.ensures.0, c.before.before.pair-up.ensures.0), c.weigh.ensures.1)
 
 pub pri-up-spec : {M : Type 1} → statement M

@@ -1,6 +1,6 @@
 -- `plane_bytes::byte::sec_down` meets its contract.
 use Rattle.std.proofs.Common.{◌∙◌, rules}
-use Rattle.plane_bytes.specs.Byte.{downSec}
+use Rattle.plane_bytes.specs.Byte.{down_sec}
 use Rattle.plane_bytes.proofs.byte.sec_down.Statement.{statement}
 use Rattle.plane_bytes.proofs.byte.sec_down.Tie as tie
 use Rattle.plane_bytes.proofs.byte.sec_down.Reads as reads
@@ -18,7 +18,7 @@ double-requires : tie.Need-double-requires
 double-requires c κs = search rules
 
 returns : tie.Need-returns
-unfolding downSec
+unfolding down_sec
 returns c = (c.double.ensures.0 ∙ rw (c.before.two-down2.ensures.0, c.before.before.two_down.ensures.0), c.double.ensures.1)
 
 pub sec-down-spec : {M : Type 1} → statement M

@@ -1,6 +1,6 @@
 -- `plane_bytes::byte::sec_up` meets its contract.
 use Rattle.std.proofs.Common.{◌∙◌, rules}
-use Rattle.plane_bytes.specs.Byte.{upSec}
+use Rattle.plane_bytes.specs.Byte.{up_sec}
 use Rattle.plane_bytes.proofs.byte.sec_up.Statement.{statement}
 use Rattle.plane_bytes.proofs.byte.sec_up.Tie as tie
 use Rattle.plane_bytes.proofs.byte.sec_up.Reads as reads
@@ -18,7 +18,7 @@ double-requires : tie.Need-double-requires
 double-requires c κs = search rules
 
 returns : tie.Need-returns
-unfolding upSec
+unfolding up_sec
 returns c = (c.double.ensures.0 ∙ rw (c.before.two-up2.ensures.0, c.before.before.two_up.ensures.0), c.double.ensures.1)
 
 pub sec-up-spec : {M : Type 1} → statement M

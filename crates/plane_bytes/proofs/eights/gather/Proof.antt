@@ -2,7 +2,7 @@
 use Rattle.plane_bytes.specs.EightLaws.{row_in}
 use Rattle.std.proofs.Common.{◌≡◌, ℕ, ◌+◌, ◌-◌, ◌*◌, ◌<◌, ◌≤◌, length, get_or, take, sym, refl, ap, ◌∙◌, mul-le-mul_right, arith, length-set}
 use Rattle.arith_sample.specs.Upto.{upto, upto-none, upto-more, upto-at, upto_all}
-use Rattle.plane_bytes.specs.Eights.{eightAt, centreRun8}
+use Rattle.plane_bytes.specs.Eights.{eight_at, centre_run8}
 use Rattle.plane_bytes.specs.EightLaws.{eight-place}
 use Rattle.plane_bytes.proofs.eights.gather.Statement.{statement}
 use Rattle.plane_bytes.proofs.eights.gather.Tie as tie
@@ -10,13 +10,13 @@ use Rattle.plane_bytes.proofs.eights.gather.Reads as reads
 use Rattle.plane_bytes.proofs.eights.gather.Lts as lts
 
 abbrev invariant-loop2 : tie.invariant-loop2
-invariant-loop2 src w k v₀ i at to j₀ v j = (take (to + j) v ≡ upto (λ (n : ℕ). get_or src (eightAt w k n) 0) (to + j)) × (length v ≡ 16) × (j ≤ 8)
+invariant-loop2 src w k v₀ i at to j₀ v j = (take (to + j) v ≡ upto (λ (n : ℕ). get_or src (eight_at w k n) 0) (to + j)) × (length v ≡ 16) × (j ≤ 8)
 
 abbrev decreases-loop2 : tie.decreases-loop2
 decreases-loop2 src w k v₀ i at to j₀ v j = 8 - j
 
 abbrev invariant-loop : tie.invariant-loop
-invariant-loop src w k v₀ i₀ v i = (take (i * 8) v ≡ upto (λ (n : ℕ). get_or src (eightAt w k n) 0) (i * 8)) × (length v ≡ 16) × (i ≤ 2)
+invariant-loop src w k v₀ i₀ v i = (take (i * 8) v ≡ upto (λ (n : ℕ). get_or src (eight_at w k n) 0) (i * 8)) × (length v ≡ 16) × (i ≤ 2)
 
 abbrev decreases-loop : tie.decreases-loop
 decreases-loop src w k v₀ i₀ v i = 2 - i
@@ -77,7 +77,7 @@ loop-again : tie.Need-loop-preserved invariant-loop2 decreases-loop2 invariant-l
 loop-again c = let p = c.before.loop2 in (upto-at _ _ _ _ (omega arith) p.invariant.0, p.invariant.1, omega arith)
 
 returns : tie.Need-returns invariant-loop2 decreases-loop2 invariant-loop decreases-loop
-unfolding centreRun8
+unfolding centre_run8
 returns c = let p = c.before in upto_all _ _ 16 _ p.loop.invariant.0 p.loop.invariant.1 (omega arith)
 
 pub gather-spec : {M : Type 1} → statement M

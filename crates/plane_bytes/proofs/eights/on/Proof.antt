@@ -1,8 +1,8 @@
 -- `plane_bytes::eights::on` meets its contract.
 use Rattle.std.proofs.Common.{◌≡◌, ℕ, get_or, sym, ◌∙◌, arith, rules}
 use Rattle.arith_sample.specs.Upto.{upto-ext}
-use Rattle.filter_rows.specs.Place.{onFrom}
-use Rattle.plane_bytes.specs.Eights.{centreRun8, onRun8}
+use Rattle.filter_rows.specs.Place.{on_from}
+use Rattle.plane_bytes.specs.Eights.{centre_run8, on_run8}
 use Rattle.plane_taps.specs.ReachLaws.{on-run}
 use Rattle.plane_bytes.specs.EightLaws.{on-eight}
 use Rattle.plane_bytes.proofs.eights.on.Statement.{statement}
@@ -12,8 +12,8 @@ use Rattle.plane_bytes.proofs.eights.on.Lts as lts
 use Rattle.plane_bytes.proofs.eights.run.Reads as run-reads
 use Rattle.std.proofs.num.wrapping_add_usize.Reads as wrapping-add-usize-reads
 
-on-is : (c : tie.After-wrapping-add-usize) → c.wrapping-add-usize.result ≡ onFrom c.before.before.args.k c.before.before.args.o
-unfolding onFrom
+on-is : (c : tie.After-wrapping-add-usize) → c.wrapping-add-usize.result ≡ on_from c.before.before.args.k c.before.before.args.o
+unfolding on_from
 on-is c = c.wrapping-add-usize.ensures
 
 wrapping-add-usize-requires : tie.Need-wrapping-add-usize-requires
@@ -23,7 +23,7 @@ run-requires : tie.Need-run-requires
 run-requires c κs = let s = c.before.before in (omega (arith, on-is c, on-run s.requires.1), s.requires.0, s.requires.2)
 
 returns : tie.Need-returns
-unfolding onRun8 centreRun8
+unfolding on_run8 centre_run8
 returns c = let s = c.before.before.before in
     let a = s.args in
     c.run.ensures ∙ upto-ext _ _ 16 (λ j l. rw (on-is c.before, ← on-eight a.w s.requires.1 j l))

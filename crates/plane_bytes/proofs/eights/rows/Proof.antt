@@ -1,6 +1,6 @@
 -- `plane_bytes::eights::rows` meets its contract.
 use Rattle.std.proofs.Common.{◌≡◌, ℕ, ◌+◌, ◌-◌, ◌*◌, ◌/◌, ◌^◌, ◌<◌, ◌≤◌, length, sym, refl, ap, ◌∙◌, mul-le-mul_right, arith}
-use Rattle.plane_rows.specs.Rows.{priIn, secIn, KernelRows}
+use Rattle.plane_rows.specs.Rows.{pri_in, sec_in, KernelRows}
 use Rattle.plane_rows.specs.StoreLaws.{length-placed, stored}
 use Rattle.plane_bytes.specs.EightLaws.{pri-in, sec-in, pri-some, sec-some, low_of, two-kept}
 use Rattle.plane_bytes.proofs.eights.rows.Statement.{statement}
@@ -18,7 +18,7 @@ room w to len n h r hr =
     omega (arith, mul-le-mul_right w a, h (r / 2) (omega arith))
 
 abbrev invariant-loop : tie.invariant-loop
-invariant-loop dst to src w at n t s sh near s2 sh2 all₀ i₀ all i = KernelRows src all w at t (priIn s sh near) (secIn s2 sh2) 8 (2 * i) × (length all ≡ 64) × (i ≤ n)
+invariant-loop dst to src w at n t s sh near s2 sh2 all₀ i₀ all i = KernelRows src all w at t (pri_in s sh near) (sec_in s2 sh2) 8 (2 * i) × (length all ≡ 64) × (i ≤ n)
 
 abbrev decreases-loop : tie.decreases-loop
 decreases-loop dst to src w at n t s sh near s2 sh2 all₀ i₀ all i = n - i
@@ -59,7 +59,7 @@ loop-again c = let s = c.before.before.before.before.before.before.before in
     let a = s.args in
     let p = c.before.before.before.before.loop in
     let e = s.requires.0.3 in
-    (two-kept a.src.now a.w a.at a.t (priIn a.s a.sh a.near) (secIn a.s2 a.sh2) (pri-some e) (sec-some e) _ _ _ p.i c.before.before.both.ensures p.invariant.1 (omega (arith, s.requires.0.2)) p.invariant.0 c.keep.ensures, ap length c.keep.ensures ∙ length-placed _ _ _ _ 16 ∙ p.invariant.1, omega arith)
+    (two-kept a.src.now a.w a.at a.t (pri_in a.s a.sh a.near) (sec_in a.s2 a.sh2) (pri-some e) (sec-some e) _ _ _ p.i c.before.before.both.ensures p.invariant.1 (omega (arith, s.requires.0.2)) p.invariant.0 c.keep.ensures, ap length c.keep.ensures ∙ length-placed _ _ _ _ 16 ∙ p.invariant.1, omega arith)
 
 mul-store : tie.Need-overflow-mul-store invariant-loop decreases-loop
 mul-store c = omega (arith, c.before.before.before.before.before.before.requires.0.2)

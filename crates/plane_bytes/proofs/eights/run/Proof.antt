@@ -1,7 +1,7 @@
 -- `plane_bytes::eights::run` meets its contract.
 use Rattle.std.proofs.Common.{◌≡◌, ℕ, ◌-◌, ◌≤◌, List, length, get_or, take, sym, refl, ap, ◌∙◌, arith, length-set}
 use Rattle.arith_sample.specs.Upto.{upto, upto-none, upto-more, upto_all}
-use Rattle.plane_bytes.specs.Eights.{eightAt, centreRun8}
+use Rattle.plane_bytes.specs.Eights.{eight_at, centre_run8}
 use Rattle.plane_bytes.specs.EightLaws.{run-byte, centre-is}
 use Rattle.plane_bytes.proofs.eights.run.Statement.{statement}
 use Rattle.plane_bytes.proofs.eights.run.Tie as tie
@@ -11,7 +11,7 @@ use Rattle.plane_byte.proofs.narrow.Reads as narrow-reads
 use Rattle.plane_bytes.proofs.eights.gather.Reads as gather-reads
 
 abbrev invariant-loop : tie.invariant-loop
-invariant-loop src w k v b₀ j₀ b j = (take j b ≡ upto (λ (n : ℕ). get_or src (eightAt w k n) 0) j) × (length b ≡ 16) × (j ≤ 16)
+invariant-loop src w k v b₀ j₀ b j = (take j b ≡ upto (λ (n : ℕ). get_or src (eight_at w k n) 0) j) × (length b ≡ 16) × (j ≤ 16)
 
 abbrev decreases-loop : tie.decreases-loop
 decreases-loop src w k v b₀ j₀ b j = 16 - j
@@ -46,7 +46,7 @@ loop-again c = let p = c.before.before.loop in
     (upto-more _ _ _ _ p.invariant.0 (omega arith) (c.narrow.ensures ∙ (ap (λ (l : List ℕ). get_or l p.j 0) c.before.before.before.gather.ensures ∙ centre-is a.src.now a.w a.k p.j (omega arith))), simp length-set p.invariant.1, omega arith)
 
 returns : tie.Need-returns invariant-loop decreases-loop
-unfolding centreRun8
+unfolding centre_run8
 returns c = let p = c.before in upto_all _ _ 16 _ p.loop.invariant.0 p.loop.invariant.1 (omega arith)
 
 pub run_spec : {M : Type 1} → statement M

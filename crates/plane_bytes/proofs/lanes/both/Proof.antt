@@ -1,7 +1,7 @@
 -- `plane_bytes::lanes::both` meets its contract.
 use Rattle.std.proofs.Common.{◌≡◌, ℕ, ◌-◌, ◌≤◌, length, get_or, take, sym, refl, ap, ◌∙◌, arith, length-set}
 use Rattle.arith_sample.specs.Upto.{upto, upto-none, upto-more, upto_all}
-use Rattle.plane_bytes.specs.Byte.{bothOf}
+use Rattle.plane_bytes.specs.Byte.{both_of}
 use Rattle.plane_bytes.proofs.lanes.both.Statement.{statement}
 use Rattle.plane_bytes.proofs.lanes.both.Tie as tie
 use Rattle.plane_bytes.proofs.lanes.both.Reads as reads
@@ -9,7 +9,7 @@ use Rattle.plane_bytes.proofs.lanes.both.Lts as lts
 use Rattle.plane_bytes.proofs.byte.both.Reads as both-reads
 
 abbrev invariant-loop : tie.invariant-loop
-invariant-loop c a0 b0 a1 b1 a2 b2 a3 b3 a4 b4 a5 b5 s sh odd s2 sh2 out₀ j₀ out j = (take j out ≡ upto (λ (n : ℕ). bothOf (get_or a0 n 0) (get_or b0 n 0) (get_or a1 n 0) (get_or b1 n 0) (get_or a2 n 0) (get_or b2 n 0) (get_or a3 n 0) (get_or b3 n 0) (get_or a4 n 0) (get_or b4 n 0) (get_or a5 n 0) (get_or b5 n 0) (get_or c n 0) s sh odd s2 sh2) j) × (length out ≡ 16) × (j ≤ 16)
+invariant-loop c a0 b0 a1 b1 a2 b2 a3 b3 a4 b4 a5 b5 s sh odd s2 sh2 out₀ j₀ out j = (take j out ≡ upto (λ (n : ℕ). both_of (get_or a0 n 0) (get_or b0 n 0) (get_or a1 n 0) (get_or b1 n 0) (get_or a2 n 0) (get_or b2 n 0) (get_or a3 n 0) (get_or b3 n 0) (get_or a4 n 0) (get_or b4 n 0) (get_or a5 n 0) (get_or b5 n 0) (get_or c n 0) s sh odd s2 sh2) j) × (length out ≡ 16) × (j ≤ 16)
 
 abbrev decreases-loop : tie.decreases-loop
 decreases-loop c a0 b0 a1 b1 a2 b2 a3 b3 a4 b4 a5 b5 s sh odd s2 sh2 out₀ j₀ out j = 16 - j

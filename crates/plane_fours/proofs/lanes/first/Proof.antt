@@ -6,11 +6,11 @@ use Rattle.plane_taps.specs.Plain.{AllLow, Low, Bounded}
 use Rattle.plane_taps.specs.declared.plain.Part.{Part}
 use Rattle.plane_fours.specs.RunLaws.{first-each}
 use Rattle.arith_sample.specs.Upto.{upto, upto-none, upto-more, upto_all}
-use Rattle.plane_fours.specs.Fours.{pairIn}
+use Rattle.plane_fours.specs.Fours.{pair_in}
 use Rattle.plane_rows.specs.LaneLaws.{below}
 use Rattle.plane_fours.specs.RunLaws.{low-pair}
 use Rattle.plane_taps.specs.Plain.{first_of}
-use Rattle.plane_fours.specs.Fours.{firstLanes}
+use Rattle.plane_fours.specs.Fours.{first_lanes}
 use Rattle.plane_fours.proofs.lanes.first.Statement.{statement}
 use Rattle.plane_fours.proofs.lanes.first.Tie as tie
 use Rattle.plane_fours.proofs.lanes.first.Reads as reads
@@ -19,12 +19,12 @@ use Rattle.plane_fours.proofs.lanes.pair.Reads as Pair-reads
 use Rattle.plane_taps.proofs.plain.first.Reads as first_reads
 
 abbrev invariant-loop : tie.invariant-loop
-invariant-loop c a0 b0 a1 b1 f sum₀ lo₀ hi₀ j₀ sum lo hi j = (take j sum ≡ upto (λ (n : ℕ). (first_of (pairIn a0 b0 n) (pairIn a1 b1 n) (get_or c n 0) f).sum) j) × (take j lo ≡ upto (λ (n : ℕ). (first_of (pairIn a0 b0 n) (pairIn a1 b1 n) (get_or c n 0) f).lo) j) × (take j hi ≡ upto (λ (n : ℕ). (first_of (pairIn a0 b0 n) (pairIn a1 b1 n) (get_or c n 0) f).hi) j) × (length sum ≡ 16) × (length lo ≡ 16) × (length hi ≡ 16) × (j ≤ 16)
+invariant-loop c a0 b0 a1 b1 f sum₀ lo₀ hi₀ j₀ sum lo hi j = (take j sum ≡ upto (λ (n : ℕ). (first_of (pair_in a0 b0 n) (pair_in a1 b1 n) (get_or c n 0) f).sum) j) × (take j lo ≡ upto (λ (n : ℕ). (first_of (pair_in a0 b0 n) (pair_in a1 b1 n) (get_or c n 0) f).lo) j) × (take j hi ≡ upto (λ (n : ℕ). (first_of (pair_in a0 b0 n) (pair_in a1 b1 n) (get_or c n 0) f).hi) j) × (length sum ≡ 16) × (length lo ≡ 16) × (length hi ≡ 16) × (j ≤ 16)
 
 abbrev decreases-loop : tie.decreases-loop
 decreases-loop c a0 b0 a1 b1 f sum₀ lo₀ hi₀ j₀ sum lo hi j = 16 - j
 
-first-is : (c : tie.After-first invariant-loop decreases-loop) → let a = c.before.before.before.before.before.before.args in let j = c.before.before.before.before.before.loop.j in c.first.result ≡ first_of (pairIn a.a0.now a.b0.now j) (pairIn a.a1.now a.b1.now j) (get_or a.c.now j 0) a.f
+first-is : (c : tie.After-first invariant-loop decreases-loop) → let a = c.before.before.before.before.before.before.args in let j = c.before.before.before.before.before.loop.j in c.first.result ≡ first_of (pair_in a.a0.now a.b0.now j) (pair_in a.a1.now a.b1.now j) (get_or a.c.now j 0) a.f
 first-is c = c.first.ensures ∙ rw (c.before.before.before.pair.ensures, c.before.before.pair2.ensures)
 
 loop-holds : tie.Need-loop-init invariant-loop decreases-loop
@@ -79,7 +79,7 @@ loop-again c = let s = c.before.before.before.before.before.before.before in
     (upto-more _ _ _ _ p.invariant.0 (omega arith) (rw e (back _ (omega (arith, z.sum)))), upto-more _ _ _ _ p.invariant.1 (omega arith) (ap (λ (m : Part). m.lo) e), upto-more _ _ _ _ p.invariant.2 (omega arith) (ap (λ (m : Part). m.hi) e), simp length-set p.invariant.3, simp length-set p.invariant.4, simp length-set p.invariant.5, omega arith)
 
 returns : tie.Need-returns invariant-loop decreases-loop
-unfolding firstLanes
+unfolding first_lanes
 returns c = let p = c.before.loop in
     let e : p.j ≡ 16 = omega arith in
     rw (upto_all _ _ 16 _ p.invariant.0 p.invariant.3 e, upto_all _ _ 16 _ p.invariant.1 p.invariant.4 e, upto_all _ _ 16 _ p.invariant.2 p.invariant.5 e)

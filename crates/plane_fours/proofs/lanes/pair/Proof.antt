@@ -1,5 +1,5 @@
 -- `plane_fours::lanes::pair` meets its contract.
-use Rattle.plane_fours.specs.Fours.{pairIn}
+use Rattle.plane_fours.specs.Fours.{pair_in}
 use Rattle.std.proofs.Common.{rules}
 use Rattle.plane_fours.proofs.lanes.pair.Statement.{statement}
 use Rattle.plane_fours.proofs.lanes.pair.Tie as tie
@@ -19,7 +19,7 @@ element-copy-out-t11 : tie.Need-element-copy-out-t11
 element-copy-out-t11 c = search rules
 
 returns : tie.Need-returns
-unfolding pairIn
+unfolding pair_in
 returns c = search rules
 
 pub pair_spec : {M : Type 1} → statement M

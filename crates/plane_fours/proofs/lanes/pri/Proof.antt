@@ -9,11 +9,11 @@ use Rattle.plane_taps.specs.Plain.{AllLow, Low}
 use Rattle.plane_taps.specs.PlainLaws.{size-pri}
 use Rattle.plane_rows.specs.LaneLaws.{free-is}
 use Rattle.arith_sample.specs.Upto.{upto, upto-none, upto-more, upto_all}
-use Rattle.plane_fours.specs.Fours.{pairIn, priLanes}
+use Rattle.plane_fours.specs.Fours.{pair_in, pri_lanes}
 use Rattle.plane_rows.specs.LaneLaws.{below}
 use Rattle.plane_fours.specs.RunLaws.{held-pair}
-use Rattle.arith_sample.specs.Sample.{freeOf}
-use Rattle.plane_taps.specs.Plain.{priPlain}
+use Rattle.arith_sample.specs.Sample.{free_of}
+use Rattle.plane_taps.specs.Plain.{pri_plain}
 use Rattle.plane_fours.proofs.lanes.pri.Statement.{statement}
 use Rattle.plane_fours.proofs.lanes.pri.Tie as tie
 use Rattle.plane_fours.proofs.lanes.pri.Reads as reads
@@ -23,12 +23,12 @@ use Rattle.plane_taps.proofs.plain.pri_sum.Reads as pri-sum-reads
 use Rattle.arith_sample.proofs.raised.Reads as raised-reads
 
 abbrev invariant-loop : tie.invariant-loop
-invariant-loop c a0 b0 a1 b1 f out₀ j₀ out j = (take j out ≡ upto (λ (n : ℕ). freeOf (get_or c n 0) (priPlain (pairIn a0 b0 n) (pairIn a1 b1 n) (get_or c n 0) f)) j) × (length out ≡ 16) × (j ≤ 16)
+invariant-loop c a0 b0 a1 b1 f out₀ j₀ out j = (take j out ≡ upto (λ (n : ℕ). free_of (get_or c n 0) (pri_plain (pair_in a0 b0 n) (pair_in a1 b1 n) (get_or c n 0) f)) j) × (length out ≡ 16) × (j ≤ 16)
 
 abbrev decreases-loop : tie.decreases-loop
 decreases-loop c a0 b0 a1 b1 f out₀ j₀ out j = 16 - j
 
-sum : (c : tie.After-pri-sum invariant-loop decreases-loop) → let a = c.before.before.before.before.before.before.args in let j = c.before.before.before.before.before.loop.j in Is c.pri-sum.result (priPlain (pairIn a.a0.now a.b0.now j) (pairIn a.a1.now a.b1.now j) (get_or a.c.now j 0) a.f) 3840
+sum : (c : tie.After-pri-sum invariant-loop decreases-loop) → let a = c.before.before.before.before.before.before.args in let j = c.before.before.before.before.before.loop.j in Is c.pri-sum.result (pri_plain (pair_in a.a0.now a.b0.now j) (pair_in a.a1.now a.b1.now j) (get_or a.c.now j 0) a.f) 3840
 sum c = let s = c.before.before.before.before.before.before in
     record { is = c.pri-sum.ensures ∙ rw (c.before.before.before.pair.ensures, c.before.before.pair2.ensures); small = size-pri _ s.args.f s.requires.2 _ _ }
 
@@ -80,7 +80,7 @@ loop-again c = let s = c.before.before.before.before.before.before.before.before
     (upto-more _ _ _ _ p.invariant.0 (omega arith) e, simp length-set p.invariant.1, omega arith)
 
 returns : tie.Need-returns invariant-loop decreases-loop
-unfolding priLanes
+unfolding pri_lanes
 returns c = let p = c.before in upto_all _ _ 16 _ p.loop.invariant.0 p.loop.invariant.1 (omega arith)
 
 pub pri-spec : {M : Type 1} → statement M

@@ -9,11 +9,11 @@ use Rattle.plane_taps.specs.Plain.{AllLow, Low}
 use Rattle.plane_taps.specs.PlainLaws.{size-sec}
 use Rattle.plane_rows.specs.LaneLaws.{free-is}
 use Rattle.arith_sample.specs.Upto.{upto, upto-none, upto-more, upto_all}
-use Rattle.plane_fours.specs.Fours.{pairIn, secLanes}
+use Rattle.plane_fours.specs.Fours.{pair_in, sec_lanes}
 use Rattle.plane_rows.specs.LaneLaws.{below}
 use Rattle.plane_fours.specs.RunLaws.{held-pair}
-use Rattle.arith_sample.specs.Sample.{freeOf}
-use Rattle.plane_taps.specs.Plain.{secPlain}
+use Rattle.arith_sample.specs.Sample.{free_of}
+use Rattle.plane_taps.specs.Plain.{sec_plain}
 use Rattle.plane_fours.proofs.lanes.sec.Statement.{statement}
 use Rattle.plane_fours.proofs.lanes.sec.Tie as tie
 use Rattle.plane_fours.proofs.lanes.sec.Reads as reads
@@ -23,12 +23,12 @@ use Rattle.plane_taps.proofs.plain.sec_sum.Reads as sec-sum-reads
 use Rattle.arith_sample.proofs.raised.Reads as raised-reads
 
 abbrev invariant-loop : tie.invariant-loop
-invariant-loop c a0 b0 a1 b1 a2 b2 a3 b3 f out₀ j₀ out j = (take j out ≡ upto (λ (n : ℕ). freeOf (get_or c n 0) (secPlain (pairIn a0 b0 n) (pairIn a1 b1 n) (pairIn a2 b2 n) (pairIn a3 b3 n) (get_or c n 0) f)) j) × (length out ≡ 16) × (j ≤ 16)
+invariant-loop c a0 b0 a1 b1 a2 b2 a3 b3 f out₀ j₀ out j = (take j out ≡ upto (λ (n : ℕ). free_of (get_or c n 0) (sec_plain (pair_in a0 b0 n) (pair_in a1 b1 n) (pair_in a2 b2 n) (pair_in a3 b3 n) (get_or c n 0) f)) j) × (length out ≡ 16) × (j ≤ 16)
 
 abbrev decreases-loop : tie.decreases-loop
 decreases-loop c a0 b0 a1 b1 a2 b2 a3 b3 f out₀ j₀ out j = 16 - j
 
-sum : (c : tie.After-sec-sum invariant-loop decreases-loop) → let a = c.before.before.before.before.before.before.before.before.args in let j = c.before.before.before.before.before.before.before.loop.j in Is c.sec-sum.result (secPlain (pairIn a.a0.now a.b0.now j) (pairIn a.a1.now a.b1.now j) (pairIn a.a2.now a.b2.now j) (pairIn a.a3.now a.b3.now j) (get_or a.c.now j 0) a.f) 7680
+sum : (c : tie.After-sec-sum invariant-loop decreases-loop) → let a = c.before.before.before.before.before.before.before.before.args in let j = c.before.before.before.before.before.before.before.loop.j in Is c.sec-sum.result (sec_plain (pair_in a.a0.now a.b0.now j) (pair_in a.a1.now a.b1.now j) (pair_in a.a2.now a.b2.now j) (pair_in a.a3.now a.b3.now j) (get_or a.c.now j 0) a.f) 7680
 sum c = let s = c.before.before.before.before.before.before.before.before in
     record { is = c.sec-sum.ensures ∙ rw (c.before.before.before.before.before.pair.ensures, c.before.before.before.before.pair2.ensures, c.before.before.before.pair3.ensures, c.before.before.pair4.ensures); small = size-sec _ s.args.f s.requires.3 _ _ _ _ }
 
@@ -86,7 +86,7 @@ loop-again c = let s = c.before.before.before.before.before.before.before.before
     (upto-more _ _ _ _ p.invariant.0 (omega arith) e, simp length-set p.invariant.1, omega arith)
 
 returns : tie.Need-returns invariant-loop decreases-loop
-unfolding secLanes
+unfolding sec_lanes
 returns c = let p = c.before in upto_all _ _ 16 _ p.loop.invariant.0 p.loop.invariant.1 (omega arith)
 
 pub sec-spec : {M : Type 1} → statement M

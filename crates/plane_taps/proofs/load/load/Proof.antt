@@ -1,6 +1,6 @@
 -- `plane_taps::load::load` meets its contract.
 use Rattle.std.proofs.Common.{◌≡◌, arith, rules}
-use Rattle.filter_rows.specs.Place.{onFrom, backFrom}
+use Rattle.filter_rows.specs.Place.{on_from, back_from}
 use Rattle.filter_rows.specs.Pairs.{pair_of}
 use Rattle.plane_taps.specs.ReachLaws.{back_any}
 use Rattle.plane_taps.proofs.load.load.Statement.{statement}
@@ -10,11 +10,11 @@ use Rattle.plane_taps.proofs.load.load.Lts as lts
 use Rattle.std.proofs.num.wrapping_add_usize.Reads as wrapping-add-usize-reads
 use Rattle.std.proofs.num.wrapping_sub_usize.Reads as wrapping-sub-usize-reads
 
-on-is : (c : tie.After-wrapping-add-usize) → c.wrapping-add-usize.result ≡ onFrom c.before.before.args.k c.before.before.args.o
-unfolding onFrom
+on-is : (c : tie.After-wrapping-add-usize) → c.wrapping-add-usize.result ≡ on_from c.before.before.args.k c.before.before.args.o
+unfolding on_from
 on-is c = c.wrapping-add-usize.ensures
 
-back_is : (c : tie.After-wrapping-sub-usize) → c.wrapping-sub-usize.result ≡ backFrom c.before.before.before.args.k c.before.before.before.args.o
+back_is : (c : tie.After-wrapping-sub-usize) → c.wrapping-sub-usize.result ≡ back_from c.before.before.before.args.k c.before.before.before.args.o
 back_is c = let s = c.before.before.before in back_any s.args.k s.args.o c.wrapping-sub-usize.result (omega arith) (omega arith) c.wrapping-sub-usize.ensures
 
 wrapping-add-usize-requires : tie.Need-wrapping-add-usize-requires

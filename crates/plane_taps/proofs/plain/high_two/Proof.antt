@@ -1,6 +1,6 @@
 -- `plane_taps::plain::high_two` meets its contract.
 use Rattle.std.proofs.Common.{◌∙◌, rules}
-use Rattle.plane_taps.specs.Plain.{highTwo}
+use Rattle.plane_taps.specs.Plain.{high_two}
 use Rattle.plane_taps.proofs.plain.high_two.Statement.{statement}
 use Rattle.plane_taps.proofs.plain.high_two.Tie as tie
 use Rattle.plane_taps.proofs.plain.high_two.Reads as reads
@@ -17,7 +17,7 @@ most-requires-3 : tie.Need-most-requires-3
 most-requires-3 c κs = search rules
 
 returns : tie.Need-returns
-unfolding highTwo
+unfolding high_two
 returns c = (c.most3.ensures ∙ rw (c.before.most2.ensures, c.before.before.most.ensures), search rules)
 
 pub high-two-spec : {M : Type 1} → statement M

@@ -3,7 +3,7 @@ use Rattle.std.proofs.Common.{◌≡◌, ◌+ℤ◌, sym, refl, ◌∙◌, arith
 use Rattle.arith_sample.specs.SampleLaws.{finish-on}
 use Rattle.arith_sample.proofs.Joins.{Is, add_ok, add_is, back_is}
 use Rattle.filter_rows.proofs.Bounds.{small-back}
-use Rattle.plane_taps.specs.Plain.{secPlain, last_of}
+use Rattle.plane_taps.specs.Plain.{sec_plain, last_of}
 use Rattle.plane_taps.specs.PlainLaws.{low_held, size-sec}
 use Rattle.plane_taps.proofs.plain.last.Statement.{statement}
 use Rattle.plane_taps.proofs.plain.last.Tie as tie
@@ -20,12 +20,12 @@ use Rattle.arith_sample.proofs.most.Reads as most-reads
 one : (s : tie.Start) → Is s.args.m.sum s.args.m.sum 3840
 one s = record { is = refl; small = s.requires.0.sum }
 
-other : (c : tie.After-sec-sum) → let a = c.before.args in Is c.sec-sum.result (secPlain a.q0 a.q1 a.r0 a.r1 a.c a.g) 7680
+other : (c : tie.After-sec-sum) → let a = c.before.args in Is c.sec-sum.result (sec_plain a.q0 a.q1 a.r0 a.r1 a.c a.g) 7680
 other c = let s = c.before in
     let a = s.args in
     record { is = c.sec-sum.ensures; small = size-sec a.c a.g s.requires.6 a.q0 a.q1 a.r0 a.r1 }
 
-sum : (c : tie.After-add) → let a = c.before.before.before.args in Is c.add.result (a.m.sum +ℤ secPlain a.q0 a.q1 a.r0 a.r1 a.c a.g) 11520
+sum : (c : tie.After-add) → let a = c.before.before.before.args in Is c.add.result (a.m.sum +ℤ sec_plain a.q0 a.q1 a.r0 a.r1 a.c a.g) 11520
 sum c = add_is (one c.before.before.before) (other c.before.before) (omega arith) c.add.ensures
 
 sec-sum-requires : tie.Need-sec-sum-requires

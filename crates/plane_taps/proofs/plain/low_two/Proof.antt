@@ -1,6 +1,6 @@
 -- `plane_taps::plain::low_two` meets its contract.
 use Rattle.std.proofs.Common.{◌∙◌, rules}
-use Rattle.plane_taps.specs.Plain.{lowTwo}
+use Rattle.plane_taps.specs.Plain.{low_two}
 use Rattle.plane_taps.proofs.plain.low_two.Statement.{statement}
 use Rattle.plane_taps.proofs.plain.low_two.Tie as tie
 use Rattle.plane_taps.proofs.plain.low_two.Reads as reads
@@ -17,7 +17,7 @@ least-requires-3 : tie.Need-least-requires-3
 least-requires-3 c κs = search rules
 
 returns : tie.Need-returns
-unfolding lowTwo
+unfolding low_two
 returns c = (c.least3.ensures ∙ rw (c.before.least2.ensures, c.before.before.least.ensures), search rules)
 
 pub low-two-spec : {M : Type 1} → statement M

@@ -2,7 +2,7 @@
 use Rattle.std.proofs.Common.{◌≡◌, ◌+ℤ◌, ◌∙◌, arith, rules}
 use Rattle.arith_sample.proofs.Joins.{Is, add_ok, add_is, back_is}
 use Rattle.filter_rows.proofs.Bounds.{small-back}
-use Rattle.plane_taps.specs.Plain.{pairPlain, secPlain}
+use Rattle.plane_taps.specs.Plain.{pair_plain, sec_plain}
 use Rattle.plane_taps.specs.PlainLaws.{size-pair, size-sec}
 use Rattle.plane_taps.proofs.plain.sec_sum.Statement.{statement}
 use Rattle.plane_taps.proofs.plain.sec_sum.Tie as tie
@@ -12,26 +12,26 @@ use Rattle.plane_taps.proofs.plain.pair_sum.Reads as pair-sum-reads
 use Rattle.filter_rows.proofs.both.weigh.Reads as weigh-reads
 use Rattle.arith_sample.proofs.add.Reads as add_reads
 
-p1 : (c : tie.After-pair-sum) → let a = c.before.args in Is c.pair-sum.result (pairPlain a.q0 a.c a.f.s a.f.sh) 480
+p1 : (c : tie.After-pair-sum) → let a = c.before.args in Is c.pair-sum.result (pair_plain a.q0 a.c a.f.s a.f.sh) 480
 p1 c = let s = c.before in
     record { is = c.pair-sum.ensures; small = size-pair _ _ _ _ s.requires.5.s }
 
-p2 : (c : tie.After-pair-sum2) → let a = c.before.before.args in Is c.pair-sum2.result (pairPlain a.r0 a.c a.f.s a.f.sh) 480
+p2 : (c : tie.After-pair-sum2) → let a = c.before.before.args in Is c.pair-sum2.result (pair_plain a.r0 a.c a.f.s a.f.sh) 480
 p2 c = let s = c.before.before in
     record { is = c.pair-sum2.ensures; small = size-pair _ _ _ _ s.requires.5.s }
 
-near : (c : tie.After-add) → let a = c.before.before.before.args in Is c.add.result (pairPlain a.q0 a.c a.f.s a.f.sh +ℤ pairPlain a.r0 a.c a.f.s a.f.sh) 960
+near : (c : tie.After-add) → let a = c.before.before.before.args in Is c.add.result (pair_plain a.q0 a.c a.f.s a.f.sh +ℤ pair_plain a.r0 a.c a.f.s a.f.sh) 960
 near c = add_is (p1 c.before.before) (p2 c.before) (omega arith) c.add.ensures
 
-p3 : (c : tie.After-pair-sum3) → let a = c.before.before.before.before.args in Is c.pair-sum3.result (pairPlain a.q1 a.c a.f.s a.f.sh) 480
+p3 : (c : tie.After-pair-sum3) → let a = c.before.before.before.before.args in Is c.pair-sum3.result (pair_plain a.q1 a.c a.f.s a.f.sh) 480
 p3 c = let s = c.before.before.before.before in
     record { is = c.pair-sum3.ensures; small = size-pair _ _ _ _ s.requires.5.s }
 
-p4 : (c : tie.After-pair-sum4) → let a = c.before.before.before.before.before.args in Is c.pair-sum4.result (pairPlain a.r1 a.c a.f.s a.f.sh) 480
+p4 : (c : tie.After-pair-sum4) → let a = c.before.before.before.before.before.args in Is c.pair-sum4.result (pair_plain a.r1 a.c a.f.s a.f.sh) 480
 p4 c = let s = c.before.before.before.before.before in
     record { is = c.pair-sum4.ensures; small = size-pair _ _ _ _ s.requires.5.s }
 
-far : (c : tie.After-add2) → let a = c.before.before.before.before.before.before.args in Is c.add2.result (pairPlain a.q1 a.c a.f.s a.f.sh +ℤ pairPlain a.r1 a.c a.f.s a.f.sh) 960
+far : (c : tie.After-add2) → let a = c.before.before.before.before.before.before.args in Is c.add2.result (pair_plain a.q1 a.c a.f.s a.f.sh +ℤ pair_plain a.r1 a.c a.f.s a.f.sh) 960
 far c = add_is (p3 c.before.before) (p4 c.before) (omega arith) c.add2.ensures
 
 pair-sum-requires : tie.Need-pair-sum-requires
@@ -56,7 +56,7 @@ weigh-requires : tie.Need-weigh-requires
 weigh-requires c κs = (small-back (near c.before.before.before) (omega arith) (omega arith), small-back (far c) (omega arith) (omega arith), c.before.before.before.before.before.before.requires.5)
 
 returns : tie.Need-returns
-unfolding secPlain
+unfolding sec_plain
 returns c = let s = c.before.before.before.before.before.before.before in
     let a = s.args in
     back_is {m = 7680} (record { is = c.weigh.ensures ∙ rw (back_is (near c.before.before.before.before) (omega arith), back_is (far c.before) (omega arith)); small = size-sec a.c a.f s.requires.5 a.q0 a.q1 a.r0 a.r1 }) (omega arith)

@@ -1,5 +1,5 @@
 -- `plane_taps::steps::taps` meets its contract.
-use Rattle.plane_taps.specs.Steps.{tapsBy}
+use Rattle.plane_taps.specs.Steps.{taps_by}
 use Rattle.std.proofs.Common.{rules}
 use Rattle.plane_taps.proofs.steps.taps.Statement.{statement}
 use Rattle.plane_taps.proofs.steps.taps.Tie as tie
@@ -33,7 +33,7 @@ far-requires-3 : tie.Need-far-requires-3
 far-requires-3 c κs = search rules
 
 returns : tie.Need-returns
-unfolding tapsBy
+unfolding taps_by
 returns c = rw (c.before.before.before.before.before.near.ensures, c.before.before.before.before.far.ensures, c.before.before.before.near2.ensures, c.before.before.far2.ensures, c.before.near3.ensures, c.far3.ensures)
 
 pub taps-spec : {M : Type 1} → statement M

@@ -8,7 +8,7 @@ use borrow.Author.Rules.{rules}
 use lib.ListN.{length}
 use Rattle.still_pgm.specs.PlanesLaws.{decoded-sound, decoded-wrong}
 use Rattle.still_pgm.specs.SizesLaws.{Taken, taken, sound-taken}
-use Rattle.still_pgm.specs.Sizes.{faultOf, isSound}
+use Rattle.still_pgm.specs.Sizes.{fault_of, is_sound}
 use Rattle.still_pgm.proofs.decode.decode.Statement.{statement}
 use Rattle.still_pgm.proofs.decode.decode.Tie as tie
 use Rattle.still_pgm.proofs.decode.decode.Reads as reads
@@ -19,7 +19,7 @@ use Rattle.still_pgm.proofs.sizes.is_sound.Reads as is-sound-reads
 use Rattle.still_pgm.proofs.sizes.padded_side.Reads as padded-side-reads
 
 -- past the test the file is sound
-sound : (c : tie.Else1) → isSound (faultOf (length c.before.before.before.before.before.args.file.now) c.before.before.before.before.before.args.h) ≡ true
+sound : (c : tie.Else1) → is_sound (fault_of (length c.before.before.before.before.before.args.file.now) c.before.before.before.before.before.args.h) ≡ true
 sound c = rw (← c.before.before.fault-of.ensures) (sym c.before.is-sound.ensures ∙ not-false c.before.is-sound.result c.if1.false)
 
 sides : (c : tie.Else1) → Taken c.before.before.before.before.before.args.h.width c.before.before.before.before.before.args.h.height

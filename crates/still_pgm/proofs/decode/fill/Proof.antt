@@ -5,7 +5,7 @@ use native.Mathlib.Omega.{arith}
 use borrow.Author.Rules.{rules}
 use lib.ListN.{length, length-set}
 use Rattle.still_pgm.specs.PlanesLaws.{stored-none, stored_more, padded-is, place-room}
-use Rattle.still_pgm.specs.Planes.{stored, paddedSample}
+use Rattle.still_pgm.specs.Planes.{stored, padded_sample}
 use Rattle.still_pgm.proofs.decode.fill.Statement.{statement}
 use Rattle.still_pgm.proofs.decode.fill.Tie as tie
 use Rattle.still_pgm.proofs.decode.fill.Reads as reads
@@ -15,7 +15,7 @@ use Rattle.still_pgm.proofs.decode.sample_at.Reads as sample-at-reads
 use Rattle.still_pgm.proofs.sizes.step_of.Reads as step-of-reads
 
 abbrev invariant-loop : tie.invariant-loop
-invariant-loop plane₀ n pitch file h step k₀ plane k = (plane ≡ stored (paddedSample file h pitch) k plane₀) × (length plane ≡ length plane₀) × (k ≤ n)
+invariant-loop plane₀ n pitch file h step k₀ plane k = (plane ≡ stored (padded_sample file h pitch) k plane₀) × (length plane ≡ length plane₀) × (k ≤ n)
 
 abbrev decreases-loop : tie.decreases-loop
 decreases-loop plane₀ n pitch file h step k₀ plane k = n - k

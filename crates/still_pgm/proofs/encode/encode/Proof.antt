@@ -6,7 +6,7 @@ use native.Mathlib.Nat.{mod-lt}
 use borrow.Author.Rules.{rules}
 use lib.ListN.{length, length-set}
 use Rattle.still_pgm.specs.PlanesLaws.{stored-none, stored_more, byte-is, byte-room}
-use Rattle.still_pgm.specs.Planes.{stored, fileByte}
+use Rattle.still_pgm.specs.Planes.{stored, file_byte}
 use Rattle.still_pgm.proofs.encode.encode.Statement.{statement}
 use Rattle.still_pgm.proofs.encode.encode.Tie as tie
 use Rattle.still_pgm.proofs.encode.encode.Reads as reads
@@ -15,7 +15,7 @@ use Rattle.still_pgm.proofs.encode.at_or_zero.Reads as at-or-zero-reads
 use Rattle.still_pgm.proofs.encode.byte_of.Reads as byte-of-reads
 
 abbrev invariant-loop : tie.invariant-loop
-invariant-loop out₀ n plane width pitch step k₀ out k = (out ≡ stored (fileByte plane width pitch step) k out₀) × (length out ≡ length out₀) × (k ≤ n)
+invariant-loop out₀ n plane width pitch step k₀ out k = (out ≡ stored (file_byte plane width pitch step) k out₀) × (length out ≡ length out₀) × (k ≤ n)
 
 abbrev decreases-loop : tie.decreases-loop
 decreases-loop out₀ n plane width pitch step k₀ out k = n - k

@@ -6,7 +6,7 @@ use native.Mathlib.Omega.{arith}
 use borrow.Author.Tests.{not-true, not-false}
 use borrow.Author.Rules.{rules}
 use Rattle.still_pgm.specs.SizesLaws.{side-range, padded-room}
-use Rattle.still_pgm.specs.Sizes.{isSide, is_taken}
+use Rattle.still_pgm.specs.Sizes.{is_side, is_taken}
 use Rattle.still_pgm.proofs.sizes.is_taken.Statement.{statement}
 use Rattle.still_pgm.proofs.sizes.is_taken.Tie as tie
 use Rattle.still_pgm.proofs.sizes.is_taken.Reads as reads
@@ -15,7 +15,7 @@ use Rattle.still_pgm.proofs.sizes.is_side.Reads as is-side-reads
 use Rattle.still_pgm.proofs.sizes.padded_side.Reads as padded-side-reads
 
 -- both sides are sides
-sides : (c : tie.Else2) → (isSide c.before.before.before.before.args.width ≡ true) × (isSide c.before.before.before.before.args.height ≡ true)
+sides : (c : tie.Else2) → (is_side c.before.before.before.before.args.width ≡ true) × (is_side c.before.before.before.before.args.height ≡ true)
 sides c = (sym c.before.before.before.is-side.ensures ∙ not-false c.before.before.before.is-side.result c.before.before.if1.false, sym c.before.is-side2.ensures ∙ not-false c.before.is-side2.result c.if2.false)
 
 is-side-requires : tie.Need-is-side-requires

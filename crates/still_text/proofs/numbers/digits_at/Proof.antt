@@ -6,7 +6,7 @@ use native.Mathlib.Omega.{arith}
 use borrow.Author.Tests.{not-true, not-false}
 use borrow.Author.Rules.{rules}
 use lib.ListN.{get_or, length, drop}
-use Rattle.still_text.specs.Text.{most, isDigit, decimal, digitCount}
+use Rattle.still_text.specs.Text.{most, is_digit, decimal, digit_count}
 use Rattle.still_text.specs.TextLaws.{digits-end, digits-stop, digits_more, digit-range, capped-once}
 use Rattle.still_text.proofs.numbers.digits_at.Statement.{statement}
 use Rattle.still_text.proofs.numbers.digits_at.Tie as tie
@@ -16,16 +16,16 @@ use Rattle.still_text.proofs.numbers.with_digit.Reads as with-digit-reads
 use Rattle.still_text.proofs.text.is_digit.Reads as is-digit-reads
 
 abbrev invariant-loop : tie.invariant-loop
-invariant-loop file from value₀ next₀ value next = (min most (decimal value (drop next file)) ≡ min most (decimal 0 (drop from file))) × (next + digitCount (drop next file) ≡ from + digitCount (drop from file)) × (value ≤ most)
+invariant-loop file from value₀ next₀ value next = (min most (decimal value (drop next file)) ≡ min most (decimal 0 (drop from file))) × (next + digit_count (drop next file) ≡ from + digit_count (drop from file)) × (value ≤ most)
 
 abbrev decreases-loop : tie.decreases-loop
 decreases-loop file from value₀ next₀ value next = length file - next
 
 -- the byte of a turn is a digit
-is_digit : (c : tie.Else1 invariant-loop decreases-loop) → isDigit (get_or c.before.before.before.before.before.before.args.file.now c.before.before.before.before.loop.next 0) ≡ true
+is_digit : (c : tie.Else1 invariant-loop decreases-loop) → is_digit (get_or c.before.before.before.before.before.before.args.file.now c.before.before.before.before.loop.next 0) ≡ true
 is_digit c = sym c.before.is_digit.ensures ∙ not-false c.before.is_digit.result c.if1.false
 
-more : (c : tie.Else1 invariant-loop decreases-loop) → let s = c.before.before.before.before.before.before.args.file.now in let p = c.before.before.before.before.loop in (decimal p.value (drop p.next s) ≡ decimal (p.value * 10 + (get_or s p.next 0 - 48)) (drop (p.next + 1) s)) × (p.next + digitCount (drop p.next s) ≡ p.next + 1 + digitCount (drop (p.next + 1) s))
+more : (c : tie.Else1 invariant-loop decreases-loop) → let s = c.before.before.before.before.before.before.args.file.now in let p = c.before.before.before.before.loop in (decimal p.value (drop p.next s) ≡ decimal (p.value * 10 + (get_or s p.next 0 - 48)) (drop (p.next + 1) s)) × (p.next + digit_count (drop p.next s) ≡ p.next + 1 + digit_count (drop (p.next + 1) s))
 more c = digits_more _ _ _ c.before.before.before.loop-test.true (is_digit c)
 
 loop-holds : tie.Need-loop-init invariant-loop decreases-loop

@@ -1,6 +1,6 @@
 -- `trial_block::block::cdef_block_candidates` meets its contract.
 use mathlib.Core.Path.{◌≡◌}
-use Rattle.filter_window.specs.Window.{planeOf}
+use Rattle.filter_window.specs.Window.{plane_of}
 use borrow.Author.Rules.{rules}
 use Rattle.trial_block.proofs.block.cdef_block_candidates.Statement.{statement}
 use Rattle.trial_block.proofs.block.cdef_block_candidates.Tie as tie
@@ -19,7 +19,7 @@ same_length : tie.Need-same-length
 same_length c = search rules
 
 returns : tie.Need-returns
-returns c = let s = c.before.before.before.before.before.before.before.before in let a = s.args in c.before.before.trial-window.ensures (planeOf a.src.now a.w a.h) c.before.before.before.before.before.window.ensures
+returns c = let s = c.before.before.before.before.before.before.before.before in let a = s.args in c.before.before.trial-window.ensures (plane_of a.src.now a.w a.h) c.before.before.before.before.before.window.ensures
 
 pub cdef-block-candidates-spec : {M : Type 1} → statement M
 cdef-block-candidates-spec =

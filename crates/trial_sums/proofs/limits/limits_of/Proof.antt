@@ -5,8 +5,8 @@ use native.Mathlib.Omega.{arith}
 use lib.ListN.{get_or, length, take, length-set}
 use Rattle.arith_sample.specs.Upto.{upto, upto-none, upto-more, upto_all}
 use Rattle.plane_taps.specs.ReachLaws.{reached-all}
-use Rattle.filter_limits.specs.Limits.{lowestOf, highestOf}
-use Rattle.filter_rows.specs.Pairs.{pairsOf}
+use Rattle.filter_limits.specs.Limits.{lowest_of, highest_of}
+use Rattle.filter_rows.specs.Pairs.{pairs_of}
 use Rattle.filter_rows.specs.PairsLaws.{held-pairs}
 use Rattle.trial_sums.proofs.limits.limits_of.Statement.{statement}
 use Rattle.trial_sums.proofs.limits.limits_of.Tie as tie
@@ -17,7 +17,7 @@ use Rattle.filter_limits.proofs.lowest.Reads as lowest-reads
 use Rattle.trial_sums.proofs.limits.load_pairs.Reads as load-pairs-reads
 
 abbrev invariant-loop : tie.invariant-loop
-invariant-loop t at o lo₀ hi₀ j₀ lo hi j = (take j lo ≡ upto (λ (j : ℕ). lowestOf (pairsOf t (at + j) o) (get_or t (at + j) 0)) j) × (take j hi ≡ upto (λ (j : ℕ). highestOf (pairsOf t (at + j) o) (get_or t (at + j) 0)) j) × (length lo ≡ 16) × (length hi ≡ 16) × (j ≤ 16)
+invariant-loop t at o lo₀ hi₀ j₀ lo hi j = (take j lo ≡ upto (λ (j : ℕ). lowest_of (pairs_of t (at + j) o) (get_or t (at + j) 0)) j) × (take j hi ≡ upto (λ (j : ℕ). highest_of (pairs_of t (at + j) o) (get_or t (at + j) 0)) j) × (length lo ≡ 16) × (length hi ≡ 16) × (j ≤ 16)
 
 abbrev decreases-loop : tie.decreases-loop
 decreases-loop t at o lo₀ hi₀ j₀ lo hi j = 16 - j

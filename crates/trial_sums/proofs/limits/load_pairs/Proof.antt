@@ -1,6 +1,6 @@
 -- `trial_sums::limits::load_pairs` meets its contract.
 use mathlib.Core.Path.{◌≡◌}
-use Rattle.filter_rows.specs.Pairs.{pairsOf}
+use Rattle.filter_rows.specs.Pairs.{pairs_of}
 use borrow.Author.Rules.{rules}
 use Rattle.trial_sums.proofs.limits.load_pairs.Statement.{statement}
 use Rattle.trial_sums.proofs.limits.load_pairs.Tie as tie
@@ -27,7 +27,7 @@ load-requires-6 : tie.Need-load-requires-6
 load-requires-6 c κs = search rules
 
 returns : tie.Need-returns
-unfolding pairsOf
+unfolding pairs_of
 returns c = rw (c.before.before.before.before.before.load.ensures, c.before.before.before.before.load2.ensures, c.before.before.before.load3.ensures, c.before.before.load4.ensures, c.before.load5.ensures, c.load6.ensures)
 
 pub load-pairs-spec : {M : Type 1} → statement M

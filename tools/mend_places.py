@@ -1,0 +1,68 @@
+#!/usr/bin/env python3
+"""Mends an answer that hands a lemma the wrong step: adds or drops `.before` as the check's error says.
+
+usage: tools/mend_places.py CRATE     from the repository's top; checks the crate, mends, and checks again until nothing more is mended
+"""
+import json
+import os
+import re
+import subprocess
+import sys
+
+crate = sys.argv[1]
+folder = f"crates/{crate}"
+done = set()
+for turn in range(12):
+    out = subprocess.run(["rt", "check"], cwd=folder, capture_output=True, text=True)
+    said = out.stdout + out.stderr
+    open(f"/tmp/check-{crate}.txt", "w").write(said)
+    names = subprocess.run(["rt", "check", "--generated", f"/tmp/on-{crate}-{os.getpid()}", "--old-names"], cwd=folder, capture_output=True, text=True) if turn == 0 else names
+    table = json.load(open(f"/tmp/on-{crate}-{os.getpid()}/names.json"))
+    changed = 0
+    edits = {}
+    for m in re.finditer(r"^\./(proofs/(\S+)/Answers\.antt):(\d+):(\d+): error: (?:.|\n)*?expected type `([\w'-]+)[^`]*`, but this has type `Rattle\.\S+\.Lts\.([\w'-]+)", said, re.M):
+        path, rel, line, col, want, has = m[1], m[2], int(m[3]), int(m[4]), m[5], m[6]
+        if "error:" in m[0][m[0].index("error:") + 6 :].split("expected type")[0]:
+            continue
+        e = table[f"Rattle-{crate}-proofs.{rel.replace('/', '.')}.Lts"]
+        by = {p[0]: p for p in e["places"]}
+        new = {p[0]: n for p, n in zip(e["places"], e["places_by_name"])}
+        old = {n: p[0] for p, n in zip(e["places"], e["places_by_name"])}
+        w, h = old.get(want, want), old.get(has, has)
+        if w not in by or h not in by:
+            continue
+
+        def up(a, b):
+            n = 0
+            while a is not None and a != b:
+                a = by[a][1]
+                n += 1
+            return n if a == b else None
+
+        n, d = up(h, w), up(w, h)
+        edits.setdefault(path, []).append((line, col, n, d))
+    for path, es in edits.items():
+        full = os.path.join(folder, path)
+        lines = open(full, encoding="utf-8").read().split("\n")
+        for line, col, n, d in sorted(set(es), reverse=True):
+            l = lines[line - 1]
+            at = col - 1
+            mm = re.match(r"[\w'₀-₉]+(?:\.[\w'-]+)*", l[at:])
+            if not mm:
+                continue
+            tok = mm[0]
+            if n:
+                new_tok = tok + ".before" * n
+            elif d and tok.endswith(".before" * d):
+                new_tok = tok[: -len(".before" * d)]
+            else:
+                continue
+            lines[line - 1] = l[:at] + new_tok + l[at + len(tok) :]
+            changed += 1
+        open(full, "w", encoding="utf-8").write("\n".join(lines))
+    if not changed:
+        break
+    print(f"mended {changed}", flush=True)
+for l in said.split("\n"):
+    if re.match(r"(\./|src/|specs/|\s|fn .*(not|no) |help|note: `|error|logic=)", l) and not l.startswith("note: finished"):
+        print(l[:420])

@@ -1,4 +1,6 @@
 // The least and the greatest of a sample and its taps, as the window holds them.
+#![tactic(auto)]
+
 ghost use Rattle.std.specs.Prelude.{◌≡◌, ◌≤◌};
 ghost use Rattle.filter_limits.specs.Limits.{HeldPair, HeldPairs, least_of, unmarked_of, most_of, lowest_of, highest_of};
 

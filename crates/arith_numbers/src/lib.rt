@@ -1,4 +1,6 @@
 // The lesser of two sides or positions, the difference of two samples, squares, and blocks whose samples fill runs of sixteen.
+#![tactic(auto)]
+
 ghost use Rattle.std.specs.Prelude.{◌≡◌, true, ◌≤◌, ◌<◌, min, pos, ◌-ℤ◌};
 ghost use Rattle.cdef_spec.specs.Standard.{square};
 ghost use Rattle.cdef_spec.specs.Distance.{squared_difference};

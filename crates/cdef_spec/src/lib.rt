@@ -1,29 +1,29 @@
 // The plain data that the calls take and return. No code.
 
 // The damping as the frame header carries it, 3 to 6.
-#[derive(Drop)]
+#[derive(Clone, Copy)]
 pub struct SignalledDamping(pub u8);
 
 // The damping as constrain takes it, 0 to 31: derived from the signalled one by the luma or the chroma rule.
-#[derive(Drop)]
+#[derive(Clone, Copy)]
 pub struct WorkingDamping(pub u8);
 
 // A frame call's damping: the signalled figure, or none stated, as in a frame header without CDEF fields.
-#[derive(Drop)]
+#[derive(Clone, Copy)]
 pub enum DampingChoice {
     Given(SignalledDamping),
     Unstated,
 }
 
 // The pair (RULES, Glossary) of a unit, a 64 by 64 luma square: its primary and its secondary strength, as signalled.
-#[derive(Drop)]
+#[derive(Clone, Copy)]
 pub struct UnitPair {
     pub primary: u8,
     pub secondary: u8,
 }
 
 // A block of a plane: the column and row of its top left sample, and its sides.
-#[derive(Drop)]
+#[derive(Clone, Copy)]
 pub struct Block {
     pub x: usize,
     pub y: usize,
@@ -32,14 +32,14 @@ pub struct Block {
 }
 
 // The visible size of a picture, in luma samples.
-#[derive(Drop)]
+#[derive(Clone, Copy)]
 pub struct Visible {
     pub width: usize,
     pub height: usize,
 }
 
 // The parameters of a block's filter: the working strengths (signalled, shifted left by depth - 8, in luma the primary adjusted), the direction, the working damping and the bit depth.
-#[derive(Drop)]
+#[derive(Clone, Copy)]
 pub struct FilterParams {
     pub pri: u32,
     pub sec: u32,
@@ -49,63 +49,63 @@ pub struct FilterParams {
 }
 
 // The two kinds of trial: with a luma block's variance, or, for chroma, without one.
-#[derive(Drop)]
+#[derive(Clone, Copy)]
 pub enum TrialWay {
     Luma(u32),
     Chroma,
 }
 
 // The two constants c1 and c2 of a bit depth, which the weighted distance takes together.
-#[derive(Drop)]
+#[derive(Clone, Copy)]
 pub struct DistanceConstants {
     pub c1: f64,
     pub c2: f64,
 }
 
 // What a call returns whose results are in the caller's slices: done, or the error code of the first failed check.
-#[derive(Drop)]
+#[derive(Clone, Copy)]
 pub enum Answer {
     Done,
     Refused(u8),
 }
 
 // What constrain returns: the constrained difference, or an error code.
-#[derive(Drop)]
+#[derive(Clone, Copy)]
 pub enum DifferenceAnswer {
     Difference(i32),
     NoDifference(u8),
 }
 
 // What adjust returns: the adjusted strength, or an error code.
-#[derive(Drop)]
+#[derive(Clone, Copy)]
 pub enum StrengthAnswer {
     Strength(u32),
     NoStrength(u8),
 }
 
 // What the damping of a quality index returns: a signalled damping, or an error code.
-#[derive(Drop)]
+#[derive(Clone, Copy)]
 pub enum DampingAnswer {
     Damping(SignalledDamping),
     NoDamping(u8),
 }
 
 // What the working damping of a plane returns: a working damping, or an error code.
-#[derive(Drop)]
+#[derive(Clone, Copy)]
 pub enum WorkingAnswer {
     Working(WorkingDamping),
     NoWorking(u8),
 }
 
 // What the direction of a block returns: the direction and the variance, or an error code.
-#[derive(Drop)]
+#[derive(Clone, Copy)]
 pub enum DirectionAnswer {
     Direction(u8, u32),
     NoDirection(u8),
 }
 
 // What a distance returns: an integer, or an error code.
-#[derive(Drop)]
+#[derive(Clone, Copy)]
 pub enum DistanceAnswer {
     Distance(i64),
     NoDistance(u8),

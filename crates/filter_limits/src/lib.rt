@@ -5,14 +5,14 @@ ghost use Rattle.std.specs.Prelude.{◌≡◌, ◌≤◌};
 ghost use Rattle.filter_limits.specs.Limits.{HeldPair, HeldPairs, least_of, unmarked_of, most_of, lowest_of, highest_of};
 
 // a tap and its opposite, as the window holds them
-#[derive(Drop)]
+#[derive(Clone, Copy)]
 pub struct Pair {
     pub on: u16,
     pub back: u16,
 }
 
 // the taps of a sample
-#[derive(Drop)]
+#[derive(Clone, Copy)]
 pub struct Pairs {
     pub p0: Pair,
     pub p1: Pair,

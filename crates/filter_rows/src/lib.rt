@@ -8,7 +8,7 @@ ghost use Rattle.arith_sample.specs.Bounds.{Held};
 ghost use Rattle.filter_rows.specs.Sums.{Near6, InRange, filtered_at};
 
 // offsets of the taps in a window of pitch 12, wrapped; the opposite tap lies as far the other way
-#[derive(Drop)]
+#[derive(Clone, Copy)]
 pub struct Taps {
     pub p0: usize,
     pub p1: usize,
@@ -19,7 +19,7 @@ pub struct Taps {
 }
 
 // a strength, its shift, and the weights of the near and the far taps
-#[derive(Drop)]
+#[derive(Clone, Copy)]
 pub struct Strength {
     pub s: u16,
     pub sh: u32,

@@ -7,7 +7,7 @@ ghost use Rattle.filter_window.specs.Spans.{SpanOf, InPlane, Inside};
 use cdef_spec::Block;
 
 // The window's rows or columns that are examined: from lo on, below hi.
-#[derive(Drop)]
+#[derive(Clone, Copy)]
 pub struct Span {
     pub lo: usize,
     pub hi: usize,

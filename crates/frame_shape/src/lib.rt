@@ -4,7 +4,7 @@ pub mod geometry; // geometry.rt: blocks, units, the visible part
 pub mod params; // params.rt: a block's filter parameters
 
 // A plane of a picture: luma, or chroma with its subsampling flags (both 0 in luma); the depth and luma's sides.
-#[derive(Drop)]
+#[derive(Clone, Copy)]
 pub struct Frame {
     pub luma: bool,
     pub sx: u8,

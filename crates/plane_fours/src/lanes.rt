@@ -10,7 +10,7 @@ use plane_taps::plain;
 use plane_taps::plain::Part;
 
 // the primary taps' sums, and the least and the greatest of them and the centre, of sixteen samples
-#[derive(Drop)]
+#[derive(Clone, Copy)]
 pub struct Parts {
     pub sum: [i16; 16],
     pub lo: [u16; 16],

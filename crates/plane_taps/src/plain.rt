@@ -8,7 +8,7 @@ use filter_limits::Pair;
 use filter_rows::Strength;
 
 // the primary taps' sum, and the least and the greatest of them and the centre
-#[derive(Drop)]
+#[derive(Clone, Copy)]
 pub struct Part {
     pub sum: i16,
     pub lo: u16,

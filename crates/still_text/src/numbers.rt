@@ -6,14 +6,14 @@ ghost use Rattle.still_text.specs.Number.{number_of};
 use crate::text;
 
 // The digits from a position on as a number, and the position after them.
-#[derive(Drop)]
+#[derive(Clone, Copy)]
 pub struct Digits {
     pub value: usize,
     pub next: usize,
 }
 
 // A number, or none.
-#[derive(Drop)]
+#[derive(Clone, Copy)]
 pub enum Number {
     Value(usize),
     NoNumber,

@@ -1,4 +1,6 @@
 // Questions 1, 2, 4 and 5 of single numbers: the depth, sides, a plane's length, a block's corner and sides. Each test has its definition's name; no function here requires anything.
+#![tactic(auto)]
+
 ghost use Rattle.std.specs.Prelude.{◌≡◌, ◌&&◌, List, ℕ};
 ghost use Rattle.cdef_spec.specs.Questions.{depth_taken, side_taken, luma_side_taken, full, corner_taken, block_side_taken};
 

@@ -171,7 +171,7 @@ class Turner:
             text = text.replace(o.replace(" .", "."), n.replace(" .", "."))
         text = re.sub(r"\btie\.([A-Za-z][\w-]*)((?:\s+(?:invariant|decreases)-loop\d*)*)", self.type_of, text)
         # names of what is inside a step: arguments and loops
-        self.inner = {m[1] for m in re.finditer(rf"let ({W}) = [^;]*?\.(?:args|loop\d*|now|requires)(?:\.\d+)* in\b", text) if " in " not in m[0][: -3]}
+        self.inner = {m[1] for m in re.finditer(rf"let ({W}) = [^;]*?\.(?:args|loop\d*|now|requires)(?:\.\d+)* in\b", text) if not re.search(r"\bin\b", m[0][: -3])}
         # dotted paths, from a name or from a bracket
         text = re.sub(rf"(?<![\w.'])({W}|\))((?:\.{W}|\.\d+)+)", lambda m: self.path(m[1] + m[2]), text)
         return self.splits(text)

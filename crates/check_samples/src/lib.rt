@@ -1,4 +1,6 @@
 // Question 9: whether the samples examined are below 2^depth; in a window also the mark.
+#![tactic(auto)]
+
 ghost use Rattle.std.specs.Prelude.{◌≡◌, [], ◌∷◌, ℕ, ◌+◌, ◌*◌, ◌^◌, ◌≤◌, ◌<◌, eqb, get_or, length};
 ghost use Rattle.cdef_spec.specs.Words.{every};
 ghost use Rattle.cdef_spec.specs.Questions.{ask, first_no, cut_taken, sample_or_mark};

@@ -1,4 +1,6 @@
 // Sums over blocks: of samples, of squared differences.
+#![tactic(auto)]
+
 ghost use Rattle.std.specs.Prelude.{◌≡◌, ℕ, ◌+◌, ◌*◌, ◌≤◌, ◌<◌, get_or, length};
 ghost use Rattle.cdef_spec.specs.Words.{sum};
 ghost use Rattle.cdef_spec.specs.Distance.{squared_difference, squares as squares_of};

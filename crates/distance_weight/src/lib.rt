@@ -1,4 +1,6 @@
 // The weighted distance from spreads and squares, each f64 operation rounded once, in the order of RULES, Distance.
+#![tactic(auto)]
+
 ghost use Rattle.std.specs.Prelude.{◌≡◌, ℕ, ◌≤◌};
 ghost use Rattle.cdef_spec.specs.Distance.{constants_of, weight as weight_of, weighted as weighted_of, squares_limit};
 ghost use Rattle.distance_weight.specs.Weighing.{OfDepth, Weighs, times_of};

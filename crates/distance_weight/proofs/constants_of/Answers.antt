@@ -9,8 +9,7 @@ use lib.Ieee.{binary64, in_float}
 use Rattle.cdef_spec.specs.Distance.{constants_of}
 use Rattle.distance_weight.specs.WeighingLaws.{first_small, second-small, in-float}
 use borrow.Author.Rules.{rules}
-use Rattle.distance_weight.proofs.constants_of.Statement.{statement}
-use Rattle.distance_weight.proofs.constants_of.Tie as tie
+use Rattle.distance_weight.proofs.constants_of.Goals as goal
 
 first-exact : (k : ℕ) → k ≤ 4 → 400 * 2 ^ (2 * k) % 2 ^ 64 ≡ 400 * 2 ^ (2 * k)
 first-exact k h = mod-eq_of_lt (lt_of_le_of_lt (first_small k h) (lit< tt))
@@ -24,54 +23,37 @@ first-held k h = subst (λ (z : ℕ). T (in_float binary64 (pos z))) (sym (first
 second-held : (k : ℕ) → k ≤ 4 → T (in_float binary64 (pos (20000 * 2 ^ (4 * k) % 2 ^ 64)))
 second-held k h = subst (λ (z : ℕ). T (in_float binary64 (pos z))) (sym (second-exact k h)) (in-float (20000 * 2 ^ (4 * k)) (omega (arith, second-small k h)))
 
-sub-k : tie.Need-overflow-sub-k
-sub-k c = search rules
+pub overflow_sub-k : goal.overflow_sub-k
+overflow_sub-k c = search rules
 
-cast-k : tie.Need-overflow-cast-k
-cast-k c = search rules
+pub overflow_cast-k : goal.overflow_cast-k
+overflow_cast-k c = search rules
 
-mul-c1 : tie.Need-overflow-mul-c1
-mul-c1 c = search rules
+pub overflow_mul-c1 : goal.overflow_mul-c1
+overflow_mul-c1 c = search rules
 
-cast-c1 : tie.Need-overflow-cast-c1
-cast-c1 c = search rules
+pub overflow_cast-c1 : goal.overflow_cast-c1
+overflow_cast-c1 c = search rules
 
-shl-c1 : tie.Need-overflow-shl-c1
-shl-c1 c = search rules
+pub overflow_shl-c1 : goal.overflow_shl-c1
+overflow_shl-c1 c = search rules
 
-mul-c2 : tie.Need-overflow-mul-c2
-mul-c2 c = search rules
+pub overflow_mul-c2 : goal.overflow_mul-c2
+overflow_mul-c2 c = search rules
 
-cast-c2 : tie.Need-overflow-cast-c2
-cast-c2 c = search rules
+pub overflow_cast-c2 : goal.overflow_cast-c2
+overflow_cast-c2 c = search rules
 
-shl-c2 : tie.Need-overflow-shl-c2
-shl-c2 c = search rules
+pub overflow_shl-c2 : goal.overflow_shl-c2
+overflow_shl-c2 c = search rules
 
-int-to-float-t8 : tie.Need-int-to-float-t8
-int-to-float-t8 c = first-held (c.before.args.depth - 8) (omega arith)
+pub int_to_float-result : goal.int_to_float-result
+int_to_float-result c = first-held (c.before.args.depth - 8) (omega arith)
 
-int-to-float-t9 : tie.Need-int-to-float-t9
-int-to-float-t9 c = second-held (c.before.before.args.depth - 8) (omega arith)
+pub int_to_float-result-2 : goal.int_to_float-result-2
+int_to_float-result-2 c = second-held (c.before.before.args.depth - 8) (omega arith)
 
-returns : tie.Need-returns
-returns c =
-    let k = c.before.before.args.depth - 8 in
+pub returns : goal.returns
+returns c = let k = c.before.before.args.depth - 8 in
     let d : k ≤ 4 = omega arith in
     unfold constants_of in rw (first-exact k d, second-exact k d)
-
-pub constants-of-spec : {M : Type 1} → statement M
-constants-of-spec =
-    tie.close
-    (tie.spec
-    sub-k
-    cast-k
-    mul-c1
-    cast-c1
-    shl-c1
-    mul-c2
-    cast-c2
-    shl-c2
-    int-to-float-t8
-    int-to-float-t9
-    returns)

@@ -8,40 +8,35 @@ use Rattle.cdef_spec.specs.Distance.{whole, half, weight}
 use Rattle.distance_weight.specs.Weighing.{most}
 use Rattle.distance_weight.specs.SequenceLaws.{radicand}
 use Rattle.distance_weight.specs.WeighingLaws.{in-float, Bounds, bounds, limit-most, half_is}
-use Rattle.distance_weight.proofs.weight.Statement.{statement}
-use Rattle.distance_weight.proofs.weight.Tie as tie
+use Rattle.distance_weight.proofs.weight.Goals as goal
+use Rattle.distance_weight.proofs.weight.Goals.{Start}
 
-known : (s : tie.Start) → Bounds s.args.c
+known : (s : Start) → Bounds s.args.c
 known s = bounds s.args.c s.requires.0 s.requires.1
 
-a-low : (s : tie.Start) → s.args.a ≤ most
+a-low : (s : Start) → s.args.a ≤ most
 a-low s = omega (arith, s.requires.2, limit-most s.requires.0 s.requires.1.flat)
 
-b-low : (s : tie.Start) → s.args.b ≤ most
+b-low : (s : Start) → s.args.b ≤ most
 b-low s = omega (arith, s.requires.3, limit-most s.requires.0 s.requires.1.flat)
 
-int-to-float-fa : tie.Need-int-to-float-fa
-int-to-float-fa c = in-float c.before.args.a (omega (arith, a-low c.before))
+pub int_to_float-fa : goal.int_to_float-fa
+int_to_float-fa c = in-float c.before.args.a (omega (arith, a-low c.before.before))
 
-int-to-float-fb : tie.Need-int-to-float-fb
-int-to-float-fb c = in-float c.before.before.args.b (omega (arith, b-low c.before.before))
+pub int_to_float-fb : goal.int_to_float-fb
+int_to_float-fb c = in-float c.before.before.args.b (omega (arith, b-low c.before.before.before))
 
-root-requires : tie.Need-root-requires
-root-requires c κs =
-    let s = c.before.before.before.before in
-    let k = known s in
-    (radicand k.C1 k.C2 s.args.a s.args.b 0 s.args.c.c1 s.args.c.c2 k.h1 k.h2 k.l1 k.l2 k.u2 (a-low s) (b-low s) (lit≤ tt)).is_normal
+pub root-requires : goal.root-requires
+root-requires c = let s = c.before.before.before.before in
+    let k = known s.before in
+    (radicand k.C1 k.C2 s.args.a s.args.b 0 s.args.c.c1 s.args.c.c2 k.h1 k.h2 k.l1 k.l2 k.u2 (a-low s.before) (b-low s.before) (lit≤ tt)).is_normal
 
 -- the last line of the body, with 0.5 and the square root as arguments
 abbrev seq : Float → Float → Float → ℕ → ℕ → Float
 seq h r c1 a b = div binary64 (mul binary64 h (add binary64 (add binary64 (whole a) (whole b)) c1)) r
 
-returns : tie.Need-returns
+pub returns : goal.returns
 unfolding weight
-returns c =
-    let s = c.before.before.before.before.before in
+returns c = let s = c.before.before.before.before.before in
     ap (λ (h : Float). seq h c.root.result s.args.c.c1 s.args.a s.args.b) half_is
     ∙ ap (λ (z : Float). seq half z s.args.c.c1 s.args.a s.args.b) c.root.ensures.0
-
-pub weight-spec : {M : Type 1} → statement M
-weight-spec = tie.close (tie.spec int-to-float-fa int-to-float-fb root-requires returns)

@@ -1,7 +1,7 @@
 -- The parts of a header put together.
 use Rattle.std.specs.Prelude.{◌≡◌, Bool, false, ◌&&◌, List, ℕ, ◌+◌, ◌≤◌, ◌<◌, min, max, ltb, get_or, length, drop}
 use Rattle.std.proofs.Common.{arith, length-drop}
-use borrow.Author.Tests.{lt-ltb, le-ltb, eq-eqb, ne_eqb}
+use borrow.Author.Tests.{lt-ltb, le-ltb}
 use Rattle.still_pgm.specs.declared.header.Word.{Word}
 use Rattle.still_text.specs.Text.{digit_count, decimal, most, is_blank, blanks}
 use Rattle.still_text.specs.TextLaws.{blanks-within, digits-within}

@@ -5,7 +5,7 @@ ghost use Rattle.still_pgm.specs.Header.{word_at, header_of, is_p5};
 use still_text::{numbers, text};
 
 // A number behind blanks, the position after it, and whether there is one.
-#[derive(Drop)]
+#[derive(Clone, Copy)]
 pub struct Word {
     pub value: usize,
     pub next: usize,
@@ -13,7 +13,7 @@ pub struct Word {
 }
 
 // start: the position of the first sample.
-#[derive(Drop)]
+#[derive(Clone, Copy)]
 pub struct Header {
     pub found: bool,
     pub width: usize,

@@ -1,4 +1,6 @@
 // Binary PGM files (P5): the header, the samples as a padded plane, and the visible part of a plane as bytes again.
+#![tactic(auto)]
+
 pub mod decode; // decode.rt: the padded plane of a file
 pub mod encode; // encode.rt: the visible part of a plane as bytes
 pub mod header; // header.rt: the numbers of a header

@@ -5,7 +5,7 @@ ghost use Rattle.still_pgm.specs.Sizes.{depth_of, step_of, padded, is_side, is_t
 use crate::header::Header;
 
 // What is wrong with a file; Sound: nothing.
-#[derive(Drop)]
+#[derive(Clone, Copy)]
 pub enum Fault {
     Sound,
     NoHeader,

@@ -1,4 +1,6 @@
 // The sizes of the lists of a picture.
+#![tactic(auto)]
+
 ghost use Rattle.std.specs.Prelude.{◌≤◌, ◌≡◌, true};
 ghost use Rattle.still_pgm.specs.Sizes.{is_taken};
 ghost use Rattle.still_lists.specs.Lists.{along, Counted};
@@ -6,7 +8,7 @@ ghost use Rattle.still_lists.specs.Lists.{along, Counted};
 use still_pgm::sizes;
 
 // The padded sides; how many samples, blocks, units and totals there are; the samples of the scratch.
-#[derive(Drop)]
+#[derive(Clone, Copy)]
 pub struct Counts {
     pub width: usize,
     pub height: usize,

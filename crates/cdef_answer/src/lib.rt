@@ -1,4 +1,6 @@
 // Answers without values and error codes, either from the other.
+#![tactic(auto)]
+
 ghost use Rattle.std.specs.Prelude.{◌≡◌};
 ghost use Rattle.cdef_spec.specs.Answers.{read_answer, result_of, number_of, nothing};
 

@@ -115,6 +115,19 @@ class Turner:
 
     # ---- paths
 
+    def clause(self, names, parts, i, out, text):
+        """Appends the name of the clause that the numbers after parts[i] pick from pairs in pairs; where they end."""
+        n, k = len(names), 0
+        if n < 2 or i + 1 >= len(parts) or not parts[i + 1].isdigit():
+            return i
+        while k < n - 2 and i + 1 < len(parts) and parts[i + 1] == "1":
+            k, i = k + 1, i + 1
+        if i + 1 < len(parts) and parts[i + 1] in ("0", "1"):
+            out.append(names[k + int(parts[i + 1])])
+            return i + 1
+        print(f"look: {self.fn}: clauses of {text}")
+        return i
+
     def path(self, text):
         """A dotted path, its first part the root."""
         parts = text.split(".")
@@ -127,9 +140,7 @@ class Turner:
                 elif p == "requires":
                     out.append(p)
                     names = self.clauses(self.fn, "requires")
-                    if len(names) > 1 and i + 1 < len(parts) and parts[i + 1].isdigit() and int(parts[i + 1]) < len(names):
-                        out.append(names[int(parts[i + 1])])
-                        i += 1
+                    i = self.clause(names, parts, i, out, text)
                     state = "in"
                 elif p == "pre":
                     out.append("requires")
@@ -141,17 +152,15 @@ class Turner:
                     out += [p, parts[i + 1].replace("-", "_")]
                     i += 1
                     state = "in"
-                elif norm(p) in self.fields:
-                    new = self.fields[norm(p)]
+                elif norm(p) in self.fields or norm(p[:1].lower() + p[1:]) in self.fields:
+                    new = self.fields.get(norm(p)) or self.fields[norm(p[:1].lower() + p[1:])]
                     out.append(new)
                     state = "in"
                     if i + 1 < len(parts) and parts[i + 1] == "ensures" and new in self.callee:
                         names = self.clauses(self.callee[new], "ensures")
                         out.append("ensures")
                         i += 1
-                        if len(names) > 1 and i + 1 < len(parts) and parts[i + 1].isdigit() and int(parts[i + 1]) < len(names):
-                            out.append(names[int(parts[i + 1])])
-                            i += 1
+                        i = self.clause(names, parts, i, out, text)
                     elif new.startswith("loop") and i + 1 < len(parts) and parts[i + 1] not in ("invariant", "initial", "auto", "true", "false"):
                         out.append(parts[i + 1].replace("-", "_"))
                         i += 1
@@ -170,6 +179,16 @@ class Turner:
         for o, n in self.e.get("args", []):
             text = text.replace(o.replace(" .", "."), n.replace(" .", "."))
         text = re.sub(r"\btie\.([A-Za-z][\w-]*)((?:\s+(?:invariant|decreases)-loop\d*)*)", self.type_of, text)
+        # a name for the clauses, or for all of them but the first
+        for m in re.finditer(rf"let ({W}) = ([\w.'-]+\.(?:requires|ensures)(?:\.1)*) in ", text):
+            kind = "requires" if "requires" in m[2] else None
+            if kind and len(self.clauses(self.fn, kind)) > 1:
+                head, tail = text[: m.end()], text[m.end() :]
+                tail = re.sub(rf"(?<![\w.']){m[1]}(?=\.\d)", m[2], tail)
+                if not re.search(rf"(?<![\w.']){m[1]}(?![\w'-])", tail):
+                    head = head[: m.start()]
+                text = head + tail
+                break
         # names of what is inside a step: arguments and loops
         self.inner = {m[1] for m in re.finditer(rf"let ({W}) = [^;]*?\.(?:args|loop\d*|now|requires)(?:\.\d+)* in\b", text) if not re.search(r"\bin\b", m[0][: -3])}
         # dotted paths, from a name or from a bracket

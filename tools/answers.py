@@ -101,6 +101,9 @@ class Turner:
         self.inner = set()
         self.used_places = set()
         self.used_callees = {}
+        # places whose record in Goals says what types tell: lemmas take the plain record of steps
+        self.plain = {n: p[0] for p, n, t in zip(entry["places"], entry["places_by_name"], entry.get("typed", [])) if t}
+        self.used_plain = {}
 
     def clauses(self, fn, kind):
         c = self.known.get(fn)
@@ -238,6 +241,9 @@ class Turner:
     def type_of(self, m):
         name = m[1]
         p = self.places.get(norm(name))
+        if p in self.plain:
+            self.used_plain[f"Upto-{p}"] = self.plain[p]
+            return f"Upto-{p}"
         if p:
             self.used_places.add(p)
             return p
@@ -403,7 +409,9 @@ def turn(path, entry, fn, known, module):
     if any(re.search(r"\b(invariant|decreases)-loop", x) for x in own):
         print(f"look: {fn}: an invariant is named in an answer")
     with open(os.path.join(folder, "Answers.antt"), "w", encoding="utf-8") as f:
-        f.write("\n".join(head + uses + [f"use {module}.Goals as goal"] + ([places] if places else []) + invuse) + "\n" + "".join(own))
+        steps = [f"use {module}.Lts as steps", f"use {module}.Tie as tie", f"use {module}.Reads as reads"] if t.used_plain else []
+        plain = "".join(f"\nabbrev {n} : Type 0\n{n} = steps.{o} tie.the-claims reads.Pre reads.Post\n" for n, o in sorted(t.used_plain.items()))
+        f.write("\n".join(head + uses + [f"use {module}.Goals as goal"] + ([places] if places else []) + steps + invuse) + "\n" + plain + "".join(own))
     os.remove(path)
 
 

@@ -20,15 +20,19 @@ for turn in range(12):
     table = json.load(open(f"/tmp/on-{crate}-{os.getpid()}/names.json"))
     changed = 0
     edits = {}
-    for m in re.finditer(r"^\./(proofs/(\S+)/Answers\.antt):(\d+):(\d+): error: (?:.|\n)*?expected type `([\w'-]+)[^`]*`, but this has type `Rattle\.\S+\.Lts\.([\w'-]+)", said, re.M):
-        path, rel, line, col, want, has = m[1], m[2], int(m[3]), int(m[4]), m[5], m[6]
+    for m in re.finditer(r"^\./(proofs/(\S+)/Answers\.antt):(\d+):(\d+): error: (?:.|\n)*?expected type `([\w'-]+)[^`]*`,? but this has type `(Rattle\.\S+\.Lts\.|steps\.|goal\.|)(View\.In-)?([\w'-]+)", said, re.M):
+        path, rel, line, col, want, view, has = m[1], m[2], int(m[3]), int(m[4]), m[5].removeprefix("Upto-"), bool(m[7]), m[8].removeprefix("Upto-")
+        plain = m[5].startswith("Upto-")
         if "error:" in m[0][m[0].index("error:") + 6 :].split("expected type")[0]:
             continue
         e = table[f"Rattle-{crate}-proofs.{rel.replace('/', '.')}.Lts"]
         by = {p[0]: p for p in e["places"]}
         new = {p[0]: n for p, n in zip(e["places"], e["places_by_name"])}
         old = {n: p[0] for p, n in zip(e["places"], e["places_by_name"])}
-        w, h = old.get(want, want), old.get(has, has)
+        typed = {n for n, t in zip(e["places_by_name"], e.get("typed", [])) if t}
+        view = view or (m[6] in ("goal.", "") and not m[8].startswith("Upto-") and has in typed)
+        # a name of Lts is the older one; one of Goals is the newer
+        w, h = old.get(want, want), has if m[6].endswith("Lts.") or m[6] == "steps." and not m[7] else old.get(has, has)
         if w not in by or h not in by:
             continue
 
@@ -40,6 +44,8 @@ for turn in range(12):
             return n if a == b else None
 
         n, d = up(h, w), up(w, h)
+        if plain and view and n is not None:
+            n += 1
         edits.setdefault(path, []).append((line, col, n, d))
     for path, es in edits.items():
         full = os.path.join(folder, path)

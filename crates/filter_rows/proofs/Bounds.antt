@@ -1,5 +1,5 @@
 -- Bounds of the sums.
-use Rattle.std.proofs.Common.{◌≡◌, ℕ, ◌+◌, ◌*◌, ◌<◌, ◌≤◌, Bool, true, false, cond, eqb, List, get_or, ℤ, pos, ◌+ℤ◌, ◌*ℤ◌, nat_abs, sym, refl, ap, ◌∙◌, mul-le-mul, arith, w16, to_z, of_z}
+use Rattle.std.proofs.Common.{◌≡◌, ℕ, ◌+◌, ◌*◌, ◌≤◌, Bool, true, false, cond, eqb, List, get_or, ℤ, pos, ◌+ℤ◌, ◌*ℤ◌, nat_abs, mul-le-mul, arith, w16, to_z, of_z}
 use Rattle.cdef_spec.specs.SignedLaws.{size-add, size_scale}
 use Rattle.arith_sample.specs.Sample.{con_of}
 use Rattle.arith_sample.specs.SampleLaws.{size-con}

@@ -1,4 +1,6 @@
 // Rows of eight samples of the window, filtered, returned by value.
+#![tactic(auto)]
+
 pub mod alone; // alone.rt: rows filtered with one strength
 pub mod both; // both.rt: one sample, filtered with both strengths
 

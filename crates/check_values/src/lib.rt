@@ -1,4 +1,6 @@
 // Questions 8 and 9 of single values: strengths, dampings, variances, the quality index, a difference. Each test has its definition's name.
+#![tactic(auto)]
+
 ghost use Rattle.std.specs.Prelude.{◌≡◌, ◌≤◌};
 ghost use Rattle.cdef_spec.specs.Questions.{strength_taken, working_taken, signalled_taken, variance_taken, index_taken, difference_taken, secondary_taken, pair_taken, params_taken, way_taken};
 

@@ -9,8 +9,7 @@ use lib.Signed.{lt_z, le_z}
 use mir.Syntax.{w32}
 use mir.ValLaws.{to_z-of_z}
 use Rattle.cdef_spec.specs.Questions.{difference_taken}
-use Rattle.check_values.proofs.difference_taken.Statement.{statement}
-use Rattle.check_values.proofs.difference_taken.Tie as tie
+use Rattle.check_values.proofs.difference_taken.Goals as goal
 
 low : (z : ℤ) → lt_z z (negsuc 4094) ≡ true → false ≡ difference_taken z
 unfolding difference_taken
@@ -22,14 +21,11 @@ unfolding difference_taken
 high (pos n) t = refl
 high (negsuc n) t = sym (le-leb (suc n) 4095 (omega (arith, ltb-false 4094 n t)))
 
-returns : tie.Need-returns
+pub returns-then-difference-ltminus4095 : goal.returns-then-difference-ltminus4095
+returns-then-difference-ltminus4095 c = let z = c.before.args.difference in
+    low z (rw (to_z-of_z w32 z c.before.ranges.difference) at c.if-difference-ltminus4095.true)
+
+pub returns : goal.returns
 returns c = let z = c.before.args.difference in
-    low z (rw (to_z-of_z w32 z c.before.ranges.difference) at c.if1.true)
-
-returns-2 : tie.Need-returns-2
-returns-2 c = let z = c.before.args.difference in
     let e = to_z-of_z w32 z c.before.ranges.difference in
-    rw e (high z (rw e at c.if1.false))
-
-pub difference-taken-spec : {M : Type 1} → statement M
-difference-taken-spec = tie.close (tie.spec returns returns-2)
+    rw e (high z (rw e at c.if-difference-ltminus4095.false))

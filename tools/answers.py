@@ -12,6 +12,8 @@ import re
 import subprocess
 import sys
 
+# laws of cdef_spec that stand in its proofs/ now
+MOVED = "PlaceLaws|FilterLaws|TapLaws|ClipLaws|TrialLaws|LocalLaws|PictureLaws|PairLaws|AppliedLaws|PlaneLaws|TrialCallLaws|OutcomeLaws|Agreement"
 W = r"[A-Za-z_][\w'₀-₉-]*"
 
 
@@ -332,6 +334,7 @@ class Turner:
 
 def turn(path, entry, fn, known, module):
     text = open(path, encoding="utf-8").read()
+    text = re.sub(rf"cdef_spec\.specs\.({MOVED})\b", r"cdef_spec.proofs.\1", text)
     t = Turner(entry, fn, known)
     t.whole = re.sub(rf"\.({W})", lambda m: "." + t.fields.get(norm(m[1]), m[1]), text)
     blocks, cur = [], []

@@ -16,9 +16,9 @@ use Rattle.cdef_spec.specs.Answers.{taken, nothing, result_of}
 use Rattle.cdef_spec.specs.Questions.{full_planes, picture_listed}
 use Rattle.cdef_spec.specs.QuestionLaws.{questions-yes}
 use Rattle.cdef_spec.specs.FrameCalls.{trying_no, trying_outcome, ApplyingOutcome, applying_no, applying_outcome, applying_lists_no, pairs_of, applying_lists_outcome, measuring_no, measuring_outcome}
-use Rattle.cdef_spec.specs.OutcomeLaws.{twin-is}
+use Rattle.cdef_spec.proofs.OutcomeLaws.{twin-is}
 use Rattle.cdef_spec.specs.Demand3.{off, other_kind, with_directions, Agrees, own_input_passes}
-use Rattle.cdef_spec.specs.Agreement.{agreement, own-from-accepted}
+use Rattle.cdef_spec.proofs.Agreement.{agreement, own-from-accepted}
 use Rattle.cdef_pairs.specs.PairLaws.{few-units, twin-no}
 use Rattle.agree_lists.specs.declared.Agreement.TheVariants.{Agreed, NotTrialPairs, TryingRefused, ApplyingRefused, MeasuringRefused}
 use Rattle.agree_lists.specs.Agree.{read_agreement, agreement_number, is_agreed, AgreeOutcome, agree_with, agree_outcome, agree_lists_outcome}

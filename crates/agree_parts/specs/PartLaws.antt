@@ -6,7 +6,7 @@ use Rattle.cdef_spec.specs.Words.{every}
 use Rattle.cdef_spec.specs.Document01.{is_trial_pair}
 use Rattle.cdef_spec.specs.Picture.{pair_at}
 use Rattle.cdef_spec.specs.FrameCalls.{pairs_of}
-use Rattle.cdef_spec.specs.OutcomeLaws.{length_pairs, pair_of}
+use Rattle.cdef_spec.proofs.OutcomeLaws.{length_pairs, pair_of}
 use Rattle.arith_sample.specs.Upto.{upto, length-upto, get_or-upto}
 use Rattle.agree_parts.specs.Parts.{trial_pairs, copied}
 

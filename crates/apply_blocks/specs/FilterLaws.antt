@@ -12,7 +12,7 @@ use Rattle.cdef_spec.specs.declared.UnitPair.{UnitPair}
 use Rattle.cdef_spec.specs.Document01.{filtered}
 use Rattle.cdef_spec.specs.Picture.{block_width, block_height, plane_width, plane_height, block_at, params_for, filtered_by}
 use Rattle.cdef_spec.specs.LoopForm.{put_block}
-use Rattle.cdef_spec.specs.PlaneLaws.{block_same}
+use Rattle.cdef_spec.proofs.PlaneLaws.{block_same}
 use Rattle.filter_window.specs.Window.{plane_of}
 use Rattle.filter_window.specs.Spans.{InPlane}
 use Rattle.frame_shape.specs.declared.Frame.{Frame}

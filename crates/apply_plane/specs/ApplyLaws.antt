@@ -6,7 +6,7 @@ use Rattle.std.proofs.Math.Bool.{true, false, cond}
 use Rattle.cdef_spec.specs.declared.SignalledDamping.{SignalledDamping}
 use Rattle.cdef_spec.specs.declared.UnitPair.{UnitPair}
 use Rattle.cdef_spec.specs.Picture.{Picture, block_cols, unit_at, pair_at, written, applied_plane}
-use Rattle.cdef_spec.specs.PlaneLaws.{apply-is}
+use Rattle.cdef_spec.proofs.PlaneLaws.{apply-is}
 use Rattle.arith_totals.specs.FoldLaws.{apply-row-none, apply-row-more, apply-row-pass, apply-rows-none, apply-rows-more}
 use Rattle.frame_shape.specs.declared.Frame.{Frame}
 use Rattle.frame_shape.specs.Frame.{Shaped, picture_of}

@@ -10,7 +10,7 @@ use Rattle.cdef_spec.specs.Words.{every}
 use Rattle.cdef_spec.specs.WordsLaws.{agree}
 use Rattle.cdef_spec.specs.declared.UnitPair.{UnitPair}
 use Rattle.cdef_spec.specs.Document01.{primaries, secondaries, trial_pair, index_of, trial_number, one_of, is_trial_pair}
-use Rattle.cdef_spec.specs.PairLaws.{trial-of}
+use Rattle.cdef_spec.proofs.PairLaws.{trial-of}
 
 -- ---- the pair of a trial number
 

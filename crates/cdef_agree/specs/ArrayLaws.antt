@@ -12,7 +12,7 @@ use Rattle.cdef_spec.specs.Words.{every}
 use Rattle.cdef_spec.specs.Picture.{Picture}
 use Rattle.cdef_spec.specs.FrameCalls.{pairs_of}
 use Rattle.cdef_spec.specs.Demand3.{Agrees}
-use Rattle.cdef_spec.specs.OutcomeLaws.{length_pairs}
+use Rattle.cdef_spec.proofs.OutcomeLaws.{length_pairs}
 use Rattle.cdef_pairs.specs.Gather.{gathered, listed, primaries, secondaries}
 use Rattle.cdef_pairs.specs.PairLaws.{length-listed, length-primaries, pairs-listed, same-gathered, gathered-no, gathered-outcome, lists-no, lists-outcome}
 use Rattle.cdef_pairs.specs.LentLaws.{first-primaries, first-secondaries}

@@ -17,7 +17,7 @@ use Rattle.cdef_spec.specs.Answers.{taken, refused, nothing, number_of, result_o
 use Rattle.cdef_spec.specs.Questions.{first_no, side_taken, luma_side_taken, picture_listed, pair_taken, all_taken}
 use Rattle.cdef_spec.specs.FrameCalls.{questions, ApplyingOutcome, applying_no, applying_outcome, applying_lists_no, applying_lists_outcome, pairs_of}
 use Rattle.cdef_spec.specs.QuestionLaws.{questions-yes}
-use Rattle.cdef_spec.specs.OutcomeLaws.{twin-is}
+use Rattle.cdef_spec.proofs.OutcomeLaws.{twin-is}
 use Rattle.cdef_pairs.specs.Gather.{gathered, listed, primaries, secondaries}
 use Rattle.cdef_pairs.specs.GatherLaws.{none, is-table, table_same}
 

@@ -19,23 +19,9 @@ pub mod SignedLaws
 pub mod ConstrainLaws
 pub mod LeafLaws
 pub mod ChromaLaws
-pub mod FilterLaws
-pub mod TapLaws
-pub mod PlaceLaws
-pub mod ClipLaws
-pub mod TrialLaws
-pub mod LocalLaws
 pub mod DirectionLaws
 pub mod DirectionLocal
 pub mod DistanceLaws
 pub mod GeometryLaws
 pub mod QuestionLaws
-pub mod PictureLaws
-pub mod PairLaws
-pub mod AppliedLaws
 pub mod TotalLaws
-pub mod PlaneLaws
-pub mod TrialCallLaws
-pub mod OutcomeLaws
--- The proof of the agreement theorem (RULES, Agreement).
-pub mod Agreement

@@ -5,7 +5,7 @@ use Rattle.cdef_spec.specs.declared.Block.{Block}
 use Rattle.cdef_spec.specs.declared.FilterParams.{FilterParams}
 use Rattle.cdef_spec.specs.Document01.{Plane, filtered}
 use Rattle.cdef_spec.specs.LoopForm.{put_row, put_block}
-use Rattle.cdef_spec.specs.PlaneLaws.{row_same, block_same}
+use Rattle.cdef_spec.proofs.PlaneLaws.{row_same, block_same}
 use Rattle.arith_sample.specs.Bounds.{Held}
 use Rattle.arith_sample.specs.Upto.{upto, get_or-upto}
 use Rattle.filter_rows.specs.declared.Taps.{Taps}

@@ -17,7 +17,7 @@ use Rattle.cdef_spec.specs.Standard.{Tap, missing}
 use Rattle.cdef_spec.specs.Document01.{Plane, available, or_else, filter_centre, filtered}
 use Rattle.cdef_spec.specs.BlockCalls.{in_block, filtered_place}
 use Rattle.cdef_spec.specs.LoopForm.{put_block}
-use Rattle.cdef_spec.specs.PlaneLaws.{length-put-block, block_in, block_out}
+use Rattle.cdef_spec.proofs.PlaneLaws.{length-put-block, block_in, block_out}
 
 -- off the plane there is nothing to filter
 below-plane : (p : Plane) (q : FilterParams) (r c : ℕ) → p.height ≤ r → filtered p q r c ≡ missing

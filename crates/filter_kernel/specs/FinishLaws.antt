@@ -4,9 +4,9 @@ use Rattle.std.proofs.Common.{sym, ap, ◌∙◌, arith, ltb-true, ltb-false, le
 use Rattle.std.proofs.Math.IntN.{+ℤ_assoc, +ℤ_comm, *ℤ-zero}
 use Rattle.std.specs.Int.Signed.{lt_z, shr_z, mag}
 use Rattle.cdef_spec.specs.Standard.{clip3, rounded, Tap, missing, sample}
-use Rattle.cdef_spec.specs.FilterLaws.{constrain-off}
-use Rattle.cdef_spec.specs.TapLaws.{Visit}
-use Rattle.cdef_spec.specs.TrialLaws.{adds, total}
+use Rattle.cdef_spec.proofs.FilterLaws.{constrain-off}
+use Rattle.cdef_spec.proofs.TapLaws.{Visit}
+use Rattle.cdef_spec.proofs.TrialLaws.{adds, total}
 use Rattle.arith_sample.specs.Sample.{round_of, moved_of, over_of, finish_of, free_of}
 use Rattle.arith_sample.specs.SampleLaws.{held-nat, finish-on, free_on}
 

@@ -12,10 +12,10 @@ use Rattle.cdef_spec.specs.declared.FilterParams.{FilterParams}
 use Rattle.cdef_spec.specs.Standard.{sample, rounded, filter_taps, unclipped, cdef_filter, cdef_sec_taps}
 use Rattle.cdef_spec.specs.Document01.{Plane, mark, unmarked, available, or_else, damping_from1, filter_centre, filtered}
 use Rattle.cdef_spec.specs.CodeForm.{row_of, col_of, sample_at}
-use Rattle.cdef_spec.specs.PlaceLaws.{steps_low, available-here2}
-use Rattle.cdef_spec.specs.FilterLaws.{Around, around, clip-high, filter-off}
-use Rattle.cdef_spec.specs.ClipLaws.{clip-idle}
-use Rattle.cdef_spec.specs.TrialLaws.{total, pri_taps, sec_taps, sum-splits, max-is, min-is}
+use Rattle.cdef_spec.proofs.PlaceLaws.{steps_low, available-here2}
+use Rattle.cdef_spec.proofs.FilterLaws.{Around, around, clip-high, filter-off}
+use Rattle.cdef_spec.proofs.ClipLaws.{clip-idle}
+use Rattle.cdef_spec.proofs.TrialLaws.{total, pri_taps, sec_taps, sum-splits, max-is, min-is}
 use Rattle.arith_sample.specs.Sample.{or_centre, con_of, finish_of, free_of}
 use Rattle.arith_sample.specs.SampleLaws.{centre-mark, centre-tap, finish-mark, free-mark}
 use Rattle.arith_sample.specs.Bounds.{Held}

@@ -6,7 +6,7 @@ use native.Mathlib.Omega.{arith}
 use Rattle.cdef_spec.specs.declared.Block.{Block}
 use Rattle.cdef_spec.specs.Document01.{Plane}
 use Rattle.cdef_spec.specs.CodeForm.{row_of, col_of, sample_at}
-use Rattle.cdef_spec.specs.PlaceLaws.{steps_low}
+use Rattle.cdef_spec.proofs.PlaceLaws.{steps_low}
 use Rattle.arith_sample.specs.Sample.{or_centre}
 use Rattle.arith_sample.specs.Upto.{upto, get_or-upto}
 use Rattle.filter_rows.specs.Place.{Near, on_from, back_from, tap_on, tap_back}

@@ -7,9 +7,9 @@ use Rattle.cdef_spec.specs.declared.FilterParams.{FilterParams}
 use Rattle.cdef_spec.specs.Standard.{Tap}
 use Rattle.cdef_spec.specs.Document01.{Plane, unmarked, available}
 use Rattle.cdef_spec.specs.CodeForm.{row_of, col_of, sample_at}
-use Rattle.cdef_spec.specs.PlaceLaws.{tap-forward, tap-back}
-use Rattle.cdef_spec.specs.TapLaws.{Visit}
-use Rattle.cdef_spec.specs.TrialLaws.{adds, total, higher, lower, highest, lowest, pri_taps, sec_taps}
+use Rattle.cdef_spec.proofs.PlaceLaws.{tap-forward, tap-back}
+use Rattle.cdef_spec.proofs.TapLaws.{Visit}
+use Rattle.cdef_spec.proofs.TrialLaws.{adds, total, higher, lower, highest, lowest, pri_taps, sec_taps}
 use Rattle.arith_sample.specs.Sample.{or_centre, con_of}
 use Rattle.filter_kernel.specs.Kernel.{shift_of}
 use Rattle.filter_kernel.specs.TapLaws.{adds-is, higher-is, lower-is}
@@ -75,11 +75,11 @@ module _ (p : Plane) (y x : ℕ) where
   module _ (b : FilterParams) (hd : b.dir < 8) (held : (r c : ℕ) → r ≤ 4 → c ≤ 4 → sample_at p (y + r) (x + c) ≤ 16384) where
     on-le : (dir k : ℕ) → dir < 8 → k < 2 → on_sample dir k ≤ 16384
     unfolding on_sample
-    on-le dir k h g = let l = Rattle.cdef_spec.specs.PlaceLaws.steps_low dir k h g in held (row_of dir k) (col_of dir k) l.0 l.1
+    on-le dir k h g = let l = Rattle.cdef_spec.proofs.PlaceLaws.steps_low dir k h g in held (row_of dir k) (col_of dir k) l.0 l.1
 
     back-le : (dir k : ℕ) → dir < 8 → k < 2 → back_sample dir k ≤ 16384
     unfolding back_sample
-    back-le dir k h g = let l = Rattle.cdef_spec.specs.PlaceLaws.steps_low dir k h g in held (4 - row_of dir k) (4 - col_of dir k) (omega arith) (omega arith)
+    back-le dir k h g = let l = Rattle.cdef_spec.proofs.PlaceLaws.steps_low dir k h g in held (4 - row_of dir k) (4 - col_of dir k) (omega arith) (omega arith)
 
     pub pri-matches : Matches (pri_taps (available p) y x 0 b) (along b.dir)
     unfolding along on_sample back_sample

@@ -10,7 +10,7 @@ use Rattle.cdef_spec.specs.Document01.{unmarked}
 use Rattle.cdef_spec.specs.CodeForm.{constrain_mag}
 use Rattle.cdef_spec.specs.ConstrainLaws.{constrain-is}
 use Rattle.cdef_spec.specs.LeafLaws.{constrain_mag-on, constrain_mag-off}
-use Rattle.cdef_spec.specs.TrialLaws.{adds, higher, lower}
+use Rattle.cdef_spec.proofs.TrialLaws.{adds, higher, lower}
 use Rattle.arith_sample.specs.Sample.{or_centre, size_of, con_of}
 use Rattle.arith_sample.specs.SampleLaws.{con-below, con-above, centre-mark, centre-tap}
 use Rattle.arith_sample.specs.HeldLaws.{diff-below, diff-above}

@@ -11,7 +11,7 @@ use Rattle.cdef_spec.specs.declared.UnitPair.{UnitPair}
 use Rattle.cdef_spec.specs.declared.Visible.{Visible}
 use Rattle.cdef_spec.specs.Document01.{trial_pair, luma_params, chroma_params}
 use Rattle.cdef_spec.specs.BlockCalls.{trial_params}
-use Rattle.cdef_spec.specs.TrialCallLaws.{trial-luma, trial-chroma}
+use Rattle.cdef_spec.proofs.TrialCallLaws.{trial-luma, trial-chroma}
 use Rattle.cdef_spec.specs.Picture.{PlaneKind, luma, chroma, sub_x, sub_y, plane_width, plane_height, block_width, block_height, visible_rows, visible_cols, params_for}
 use Rattle.cdef_spec.specs.Questions.{side_taken, luma_side_taken, flags_taken}
 use Rattle.cdef_spec.specs.GeometryLaws.{Tiled, tiled}

@@ -14,7 +14,7 @@ use Rattle.cdef_spec.specs.WordsLaws.{and_both}
 use Rattle.cdef_spec.specs.Document01.{mark, or_else}
 use Rattle.cdef_spec.specs.Distance.{constants_of}
 use Rattle.cdef_spec.specs.Picture.{PlaneKind, luma, chroma, Picture, is_off, plane_width, plane_height, block_width, block_height, block_at, visible_rows, visible_cols, counted, at_place, filtered_by, distance_of, block_distance}
-use Rattle.cdef_spec.specs.PictureLaws.{filtered-low}
+use Rattle.cdef_spec.proofs.PictureLaws.{filtered-low}
 use Rattle.distance_weight.specs.Weighing.{OfDepth}
 use Rattle.distance_sums.specs.Blocks.{at}
 use Rattle.distance_visible.specs.Cut.{cut_distance}

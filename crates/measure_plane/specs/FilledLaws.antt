@@ -12,9 +12,9 @@ use Rattle.cdef_spec.specs.declared.SignalledDamping.{SignalledDamping}
 use Rattle.cdef_spec.specs.declared.UnitPair.{UnitPair}
 use Rattle.cdef_spec.specs.Document01.{mark, or_else, filtered}
 use Rattle.cdef_spec.specs.Picture.{Picture, block_width, block_height, plane_width, plane_height, params_for, filtered_by}
-use Rattle.cdef_spec.specs.PictureLaws.{filtered-here, filtered-low}
+use Rattle.cdef_spec.proofs.PictureLaws.{filtered-here, filtered-low}
 use Rattle.cdef_spec.specs.LoopForm.{put_block}
-use Rattle.cdef_spec.specs.PlaneLaws.{block_in as stored-in}
+use Rattle.cdef_spec.proofs.PlaneLaws.{block_in as stored-in}
 use Rattle.filter_window.specs.Window.{plane_of}
 use Rattle.filter_window.specs.Spans.{InPlane}
 use Rattle.frame_shape.specs.declared.Frame.{Frame}

@@ -11,9 +11,9 @@ use Rattle.cdef_spec.specs.WordsLaws.{and_both}
 use Rattle.cdef_spec.specs.Standard.{Tap}
 use Rattle.cdef_spec.specs.Document01.{unmarked, filtered}
 use Rattle.cdef_spec.specs.CodeForm.{row_of, col_of, sample_at}
-use Rattle.cdef_spec.specs.PlaceLaws.{steps_low}
+use Rattle.cdef_spec.proofs.PlaceLaws.{steps_low}
 use Rattle.cdef_spec.specs.LoopForm.{put_block}
-use Rattle.cdef_spec.specs.PlaneLaws.{block_same}
+use Rattle.cdef_spec.proofs.PlaneLaws.{block_same}
 use Rattle.arith_sample.specs.Sample.{or_centre}
 use Rattle.arith_sample.specs.Bounds.{Held}
 use Rattle.arith_sample.specs.Upto.{upto}

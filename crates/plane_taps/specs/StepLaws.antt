@@ -5,7 +5,7 @@ use Rattle.std.proofs.Math.Logic.{⊎_elim}
 use Rattle.std.proofs.Math.Decide.{dec_le}
 use native.Mathlib.Omega.{arith}
 use Rattle.cdef_spec.specs.CodeForm.{rows, cols, row_of, col_of}
-use Rattle.cdef_spec.specs.PlaceLaws.{steps_low}
+use Rattle.cdef_spec.proofs.PlaceLaws.{steps_low}
 use Rattle.filter_rows.specs.Place.{on_from, back_from}
 use Rattle.plane_taps.specs.Steps.{wrapped_step, step_by, taps_by, taps_in, Reach, Reach6}
 

@@ -7,7 +7,7 @@ use Rattle.cdef_spec.specs.Standard.{sample, missing}
 use Rattle.cdef_spec.specs.Document01.{unmarked, or_else}
 use Rattle.cdef_spec.specs.GeometryLaws.{row_of}
 use Rattle.cdef_spec.specs.LoopForm.{put_row, put_block}
-use Rattle.cdef_spec.specs.PlaneLaws.{row_same, block_in, block_more}
+use Rattle.cdef_spec.proofs.PlaneLaws.{row_same, block_in, block_more}
 use Rattle.filter_block.specs.Store.{window_tap}
 use Rattle.filter_rows.specs.declared.Taps.{Taps}
 use Rattle.filter_rows.specs.declared.Strength.{Strength}

@@ -4,7 +4,7 @@ use Rattle.std.proofs.Common.{sym, ap, ◌∙◌, ⊎_elim, div-add-mod', mod-lt
 use Rattle.std.proofs.Math.Decide.{dec_lt}
 use Rattle.cdef_spec.specs.Standard.{Tap}
 use Rattle.cdef_spec.specs.LoopForm.{put_row, put_block}
-use Rattle.cdef_spec.specs.PlaneLaws.{block_same}
+use Rattle.cdef_spec.proofs.PlaneLaws.{block_same}
 use Rattle.cdef_spec.specs.declared.TrialWay.{TrialWay}
 use Rattle.cdef_spec.specs.declared.WorkingDamping.{WorkingDamping}
 use Rattle.arith_sample.specs.Bounds.{Held, Marked}

@@ -25,7 +25,7 @@ use Rattle.trial_marks.specs.Trial.{trial_tap}
 use Rattle.trial_any.specs.Any.{any_tap}
 use Rattle.trial_any.specs.AnyLaws.{any-tap}
 use Rattle.trial_block.specs.SampleLaws.{trial-tap}
-use Rattle.cdef_spec.specs.PlaneLaws.{length-put-block, block_in, block_out}
+use Rattle.cdef_spec.proofs.PlaneLaws.{length-put-block, block_in, block_out}
 
 module _ (p : Plane) (b : Block) (way : TrialWay) (dir : ℕ) (damping : WorkingDamping) (depth : ℕ) (d : List ℕ) (hw : b.width ≤ 8) (hh : b.height ≤ 8) (long : length d ≡ 768) (f : ℕ → ℕ → Tap)
     (tap-is : (t c : ℕ) → t < 12 → c < b.height * b.width → f t c ≡ sample (or_else mark (filtered p (trial_params way depth dir damping t) (b.y + c / b.width) (b.x + c % b.width)))) where

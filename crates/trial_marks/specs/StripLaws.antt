@@ -5,7 +5,7 @@ use Prim.Native.Nat.{ℕ, zero, suc, ◌+◌, ◌-◌, ◌*◌, ◌/◌, ◌%◌
 use native.Mathlib.Omega.{arith}
 use Rattle.std.proofs.Math.IntN.{+ℤ_comm}
 use Rattle.cdef_spec.specs.CodeForm.{row_of, col_of}
-use Rattle.cdef_spec.specs.PlaceLaws.{steps_low}
+use Rattle.cdef_spec.proofs.PlaceLaws.{steps_low}
 use Rattle.filter_limits.specs.declared.Pair.{Pair}
 use Rattle.filter_rows.specs.Place.{on_from, back_from}
 use Rattle.filter_rows.specs.Pairs.{pair_of, pairs_of}

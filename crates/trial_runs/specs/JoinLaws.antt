@@ -9,7 +9,7 @@ use Rattle.std.proofs.Math.Seq.{ext_get_or}
 use Rattle.cdef_spec.specs.Standard.{Tap}
 use Rattle.cdef_spec.specs.Document01.{or_else}
 use Rattle.cdef_spec.specs.LoopForm.{put_row, put_block}
-use Rattle.cdef_spec.specs.PlaneLaws.{length-put-block, block_in, block_out}
+use Rattle.cdef_spec.proofs.PlaneLaws.{length-put-block, block_in, block_out}
 
 -- entries of a row from the first on, then those after them
 pub row-join : (d : List ℕ) (w : ℕ) (f : ℕ → ℕ → Tap) (r a n : ℕ) → put_row (put_row d w f r 0 a) w f r a n ≡ put_row d w f r 0 (a + n)

@@ -5,7 +5,7 @@ use Rattle.std.proofs.Common.{arith}
 use Rattle.cdef_spec.specs.Standard.{sample}
 use Rattle.cdef_spec.specs.Document01.{or_else}
 use Rattle.cdef_spec.specs.LoopForm.{put, put_row}
-use Rattle.cdef_spec.specs.PlaneLaws.{row_more, row_same}
+use Rattle.cdef_spec.proofs.PlaneLaws.{row_more, row_same}
 use Rattle.arith_sample.specs.Upto.{upto, get_or-upto}
 use Rattle.trial_runs.specs.Runs.{raised_at, clipped_at, run_tap, raised_tap, clipped_tap}
 

@@ -5,7 +5,7 @@ use Rattle.std.proofs.Common.{◌∙◌, arith}
 use Rattle.std.proofs.Math.ListN.{get_or}
 use Rattle.cdef_spec.specs.Standard.{Tap, sample}
 use Rattle.cdef_spec.specs.LoopForm.{put_row, put_block}
-use Rattle.cdef_spec.specs.PlaneLaws.{row_same, length-put-row}
+use Rattle.cdef_spec.proofs.PlaneLaws.{row_same, length-put-row}
 use Rattle.arith_sample.specs.Bounds.{Held, Within}
 use Rattle.arith_sample.specs.Upto.{upto, get_or-upto, upto-all-of}
 use Rattle.filter_limits.specs.Limits.{HeldPair, HeldPairs, most_of, lowest_of, highest_of}

@@ -12,9 +12,9 @@ use Rattle.cdef_spec.specs.declared.Visible.{Visible}
 use Rattle.cdef_spec.specs.WordsLaws.{length-table, get_or-table}
 use Rattle.cdef_spec.specs.Document01.{mark, or_else, filtered, trial_pair}
 use Rattle.cdef_spec.specs.Distance.{constants_of}
-use Rattle.cdef_spec.specs.TrialCallLaws.{trial-at}
+use Rattle.cdef_spec.proofs.TrialCallLaws.{trial-at}
 use Rattle.cdef_spec.specs.Picture.{luma, chroma, Picture, plane_width, plane_height, block_width, block_height, block_at, at_place, plane_of, filtered_by, distance_of, block_distance}
-use Rattle.cdef_spec.specs.PictureLaws.{filtered-low}
+use Rattle.cdef_spec.proofs.PictureLaws.{filtered-low}
 use Rattle.distance_sums.specs.Blocks.{at, Within}
 use Rattle.distance_visible.specs.CutLaws.{cut-is, cut-same, cut-within}
 use Rattle.frame_shape.specs.declared.Frame.{Frame}

@@ -21,8 +21,8 @@ use Rattle.cdef_spec.specs.Demand3.{off, other_kind, with_directions, Agrees, ow
 use Rattle.cdef_spec.specs.DistanceLaws.{total-same, block_same}
 use Rattle.cdef_spec.specs.GeometryLaws.{Tiled, tiled, row_of, at-plane}
 use Rattle.cdef_spec.specs.QuestionLaws.{below_get, below-make, Taken, questions-yes, all_yes, samples-fit}
-use Rattle.cdef_spec.specs.PairLaws.{trial-of}
-use Rattle.cdef_spec.specs.AppliedLaws.{in_rows, in-cols, applied-here, applied-low}
+use Rattle.cdef_spec.proofs.PairLaws.{trial-of}
+use Rattle.cdef_spec.proofs.AppliedLaws.{in_rows, in-cols, applied-here, applied-low}
 
 pub result-zero : (n : ℕ) → result_of n nothing ≡ taken nothing → n ≡ 0
 unfolding result_of

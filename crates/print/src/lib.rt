@@ -1,56 +1,56 @@
 // What the lines of a program are printed with.
+#![tactic(auto)]
+
 ghost use Rattle.std.specs.Prelude.{◌+◌, ◌*◌, ◌≤◌, ◌<◌, length};
 
-pub fn text(s: &[u8]) {
-    io::write_all(1, s);
+use std::io;
+
+pub fn text(rt: &impl Print, s: &str) -> io::Result<()> {
+    rt.print(s)
 }
 
-pub fn number(n: u64) {
-    io::print_decimal(1, n);
+pub fn number(rt: &impl Print, n: u64) -> io::Result<()> {
+    rt.print(n)
 }
 
 // A text, and a number behind it.
-pub fn labelled(s: &[u8], n: u64) {
-    text(s);
-    number(n);
+pub fn labelled(rt: &impl Print, s: &str, n: u64) -> io::Result<()> {
+    print!(rt; "{s}{n}")
 }
 
-pub fn pair(primary: u8, secondary: u8) {
-    labelled(b"pair ", primary as u64);
-    labelled(b", ", secondary as u64);
+pub fn pair(rt: &impl Print, primary: u8, secondary: u8) -> io::Result<()> {
+    print!(rt; "pair {primary}, {secondary}")
 }
 
 // A distance or a total, which is never below 0.
-pub fn whole(d: i64) {
+pub fn whole(rt: &impl Print, d: i64) -> io::Result<()> {
     if d < 0 {
-        return;
+        return Ok(());
     }
-    number(d as u64);
+    rt.print(d)
 }
 
 // An error code, and the line's end.
-pub fn refused(n: u8) {
-    text(b"error code ");
-    number(n as u64);
-    text(b"\n");
+pub fn refused(rt: &impl Print, n: u8) -> io::Result<()> {
+    println!(rt; "error code {n}")
 }
 
 // The twelve totals that were tried of a unit.
-pub fn totals(unit: usize, tried: &[i64])
+pub fn totals(rt: &impl Print, unit: usize, tried: &[i64]) -> io::Result<()>
     requires { (unit < 4096) × (12 * unit + 12 ≤ length tried.now) }
 {
-    text(b": tried");
+    text(rt, ": tried")?;
     for t in 0..12 {
-        text(b" ");
-        whole(tried[12 * unit + t]);
+        text(rt, " ")?;
+        whole(rt, tried[12 * unit + t])?;
     }
+    Ok(())
 }
 
 // Ends the line of a unit.
-pub fn same(tried: i64, measured: i64) {
+pub fn same(rt: &impl Print, tried: i64, measured: i64) -> io::Result<()> {
     if tried == measured {
-        text(b", the same as tried\n");
-        return;
+        return text(rt, ", the same as tried\n");
     }
-    text(b", different\n");
+    text(rt, ", different\n")
 }

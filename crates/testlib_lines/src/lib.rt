@@ -1,8 +1,13 @@
 // Files of lines, and lines of decimal numbers separated by single blanks.
+#![tactic(auto)]
+
 pub mod samples; // samples.rt: many numbers of a line at once, as samples
 
-ghost use Rattle.std.specs.Prelude.{◌≤◌, ◌≡◌, length};
-ghost use Rattle.io.specs.Counts.{IsPrefixLen};
+ghost use Rattle.std.specs.Prelude.{◌≤◌, ◌≡◌, IfOk, length};
+
+use std::io::Read;
+use std::rt::Files;
+use std::{fs, io};
 
 // What is read where a line has no number: no number of a line is as large.
 pub const NONE: u64 = 10_000_000_000_000_000;
@@ -15,16 +20,31 @@ pub fn file_space() -> [u8; 1_000_000]
 }
 
 // Reads a file into a buffer and returns how many bytes it put there: none where the file cannot be opened, which is reported on stderr.
-pub fn read_file(path: &[u8], space: &mut [u8]) -> usize
-    ensures { IsPrefixLen result space.new }
+pub fn read_file(rt: &(impl Files + Eprint), path: &str, space: &mut [u8]) -> io::Result<usize>
+    ensures { IfOk result (λ n. n ≤ length space.new) }
 {
-    let fd = os::open_read(path);
-    if fd < 0 {
-        os::fail(path);
+    match fs::open(rt, path) {
+        Ok(mut file) => read_full(&mut file, space),
+        Err(e) => {
+            eprintln!(rt; "{path}: {e}")?;
+            Ok(0)
+        }
     }
-    let n = io::read_full(fd, space);
-    libc::close(fd);
-    n
+}
+
+// Reads until the file ends or the buffer is full.
+fn read_full(file: &mut impl Read, space: &mut [u8]) -> io::Result<usize>
+    ensures { IfOk result (λ n. n ≤ length space.new) }
+{
+    let mut count = 0;
+    while count < space.len() {
+        let got = file.read(&mut space[count..])?;
+        if got == 0 {
+            return Ok(count);
+        }
+        count += got;
+    }
+    Ok(count)
 }
 
 // The position of a byte from a position on, or the end of the text.
@@ -165,9 +185,6 @@ pub fn area(line: &[u8], j: usize, k: usize) -> usize {
 }
 
 // Prints a file's name and how many of its cases return what is stored.
-pub fn told(path: &[u8], cases: u64) {
-    io::write_all(1, path);
-    io::write_all(1, b": as stored ");
-    io::print_decimal(1, cases);
-    io::write_all(1, b"\n");
+pub fn told(rt: &impl Print, path: &str, cases: u64) -> io::Result<()> {
+    println!(rt; "{path}: as stored {cases}")
 }

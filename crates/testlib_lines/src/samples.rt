@@ -1,6 +1,5 @@
 // Samples out of a line.
 ghost use Rattle.std.specs.Prelude.{◌≤◌, ◌≡◌, length};
-ghost use Rattle.io.specs.Counts.{IsPrefixLen};
 
 // The sample at a position of a line.
 fn sample(line: &[u8], at: usize) -> u16 {
@@ -9,7 +8,7 @@ fn sample(line: &[u8], at: usize) -> u16 {
 
 // A count, or the length of a list where that is less.
 pub fn least(n: usize, list: &[u16]) -> usize
-    ensures { IsPrefixLen result list.now }
+    ensures { result ≤ length list.now }
 {
     if n < list.len() {
         return n;
@@ -20,7 +19,7 @@ pub fn least(n: usize, list: &[u16]) -> usize
 // Puts the numbers from a position on into a list: `most` of them, or as many as the line and the list have. Returns how many those are.
 pub fn taken(line: &[u8], from: usize, most: usize, list: &mut [u16]) -> usize
     requires { from ≤ length line.now }
-    ensures { IsPrefixLen result list.new }
+    ensures { result ≤ length list.new }
 {
     let mut at = from;
     for n in 0..list.len() {

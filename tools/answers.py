@@ -280,7 +280,7 @@ class Turner:
             for b in both:
                 new = b + "'"
                 body = self.rebind(body, b, new)
-        body = re.sub(rf"(?<![\w.'-])({W})", lambda m: names.get(m[1], m[1]), body)
+        body = re.sub(rf"(?<![\w.'-])({W})(?! = )", lambda m: names.get(m[1], m[1]), body)
         return body, spec[0][1]
 
     def rebind(self, body, name, new):

@@ -1,4 +1,6 @@
 // The samples of a block, each shifted right by depth - 8, less 128.
+#![tactic(auto)]
+
 ghost use Rattle.std.specs.Prelude.{◌≡◌, true, ◌+◌, ◌*◌, ◌/◌, ◌^◌, ◌≤◌, ◌<◌, pos, ◌-ℤ◌, length};
 ghost use Rattle.cdef_spec.specs.Document01.{direction_input};
 ghost use Rattle.cdef_spec.specs.Questions.{cut_taken};

@@ -1,0 +1,76 @@
+-- `direction_levels::levels_inside` meets its contract.
+use mathlib.Core.Path.{◌≡◌, refl, sym}
+use Prim.Native.Nat.{◌+◌, ◌*◌, ◌/◌, ◌%◌, ◌<◌}
+use native.Mathlib.Omega.{arith}
+use lib.ListN.{length, get_or, length-set}
+use mir.Syntax.{w16}
+use mir.Val.{to_z, of_z}
+use Rattle.cdef_spec.specs.Document01.{edge_sample, direction_input}
+use Rattle.arith_sample.specs.Upto.{upto-none, upto-more, upto-at, upto_all}
+use Rattle.direction_levels.specs.Levels.{block_of}
+use Rattle.direction_levels.proofs.Places.{place-low, plane-low, inside_is, read_low, stored_is}
+use Rattle.direction_levels.proofs.levels_inside.Goals as goal
+use Rattle.direction_levels.proofs.levels_inside.Goals.{After-level, In-loop-i, In-loop-j}
+
+-- the index of an iteration
+place : (c : In-loop-j) → let a = c.args in (a.y + c.loop-i.i) * a.width + a.x + c.loop-j.j < length a.plane.now
+place c =
+    let a = c.args in
+    let h = c.requires.width_bound in
+    let i : a.y + c.loop-i.i < a.height = omega arith in
+    let j : a.x + c.loop-j.j < a.width = omega arith in
+    omega (arith, place-low a.width a.height (a.y + c.loop-i.i) (a.x + c.loop-j.j) i j, c.requires.plane_len)
+
+in-plane : (c : In-loop-i) → let a = c.args in (a.y + c.loop-i.i) * a.width + a.x < 4096 * 4096
+in-plane c =
+    let a = c.args in
+    let i : a.y + c.loop-i.i < a.height = omega arith in
+    let j : a.x < a.width = omega arith in
+    omega (arith, place-low a.width a.height (a.y + c.loop-i.i) a.x i j, plane-low a.width a.height c.requires.width_bound.0 c.requires.width_bound.1)
+
+-- what an iteration reads
+read : (c : In-loop-j) → let a = c.args in let i = c.loop-i.i in let j = c.loop-j.j in get_or a.plane.now ((a.y + i) * a.width + a.x + j) 0 ≡ edge_sample (record { samples = a.plane.now; width = a.width; height = a.height }) (a.y + i) (a.x + j)
+read c =
+    let a = c.args in
+    inside_is a.plane.now a.width a.height a.depth a.y a.x c.requires.width_bound.2 c.requires.width_bound.3 _ _ c.loop-i-test.true c.loop-j-test.true
+
+stored : (c : After-level) → let a = c.args in let i = c.loop-i.i in let j = c.loop-j.j in get_or a.plane.now ((a.y + i) * a.width + a.x + j) 0 ≡ edge_sample (record { samples = a.plane.now; width = a.width; height = a.height }) (a.y + i) (a.x + j) → to_z w16 (of_z w16 c.level.result) ≡ direction_input (record { samples = a.plane.now; width = a.width; height = a.height }) a.depth a.y a.x ((i * 8 + j) / 8) ((i * 8 + j) % 8)
+stored c e =
+    let a = c.args in
+    let h = c.requires.width_bound in
+    stored_is a.plane.now a.width a.height a.depth a.y a.x (omega arith) (omega arith) c.requires.x_value h.4 _ _ c.loop-i-test.true c.loop-j-test.true _ e c.level.ensures
+
+pub loop-i-init : goal.loop-i-init
+loop-i-init c = (sym (upto-none _), refl, omega arith)
+
+pub overflow_mul-at : goal.overflow_mul-at
+overflow_mul-at c = omega (arith, in-plane c)
+
+pub overflow_add-at-in-loop-i : goal.overflow_add-at-in-loop-i
+overflow_add-at-in-loop-i c = omega (arith, in-plane c)
+
+pub loop-j-init : goal.loop-j-init
+loop-j-init c = (upto-at _ _ _ _ (omega arith) c.loop-i.invariant.0, c.loop-i.invariant.1, omega arith)
+
+pub overflow_add-at-in-loop-j : goal.overflow_add-at-in-loop-j
+overflow_add-at-in-loop-j c = omega (arith, in-plane (goal.at.overflow_add-at-in-loop-j c).In-loop-i)
+
+pub offset_bounds-plane-at : goal.offset_bounds-plane-at
+offset_bounds-plane-at c = omega (arith, in-plane (goal.at.offset_bounds-plane-at c).In-loop-i)
+
+pub bounds-plane-at : goal.bounds-plane-at
+bounds-plane-at c = place (goal.at.bounds-plane-at c).In-loop-j
+
+pub level-requires : goal.level-requires
+level-requires c = let a = c.args in
+    let h = c.requires.width_bound in
+    (omega arith, read_low a.plane.now a.width a.height a.depth a.y a.x (omega arith) (omega arith) c.requires.x_value h.4 _ _ c.loop-i-test.true c.loop-j-test.true _ (read (goal.at.level-requires c).In-loop-j))
+
+pub loop-j-preserved : goal.loop-j-preserved
+loop-j-preserved c = (upto-at _ _ _ _ (omega arith) (upto-more _ _ _ _ c.loop-j.invariant.0 (omega arith) (stored c (read (goal.at.loop-j-preserved c).In-loop-j))), simp length-set c.loop-j.invariant.1, omega arith)
+
+pub loop-i-preserved : goal.loop-i-preserved
+loop-i-preserved c = (upto-at _ _ _ _ (omega arith) c.loop-j.invariant.0, c.loop-j.invariant.1, omega arith)
+
+pub returns : goal.returns
+returns c = unfold block_of in upto_all _ _ 64 _ c.loop-i.invariant.0 c.loop-i.invariant.1 (omega arith)

@@ -393,6 +393,8 @@ def turn(path, entry, fn, known, module):
             answers.append((note, new, unf, binders, body))
             continue
         answers.append(("", None, "", "", t.code(j)))
+    # std's wrapping operations name their clause
+    answers = [a[:-1] + (re.sub(r"\b(wrapping_\w+(?:-\w+)*\.ensures)(?![\w.])", r"\1.value", a[-1]),) for a in answers]
     uses = [u for u in uses if not re.search(r"\.(Statement\.\{statement\}|Tie as \S+|Reads as \S+|Lts as \S+)$", u)]
     folder = os.path.dirname(path)
     first = head[0] if head else f"-- `{fn}` meets its contract."

@@ -20,11 +20,13 @@ for turn in range(12):
     table = json.load(open(f"/tmp/on-{crate}-{os.getpid()}/names.json"))
     changed = 0
     edits = {}
-    for m in re.finditer(r"^\./(proofs/(\S+)/Answers\.antt):(\d+):(\d+): error: (?:.|\n)*?expected type `([\w'-]+)[^`]*`,? but this has type `(Rattle\.\S+\.Lts\.|steps\.|goal\.|)(View\.In-)?([\w'-]+)", said, re.M):
+    blocks = re.split(r"(?m)^(?=\S)", said)
+    for block in blocks:
+        m = re.match(r"\./(proofs/(\S+)/Answers\.antt):(\d+):(\d+): error: (?:.|\n)*?expected type `([\w'-]+)[^`]*`,?\s+but this has type `(Rattle\.\S+\.Lts\.|steps\.|goal\.|)(View\.In-)?([\w'-]+)", block)
+        if not m:
+            continue
         path, rel, line, col, want, view, has = m[1], m[2], int(m[3]), int(m[4]), m[5].removeprefix("Upto-"), bool(m[7]), m[8].removeprefix("Upto-")
         plain = m[5].startswith("Upto-")
-        if "error:" in m[0][m[0].index("error:") + 6 :].split("expected type")[0]:
-            continue
         e = table[f"Rattle-{crate}-proofs.{rel.replace('/', '.')}.Lts"]
         by = {p[0]: p for p in e["places"]}
         new = {p[0]: n for p, n in zip(e["places"], e["places_by_name"])}
@@ -47,6 +49,12 @@ for turn in range(12):
         if plain and view and n is not None:
             n += 1
         edits.setdefault(path, []).append((line, col, n, d))
+    for m in re.finditer(r"^\./(proofs/\S+/Answers\.antt):\d+:\d+: error: `Upto-[^`]*`: expected type `Type 0`, but this has type `steps\.the-Clauses", said, re.M):
+        full = os.path.join(folder, m[1])
+        text = open(full, encoding="utf-8").read()
+        new = re.sub(r"(= steps\.\S+ tie\.the-claims reads\.Pre reads\.Post)$", r"\1 tie.handed_clauses", text, flags=re.M)
+        changed += new != text
+        open(full, "w", encoding="utf-8").write(new)
     for path, es in edits.items():
         full = os.path.join(folder, path)
         lines = open(full, encoding="utf-8").read().split("\n")
@@ -57,6 +65,8 @@ for turn in range(12):
             if not mm:
                 continue
             tok = mm[0]
+            if not re.fullmatch(r"[\w'₀-₉-]+(?:\.before)*", tok):
+                continue
             if n:
                 new_tok = tok + ".before" * n
             elif d and tok.endswith(".before" * d):

@@ -1,7 +1,7 @@
 -- Laws of one sample without marks: it is the sample that the window's kernel gives.
-use Rattle.std.specs.Prelude.{◌≡◌, ℕ, ◌+◌, ◌*◌, ◌<◌, ◌≤◌, min, max, List, ℤ, pos, ◌+ℤ◌, ◌*ℤ◌, ◌≢◌, slice_index, unsigned_abs}
-use Rattle.std.proofs.Common.{◌∙◌, mul-le-mul, arith}
-use Rattle.arith_sample.specs.Sample.{or_centre, con_of, finish_of}
+use Rattle.std.specs.Prelude.{◌≡◌, ℕ, ◌*◌, ◌≤◌, min, max, List, ℤ, pos, ◌+ℤ◌, ◌*ℤ◌, ◌≢◌, slice_index, unsigned_abs}
+use Rattle.std.proofs.Common.{mul-le-mul, arith}
+use Rattle.arith_sample.specs.Sample.{con_of}
 use Rattle.arith_sample.specs.SampleLaws.{size-con, centre-tap}
 use Rattle.filter_rows.specs.Place.{on_from, back_from, tap_on, tap_back}
 use Rattle.cdef_spec.specs.SignedLaws.{size-add, size_scale}

@@ -1,4 +1,6 @@
 // The best of the eight directions, by their costs.
+#![tactic(auto)]
+
 ghost use Rattle.std.specs.Prelude.{◌≡◌};
 ghost use Rattle.direction_best.specs.Best.{best_of};
 

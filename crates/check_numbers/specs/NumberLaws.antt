@@ -1,5 +1,5 @@
 -- Where the checks of a call on single numbers pass, its numbers are in range.
-use Rattle.std.specs.Prelude.{◌≡◌, [], ◌∷◌, ℕ, ◌≤◌, leb, ℤ, nat_abs}
+use Rattle.std.specs.Prelude.{◌≡◌, ℕ, ◌≤◌, leb, ℤ, nat_abs}
 use Rattle.std.proofs.Common.{arith, leb-true}
 use Rattle.cdef_spec.specs.declared.SignalledDamping.{SignalledDamping}
 use Rattle.cdef_spec.specs.declared.WorkingDamping.{WorkingDamping}

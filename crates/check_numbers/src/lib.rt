@@ -1,4 +1,6 @@
 // The checks of the calls on single numbers, in order: each returns the error code of the first that fails, or 0. No function here requires anything.
+#![tactic(auto)]
+
 ghost use Rattle.std.specs.Prelude.{◌≡◌};
 ghost use Rattle.cdef_spec.specs.BlockCalls.{constrain_no, adjust_no, damping_no, working_damping_no};
 

@@ -58,6 +58,7 @@ pub fn difference_taken(difference: i32) -> bool
 }
 
 // 8: a secondary strength, 0, 1, 2 or 4.
+#[tactic(auto, unfolding(cdef_spec::specs::Questions::secondary_taken))]
 pub fn secondary_taken(n: u8) -> bool
     ensures { result ≡ secondary_taken n }
 {

@@ -332,6 +332,17 @@ class Turner:
         return body[:a] + "record { " + "; ".join(f"{n} = {p}" for n, p in zip(names, parts)) + " }" + body[b:]
 
 
+def handed(path, name):
+    """What the module Goals hands the record of a step, in an answer's words."""
+    if not os.path.exists(path):
+        out = path.split("/Rattle-")[0]
+        subprocess.run(["rt", "check", "--generated", out], cwd=f"crates/{sys.argv[1]}", stdout=subprocess.DEVNULL, stderr=subprocess.DEVNULL)
+    goals = open(path, encoding="utf-8").read() if os.path.exists(path) else ""
+    m = re.search(rf"\n{re.escape(name.removeprefix('Upto-'))} =\s+View\.In-\S+((?:\s+[\w.'-]+)*)\n\n", goals)
+    words = m[1].split() if m else ["Tie.the-claims", "Reads.Pre", "Reads.Post"]
+    return " ".join(w.replace("Tie.", "tie.").replace("Reads.", "reads.") if "." in w else "goal." + w for w in words)
+
+
 def turn(path, entry, fn, known, module):
     text = open(path, encoding="utf-8").read()
     text = re.sub(rf"cdef_spec\.specs\.({MOVED})\b", r"cdef_spec.proofs.\1", text)
@@ -415,7 +426,7 @@ def turn(path, entry, fn, known, module):
         print(f"look: {fn}: an invariant is named in an answer")
     with open(os.path.join(folder, "Answers.antt"), "w", encoding="utf-8") as f:
         steps = [f"use {module}.Lts as steps", f"use {module}.Tie as tie", f"use {module}.Reads as reads"] if t.used_plain else []
-        plain = "".join(f"\nabbrev {n} : Type 0\n{n} = steps.{o} tie.the-claims reads.Pre reads.Post\n" for n, o in sorted(t.used_plain.items()))
+        plain = "".join(f"\nabbrev {n} : Type 0\n{n} = steps.{o} HANDED-{n}\n" for n, o in sorted(t.used_plain.items()))
         f.write("\n".join(head + uses + [f"use {module}.Goals as goal"] + ([places] if places else []) + steps + invuse) + "\n" + plain + "".join(own))
     os.remove(path)
 
@@ -427,6 +438,7 @@ def main():
     out = f"/tmp/old-names-{crate}-{os.getpid()}"
     subprocess.run(["rt", "check", "--generated", out, "--old-names"], cwd=f"crates/{crate}", stdout=subprocess.DEVNULL, stderr=subprocess.DEVNULL)
     names = json.load(open(os.path.join(out, "names.json"), encoding="utf-8"))
+    plain = []
     for folder, dirs, files in sorted(os.walk(f"crates/{crate}/proofs")):
         if "Proof.antt" not in files:
             continue
@@ -442,7 +454,14 @@ def main():
             print(f"left: {path}: no names for {key}")
             continue
         fn = "::".join([crate] + rel.split("/"))
+        answers = os.path.join(folder, "Answers.antt")
         turn(path, names[key], fn, known, f"Rattle.{crate}.proofs.{rel.replace('/', '.')}")
+        if "HANDED-" in open(answers, encoding="utf-8").read():
+            plain.append((answers, f"{out}-goals/Rattle-{crate}-proofs/{rel}/Goals.antt"))
+    for answers, goals in plain:
+        text = open(answers, encoding="utf-8").read()
+        text = re.sub(r"HANDED-(\S+)", lambda m: handed(goals, m[1]), text)
+        open(answers, "w", encoding="utf-8").write(text)
 
 
 main()

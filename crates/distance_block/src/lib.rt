@@ -1,4 +1,6 @@
 // The distance of two 8 by 8 blocks: plain squares, that is the sum of squared differences (SSE), and the weighted distance.
+#![tactic(auto)]
+
 ghost use Rattle.std.specs.Prelude.{◌≡◌, true, ℕ, ◌+◌, ◌*◌, ◌^◌, ◌≤◌, ◌<◌, length, replicate};
 ghost use Rattle.cdef_spec.specs.Questions.{cut_taken};
 ghost use Rattle.cdef_spec.specs.Distance.{constants_of, spread};

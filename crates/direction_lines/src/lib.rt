@@ -1,4 +1,6 @@
 // Line sums: the rows of a block are padded with zeros, and each line is the sum of eight shifted rows.
+#![tactic(auto)]
+
 ghost use Rattle.std.specs.Prelude.{◌≡◌, ◌+◌, ◌*◌, ◌≤◌, ◌<◌};
 ghost use Rattle.arith_sample.specs.Bounds.{Within};
 ghost use Rattle.direction_lines.specs.Lines.{turned_of, pad_at, padded_of, pair_at, line_at, lines_of};

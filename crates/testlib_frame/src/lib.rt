@@ -1,4 +1,6 @@
 // Frames of AV1 streams before and after CDEF, out of files. Their layout is in crates/test_frames/data/README.md.
+#![tactic(auto)]
+
 pub mod lists; // lists.rt: skip flags, and the pairs of units
 pub mod planes; // planes.rt: samples
 

@@ -1,6 +1,5 @@
 // The lists of a file.
 ghost use Rattle.std.specs.Prelude.{◌≤◌, ◌<◌, ◌≡◌, length};
-ghost use Rattle.io.specs.Counts.{IsPrefixLen};
 
 // Which list: a skip flag per block; per unit a primary or a secondary strength, of luma or of chroma.
 pub const SKIPS: u32 = 0;
@@ -57,7 +56,7 @@ fn count(file: &[u8], what: u32) -> usize
 
 // How many elements a list of a variance per block has, as far as that is long.
 pub fn variances(file: &[u8], list: &[u32]) -> usize
-    ensures { IsPrefixLen result list.now }
+    ensures { result ≤ length list.now }
 {
     let n = crate::blocks(file);
     if n < list.len() {
@@ -69,7 +68,7 @@ pub fn variances(file: &[u8], list: &[u32]) -> usize
 // Fills a list, as far as that is long. Returns how many elements it has.
 pub fn fill(file: &[u8], what: u32, sets: usize, list: &mut [u8]) -> usize
     requires { sets ≤ 80 }
-    ensures { IsPrefixLen result list.new }
+    ensures { result ≤ length list.new }
 {
     let n = count(file, what);
     for k in 0..list.len() {

@@ -1,6 +1,5 @@
 // The samples of a file: planes 0 to 2 are Y, U and V before CDEF, 3 to 5 those after it; of a monochrome frame U and V are empty.
 ghost use Rattle.std.specs.Prelude.{◌+◌, ◌≤◌, ◌<◌, ◌≡◌, length};
-ghost use Rattle.io.specs.Counts.{IsPrefixLen};
 
 // Room for a plane. The contract gives only the length, which borrowing an array as a slice needs.
 pub fn space() -> [u16; 307_200]
@@ -91,7 +90,7 @@ fn sample(file: &[u8], at: usize, k: usize) -> usize
 
 // Reads a plane into a list, as far as that is long. Returns how many samples it put there.
 pub fn read(file: &[u8], plane: u32, list: &mut [u16]) -> usize
-    ensures { IsPrefixLen result list.new }
+    ensures { result ≤ length list.new }
 {
     let at = place(file, plane);
     let n = samples(file, plane);

@@ -1,4 +1,6 @@
 // Questions 8 and 9 of whole lists, each test with its definition's name.
+#![tactic(auto)]
+
 ghost use Rattle.std.specs.Prelude.{◌≡◌, ◌^◌, ◌≤◌};
 ghost use Rattle.cdef_spec.specs.Questions.{all_below, all_taken, primary_taken, secondary_taken};
 

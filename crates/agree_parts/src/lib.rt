@@ -1,4 +1,6 @@
 // What is done between trying, applying and measuring: the test that each pair is one of the twelve, and the copy of the snapshot.
+#![tactic(auto)]
+
 ghost use Rattle.std.specs.Prelude.{◌≡◌, ◌&&◌, get_or};
 ghost use Rattle.cdef_spec.specs.FrameCalls.{pairs_of};
 ghost use Rattle.agree_parts.specs.Parts.{trial_pairs, copied};

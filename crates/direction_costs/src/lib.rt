@@ -1,5 +1,7 @@
 // The cost of a direction from its line sums. No cost exceeds 880,803,840 = 840 * 64 * 128 * 128: the sum of a line of n samples, each at most 128 in size,
 // is at most 128 * n, so that its square times 840 / n is at most 840 * 128 * 128 * n, and the lines of a direction have 64 samples.
+#![tactic(auto)]
+
 ghost use Rattle.std.specs.Prelude.{◌≡◌, ◌+◌, ◌*◌, ◌≤◌, ◌<◌};
 ghost use Rattle.cdef_spec.specs.Standard.{square, div_by, cost_straight, cost_diagonal, cost_between};
 ghost use Rattle.direction_costs.specs.Costs.{entry};

@@ -1,0 +1,42 @@
+-- `direction_costs::cost_between` meets its contract.
+use mathlib.Core.Path.{sym}
+use native.Mathlib.Omega.{arith}
+use Rattle.direction_costs.specs.Costs.{entry}
+use Rattle.direction_costs.specs.CostsLaws.{between_is}
+use Rattle.direction_costs.proofs.cost_between.Goals as goal
+
+pub two-requires : goal.two-requires
+two-requires c = (omega arith, omega arith, omega arith, omega arith, omega (arith, between_is (entry c.args.l.now), c.requires))
+
+pub two-requires-2 : goal.two-requires-2
+two-requires-2 c = (omega arith, omega arith, omega arith, omega arith, omega (arith, between_is (entry c.args.l.now), c.requires))
+
+pub overflow_add-result : goal.overflow_add-result
+overflow_add-result c = record { fits = omega (arith, between_is (entry c.args.l.now), c.requires, c.two.ensures, c.two-2.ensures) }
+
+pub two-requires-3 : goal.two-requires-3
+two-requires-3 c = (omega arith, omega arith, omega arith, omega arith, omega (arith, between_is (entry c.args.l.now), c.requires))
+
+pub overflow_add-result-2 : goal.overflow_add-result-2
+overflow_add-result-2 c = record { fits = omega (arith, between_is (entry c.args.l.now), c.requires, c.two.ensures, c.two-2.ensures, c.two-3.ensures) }
+
+pub two-requires-4 : goal.two-requires-4
+two-requires-4 c = (omega arith, omega arith, omega arith, omega arith, omega (arith, between_is (entry c.args.l.now), c.requires))
+
+pub overflow_add-result-3 : goal.overflow_add-result-3
+overflow_add-result-3 c = record { fits = omega (arith, between_is (entry c.args.l.now), c.requires, c.two.ensures, c.two-2.ensures, c.two-3.ensures, c.two-4.ensures) }
+
+pub two-requires-5 : goal.two-requires-5
+two-requires-5 c = (omega arith, omega arith, omega arith, omega arith, omega (arith, between_is (entry c.args.l.now), c.requires))
+
+pub overflow_add-result-4 : goal.overflow_add-result-4
+overflow_add-result-4 c = record { fits = omega (arith, between_is (entry c.args.l.now), c.requires, c.two.ensures, c.two-2.ensures, c.two-3.ensures, c.two-4.ensures, c.two-5.ensures) }
+
+pub one-requires : goal.one-requires
+one-requires c = (omega arith, omega arith, omega arith, omega (arith, between_is (entry c.args.l.now), c.requires))
+
+pub overflow_add-result-5 : goal.overflow_add-result-5
+overflow_add-result-5 c = record { fits = omega (arith, between_is (entry c.args.l.now), c.requires, c.two.ensures, c.two-2.ensures, c.two-3.ensures, c.two-4.ensures, c.two-5.ensures, c.one.ensures) }
+
+pub returns : goal.returns
+returns c = rw (c.two.ensures, c.two-2.ensures, c.two-3.ensures, c.two-4.ensures, c.two-5.ensures, c.one.ensures) (sym (between_is (entry c.args.l.now)))

@@ -1,4 +1,6 @@
 // The 12 by 12 samples around a block: those examined, and 16384 elsewhere.
+#![tactic(auto)]
+
 ghost use Rattle.std.specs.Prelude.{◌≡◌, true, ◌+◌, ◌*◌, ◌≤◌, ◌<◌};
 ghost use Rattle.arith_sample.specs.Upto.{upto};
 ghost use Rattle.filter_window.specs.Window.{plane_of, window_at};
@@ -84,8 +86,31 @@ fn window_inside(src: &[u16], w: usize, h: usize, b: Block) -> [u16; 144]
     out
 }
 
-// Whether a block is four or eight wide and lies two samples or more inside the plane.
+// Whether an 8 by 8 block lies two samples or more inside the plane.
 fn inside(w: usize, h: usize, b: Block) -> bool
+    requires { (b.x ≤ 4096) × (b.y ≤ 4096) }
+    ensures { result ≡ true → (b.width ≡ 8) × (b.height ≡ 8) × (2 ≤ b.x) × (2 ≤ b.y) × (b.x + 10 ≤ w) × (b.y + 10 ≤ h) }
+{
+    if b.width != 8 {
+        return false;
+    }
+    if b.height != 8 {
+        return false;
+    }
+    if b.x < 2 {
+        return false;
+    }
+    if b.y < 2 {
+        return false;
+    }
+    if w < b.x + 10 {
+        return false;
+    }
+    b.y + 10 <= h
+}
+
+// Whether a block is four or eight wide and lies two samples or more inside the plane.
+fn lies_inside(w: usize, h: usize, b: Block) -> bool
     requires { (b.x ≤ 4096) × (b.y ≤ 4096) × (b.width ≤ 8) × (b.height ≤ 8) }
     ensures { result ≡ true → Inside w h b }
 {
@@ -112,7 +137,7 @@ pub fn window(src: &[u16], w: usize, h: usize, b: Block) -> [u16; 144]
     requires { InPlane src.now w h b }
     ensures { result ≡ upto (window_at (plane_of src.now w h) b) 144 }
 {
-    if inside(w, h, b) {
+    if lies_inside(w, h, b) {
         return window_inside(src, w, h, b);
     }
     window_part(src, w, h, b)

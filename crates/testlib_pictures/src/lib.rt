@@ -1,5 +1,7 @@
 // Synthetic pictures of 72 by 136, 9 by 17 blocks and 2 by 3 units, of which 70 by 131 is visible, and what is printed of one.
 // Pictures 0 and 1 are luma, 2 to 6 chroma; 7 is luma and 8 chroma with the grain and the pairs of picture 1.
+#![tactic(auto)]
+
 pub mod lists; // lists.rt: skip flags, directions and pairs
 pub mod picture; // picture.rt: samples
 pub mod report; // report.rt: what is printed

@@ -1,4 +1,6 @@
 // The direction of an 8 by 8 block and its variance: line sums, costs, the best of them.
+#![tactic(auto)]
+
 ghost use Rattle.std.specs.Prelude.{◌≡◌, true, ◌*◌, ◌≤◌, ◌<◌, length};
 ghost use Rattle.cdef_spec.specs.Document01.{direction_input, block_direction, block_variance};
 ghost use Rattle.cdef_spec.specs.Questions.{cut_taken};

@@ -1,4 +1,6 @@
 // The signalled damping of a quality index and of a frame call, and the working damping by the luma and the chroma rule.
+#![tactic(auto)]
+
 ghost use Rattle.std.specs.Prelude.{◌≡◌, ◌≤◌};
 ghost use Rattle.cdef_spec.specs.Document01.{quality_damping, in_force, luma_damping, chroma_damping};
 ghost use Rattle.arith_damping.specs.Choice.{choice_of};

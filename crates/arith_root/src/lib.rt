@@ -1,4 +1,6 @@
 // The square root of an f64, computed in whole numbers, and the truncation of an f64 to a whole number.
+#![tactic(auto)]
+
 ghost use Rattle.std.specs.Prelude.{◌≡◌, ◌+◌, ◌*◌, ◌^◌, ◌<◌, ◌≤◌, T};
 ghost use Rattle.std.specs.Float.Ieee as Ieee;
 ghost use Rattle.cdef_spec.specs.Root.{root_of, IsNearestRoot};

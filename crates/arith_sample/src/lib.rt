@@ -1,4 +1,6 @@
 // One sample of the filter: its taps unsigned, their sums 16-bit signed numbers.
+#![tactic(auto)]
+
 ghost use Rattle.std.specs.Prelude.{◌≡◌, ℕ, ◌+◌, ◌-◌, ◌*◌, ◌≤◌, ◌<◌, min, max, nat_abs, pos, ◌+ℤ◌, ◌-ℤ◌, ◌*ℤ◌};
 ghost use Rattle.std.specs.Int.Signed.{mag};
 ghost use Rattle.arith_sample.specs.Sample.{con_of, held_of, moved_of, over_of, under_of, finish_of, free_of};

@@ -1,4 +1,6 @@
 // The arithmetic of strengths: the base 2 logarithm, constrained differences, the adjusted primary strength. Nothing is validated here.
+#![tactic(auto)]
+
 ghost use Rattle.std.specs.Prelude.{◌≡◌, ◌≤◌, nat_abs};
 ghost use Rattle.cdef_spec.specs.Standard.{floor_log2, adjust_pri, constrain};
 ghost use Rattle.cdef_spec.specs.CodeForm.{constrain_mag};

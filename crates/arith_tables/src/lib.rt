@@ -1,4 +1,6 @@
 // The standard's tables, each as a function (a constant array would be built anew at each use); the divisors of the direction cost, computed.
+#![tactic(auto)]
+
 ghost use Rattle.std.specs.Prelude.{◌≡◌, ◌/◌, ◌≤◌, ◌<◌};
 ghost use Rattle.cdef_spec.specs.Standard.{chroma_direction};
 

@@ -1,4 +1,6 @@
 // Unit totals as the frame loops build them up: set to zero, and a distance or twelve added; their steps and bounds are laws.
+#![tactic(auto)]
+
 ghost use Rattle.std.specs.Prelude.{◌≡◌, List, ℕ, ◌+◌, ◌^◌, ◌≤◌, ◌<◌, pos, get_or, length, replicate};
 ghost use Rattle.cdef_spec.specs.LoopForm.{signed, add_at, add_turns};
 ghost use Rattle.arith_totals.specs.Small.{Small};

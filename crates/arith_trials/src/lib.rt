@@ -1,4 +1,6 @@
 // The twelve pairs that are tried: the pair of a trial number, and the trial number of a pair.
+#![tactic(auto)]
+
 ghost use Rattle.std.specs.Prelude.{◌≡◌, cond, ◌<◌};
 ghost use Rattle.cdef_spec.specs.Document01.{trial_pair, is_trial_pair, trial_number};
 

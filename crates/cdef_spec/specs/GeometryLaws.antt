@@ -1,9 +1,9 @@
 -- Laws of the geometry: blocks tile the plane, an index has a row and a column, a block has a unit.
-use Rattle.std.specs.Prelude.{◌≡◌, refl, Bool, true, false, cond, not, ◌&&◌, ◌||◌, List, [], ◌∷◌, ℕ, zero, suc, ◌+◌, ◌-◌, ◌*◌, ◌/◌, ◌%◌, ◌^◌, ◌≤◌, ◌<◌, min, max, ltb, leb, eqb, get_or, length}
-use Rattle.std.proofs.Common.{sym, ap, ◌∙◌, mul_comm, zero-mul, mod-lt, div-lt_iff_lt-mul, arith, ltb-true, eqb-true, lit≤}
+use Rattle.std.specs.Prelude.{◌≡◌, true, ℕ, zero, suc, ◌+◌, ◌*◌, ◌/◌, ◌%◌, ◌<◌, eqb}
+use Rattle.std.proofs.Common.{◌∙◌, mul_comm, zero-mul, mod-lt, div-lt_iff_lt-mul, arith, ltb-true, eqb-true, lit≤}
 use Rattle.std.proofs.Math.Arith.{digits_lt, digits_div, digits_mod}
-use Rattle.cdef_spec.specs.Words.{◌>>◌, table}
-use Rattle.cdef_spec.specs.WordsLaws.{length-table, get_or-table, and_both}
+use Rattle.cdef_spec.specs.Words.{◌>>◌}
+use Rattle.cdef_spec.specs.WordsLaws.{get_or-table, and_both}
 use Rattle.cdef_spec.specs.Picture.{PlaneKind, luma, chroma, Picture, sub_x, sub_y, plane_width, plane_height, block_width, block_height, block_cols, block_rows, unit_cols, unit_rows, units, unit_at, at_place, plane_from}
 use Rattle.cdef_spec.specs.Questions.{side_taken, luma_side_taken, flags_taken}
 

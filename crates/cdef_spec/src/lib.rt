@@ -1,4 +1,5 @@
 // The plain data that the calls take and return. No code.
+#![tactic(auto)]
 
 // The damping as the frame header carries it, 3 to 6.
 #[derive(Clone, Copy)]

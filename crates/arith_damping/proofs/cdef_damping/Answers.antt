@@ -1,6 +1,5 @@
 -- `arith_damping::cdef_damping` meets its contract.
 use mathlib.Core.Path.{◌≡◌}
-use mathlib.Core.Logic.{⊎_elim}
 use native.Mathlib.Omega.{arith}
 use Prim.Native.Nat.{◌/◌, min}
 use Rattle.cdef_spec.specs.Document01.{quality_damping}

@@ -1,6 +1,6 @@
 -- `arith_numbers::difference` meets its contract.
 use mathlib.Core.Path.{◌≡◌}
-use Prim.Native.Nat.{ℕ, ◌≤◌, ◌<◌}
+use Prim.Native.Nat.{◌<◌}
 use native.Mathlib.Omega.{arith}
 use lib.IntN.{pos, nat_abs, ◌-ℤ◌}
 use mir.Syntax.{w16}

@@ -1,5 +1,4 @@
 -- `arith_root::first_guess` meets its contract.
-use mathlib.Core.Logic.{⊎_elim}
 use Prim.Native.Nat.{◌*◌, ◌^◌, ◌≤◌, ◌<◌}
 use native.Mathlib.Omega.{arith}
 use borrow.Author.Rules.{rules}

@@ -1,7 +1,6 @@
 -- `arith_root::root` meets its contract.
 use borrow.Author.Rules.{rules}
 use mathlib.Core.Path.{◌≡◌, sym, ap, subst}
-use mathlib.Core.Logic.{⊎_elim}
 use Prim.Native.Nat.{ℕ, ◌+◌, ◌-◌, ◌*◌, ◌/◌, ◌^◌, ◌≤◌, ◌<◌}
 use native.Mathlib.Omega.{arith}
 use lib.Dec.{T}
@@ -60,7 +59,7 @@ pub overflow_add-result-2 : goal.overflow_add-result-2
 overflow_add-result-2 c = omega (arith, known c)
 
 pub float_from_bits-result : goal.float_from_bits-result
-float_from_bits-result c =     let b = B c.before in
+float_from_bits-result c = let b = B c.before in
     let n = c.wide_root-n.result in
     let p = (b / 2 ^ 52 + 1023) / 2 * 2 ^ 52 + (n - 2 ^ 52) in
     let k = known c in
@@ -72,5 +71,5 @@ unfolding root_of
 is-root c = ap (of_bits binary64) (found (B c.before) c.before.if-field-eq0.h c.wide_root-n.result (moved c.before) c.wide_root-n.ensures)
 
 pub returns : goal.returns
-returns c =     let s = c.before.before in
+returns c = let s = c.before.before in
     (is-root c, subst (λ (z : Float). IsNearestRoot s.args.v z) (sym (is-root c)) (root-nearest s.args.v (fits-so s) s.requires))

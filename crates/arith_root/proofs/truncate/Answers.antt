@@ -48,13 +48,13 @@ pub overflow_shr-result : goal.overflow_shr-result
 overflow_shr-result c = search rules
 
 pub returns-then-field-lt1023 : goal.returns-then-field-lt1023
-returns-then-field-lt1023 c =     let s = c.before in
+returns-then-field-lt1023 c = let s = c.before in
     let k = known s in
     let e = none (B s) k.low (omega (arith, c.if-field-lt1023.true)) in
     sym (truncated-value s.args.x (units_of (B s)) (2 ^ 1074) (pow_pos 1074) k.value (lt_of_le_of_lt (le_of_eq e) (lit< tt)) ∙ e)
 
 pub returns : goal.returns
-returns c =     let s = c.before in
+returns c = let s = c.before in
     let k = known s in
     let b = B s in
     let e = some b k.low (omega arith) in

@@ -1,8 +1,6 @@
 -- `arith_root::whole_root` meets its contract.
 use mathlib.Core.Path.{sym, ◌∙◌}
-use Prim.Native.Nat.{ℕ, ◌+◌, ◌*◌, ◌/◌, ◌^◌, ◌≤◌, ◌<◌}
 use native.Mathlib.Omega.{arith}
-use Rattle.arith_root.specs.RootWords.{guesses_left}
 use Rattle.arith_root.specs.NewtonLaws.{root-so, quotient-low, next-range, next-less}
 use Rattle.arith_root.proofs.whole_root.Goals as goal
 

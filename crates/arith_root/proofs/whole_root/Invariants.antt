@@ -1,5 +1,5 @@
 -- `arith_root::whole_root` meets its contract.
-use Prim.Native.Nat.{ℕ, ◌+◌, ◌*◌, ◌/◌, ◌^◌, ◌≤◌, ◌<◌}
+use Prim.Native.Nat.{◌^◌, ◌≤◌}
 use Rattle.arith_root.specs.RootWords.{guesses_left}
 use Rattle.arith_root.proofs.whole_root.Given as goal
 

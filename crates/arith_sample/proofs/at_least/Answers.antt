@@ -1,5 +1,5 @@
 -- `arith_sample::at_least` meets its contract.
-use mathlib.Core.Path.{◌≡◌, sym, ap, ◌∙◌}
+use mathlib.Core.Path.{sym, ◌∙◌}
 use Rattle.arith_sample.specs.SampleLaws.{over-lo, over-in}
 use Rattle.arith_sample.proofs.Sums16.{back, back-nat}
 use borrow.Author.Rules.{rules}

@@ -1,5 +1,5 @@
 -- `arith_sample::at_most` meets its contract.
-use mathlib.Core.Path.{◌≡◌, sym, ap, ◌∙◌}
+use mathlib.Core.Path.{sym, ◌∙◌}
 use Rattle.arith_sample.specs.SampleLaws.{under-hi, under-in}
 use Rattle.arith_sample.proofs.Sums16.{back, back-nat}
 use borrow.Author.Rules.{rules}

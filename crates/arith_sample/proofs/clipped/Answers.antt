@@ -1,12 +1,11 @@
 -- `arith_sample::clipped` meets its contract.
-use mathlib.Core.Path.{◌≡◌, refl, sym, ap, ◌∙◌}
+use mathlib.Core.Path.{◌≡◌, sym, ap, ◌∙◌}
 use Prim.Native.Nat.{ℕ, ◌≤◌, min}
 use native.Mathlib.Omega.{arith}
-use lib.IntN.{ℤ, pos, nat_abs}
-use lib.Signed.{mag, non_neg}
-use lib.Dec.{T}
+use lib.IntN.{pos, nat_abs}
+use lib.Signed.{mag}
 use mir.Syntax.{w16}
-use mir.Val.{to_z, of_z, Fits}
+use mir.Val.{to_z, of_z}
 use Rattle.arith_sample.specs.Sample.{moved_of, over_of}
 use Rattle.arith_sample.specs.SampleLaws.{held-nat}
 use Rattle.arith_sample.proofs.Sums16.{back, size-moved, size-over}

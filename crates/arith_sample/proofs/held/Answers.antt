@@ -1,12 +1,11 @@
 -- `arith_sample::held` meets its contract.
-use mathlib.Core.Bool.{Bool, true, false, cond}
-use Prim.Native.Nat.{ℕ, ◌≤◌}
+use mathlib.Core.Bool.{true, false}
+use Prim.Native.Nat.{ℕ}
 use lib.IntN.{neg_ℤ}
 use lib.Signed.{lt_z}
 use Rattle.arith_sample.specs.HeldLaws.{size-under}
-use mathlib.Core.Path.{◌≡◌, sym, ap, ◌∙◌}
-use native.Mathlib.Omega.{arith}
-use lib.IntN.{ℤ, pos, nat_abs}
+use mathlib.Core.Path.{◌≡◌, ◌∙◌}
+use lib.IntN.{ℤ, pos}
 use mir.Syntax.{w16}
 use mir.Val.{to_z, of_z}
 use Rattle.arith_sample.specs.Sample.{under_of}

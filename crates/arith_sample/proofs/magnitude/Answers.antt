@@ -1,11 +1,10 @@
 -- `arith_sample::magnitude` meets its contract.
 use Rattle.cdef_spec.specs.SignedLaws.{size-neg}
-use mathlib.Core.Bool.{true, false}
-use lib.Signed.{non_neg, lt_z}
+use lib.Signed.{non_neg}
 use lib.IntN.{neg_ℤ}
 use lib.Dec.{T}
-use mathlib.Core.Path.{◌≡◌, sym, ap, ◌∙◌}
-use Prim.Native.Nat.{ℕ, suc, ◌≤◌}
+use mathlib.Core.Path.{◌≡◌, ap}
+use Prim.Native.Nat.{ℕ, ◌≤◌}
 use native.Mathlib.Omega.{arith}
 use lib.IntN.{ℤ, pos, negsuc, nat_abs}
 use lib.Signed.{mag}
@@ -13,7 +12,6 @@ use mir.Syntax.{w16}
 use mir.Val.{Fits}
 use Rattle.cdef_spec.specs.SignedLaws.{minus-fits, minus-back, is-neg, is_pos}
 use Rattle.arith_sample.proofs.Sums16.{fits, back}
-use borrow.Author.Rules.{rules}
 use Rattle.arith_sample.proofs.magnitude.Goals as goal
 use Rattle.arith_sample.proofs.magnitude.Goals.{Else-d-lt0, Then-d-lt0}
 

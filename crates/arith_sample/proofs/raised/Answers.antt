@@ -1,8 +1,8 @@
 -- `arith_sample::raised` meets its contract.
-use mathlib.Core.Path.{◌≡◌, sym, ap, ◌∙◌}
+use mathlib.Core.Path.{◌≡◌, ap, ◌∙◌}
 use Prim.Native.Nat.{ℕ, ◌≤◌}
 use native.Mathlib.Omega.{arith}
-use lib.IntN.{ℤ, pos, nat_abs}
+use lib.IntN.{pos, nat_abs}
 use lib.Signed.{mag}
 use mir.Syntax.{w16}
 use mir.Val.{to_z, of_z}

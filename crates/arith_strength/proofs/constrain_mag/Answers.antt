@@ -1,7 +1,6 @@
 -- `arith_strength::constrain_mag` meets its contract.
 use borrow.Author.Rules.{rules}
 use mathlib.Core.Path.{◌≡◌, sym, ◌∙◌}
-use mathlib.Core.Logic.{⊎_elim}
 use native.Mathlib.Omega.{arith}
 use Prim.Native.Nat.{ℕ, ◌-◌, ◌/◌, ◌^◌, min}
 use Rattle.cdef_spec.specs.Standard.{floor_log2}

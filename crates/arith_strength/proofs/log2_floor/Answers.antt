@@ -18,7 +18,7 @@ pub returns-then-v-eq0 : goal.returns-then-v-eq0
 returns-then-v-eq0 c = rw c.if-v-eq0.true (sym floor_log2-zero)
 
 pub overflow_sub-result : goal.overflow_sub-result
-overflow_sub-result c =     let t = leading_top 32 c.before.args.v (omega (arith, c.if-v-eq0.false)) c.before.ranges.v.fits in
+overflow_sub-result c = let t = leading_top 32 c.before.args.v (omega (arith, c.if-v-eq0.false)) c.before.ranges.v.fits in
     omega (arith, t.1)
 
 pub returns : goal.returns

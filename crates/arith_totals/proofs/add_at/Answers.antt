@@ -1,6 +1,5 @@
 -- `arith_totals::add_at` meets its contract.
 use mathlib.Core.Path.{sym, ◌∙◌}
-use native.Mathlib.Omega.{arith}
 use borrow.Author.Rules.{rules}
 use Rattle.arith_totals.specs.AddLaws.{small-once, add-fits, add_is}
 use borrow.Author.Rules.{rules}

@@ -1,7 +1,7 @@
 -- `arith_totals::add_twelve` meets its contract.
-use mathlib.Core.Path.{◌≡◌, ◌∙◌}
-use Prim.Native.Nat.{ℕ, ◌+◌, ◌-◌, ◌*◌, ◌^◌, ◌≤◌, ◌<◌}
-use lib.ListN.{get_or, length, set}
+use mathlib.Core.Path.{◌≡◌}
+use Prim.Native.Nat.{ℕ, ◌-◌, ◌≤◌}
+use lib.ListN.{get_or}
 use Rattle.cdef_spec.specs.LoopForm.{signed, add_turns}
 use Rattle.arith_totals.specs.Turns.{plain_of}
 use Rattle.arith_totals.proofs.add_twelve.Given as goal

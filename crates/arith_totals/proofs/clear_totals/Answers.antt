@@ -1,10 +1,8 @@
 -- `arith_totals::clear_totals` meets its contract.
 use mathlib.Core.Path.{◌≡◌, refl}
-use Prim.Native.Nat.{ℕ, ◌-◌, ◌≤◌, ◌<◌}
 use native.Mathlib.Omega.{arith}
-use borrow.Author.Rules.{rules}
 use lib.IntN.{pos}
-use lib.ListN.{get_or, length, length-set}
+use lib.ListN.{length, length-set}
 use Rattle.arith_totals.specs.ZeroLaws.{zero_more, zero-all}
 use Rattle.arith_totals.proofs.clear_totals.Goals as goal
 

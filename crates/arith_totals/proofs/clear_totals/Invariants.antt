@@ -1,8 +1,8 @@
 -- `arith_totals::clear_totals` meets its contract.
-use mathlib.Core.Path.{◌≡◌, refl}
+use mathlib.Core.Path.{◌≡◌}
 use Prim.Native.Nat.{ℕ, ◌-◌, ◌≤◌, ◌<◌}
 use lib.IntN.{pos}
-use lib.ListN.{get_or, length, length-set}
+use lib.ListN.{get_or, length}
 use Rattle.arith_totals.proofs.clear_totals.Given as goal
 
 abbrev pub invariant-loop-k : goal.invariant-loop-k

@@ -1,8 +1,6 @@
 -- `arith_trials::trial_pair` meets its contract.
 use mathlib.Core.Path.{◌≡◌, ◌∙◌}
 use mathlib.Core.Bool.{cond}
-use mathlib.Core.Logic.{⊎_elim}
-use native.Mathlib.Omega.{arith}
 use Prim.Native.Nat.{◌%◌}
 use borrow.Author.Tests.{ne_eqb}
 use borrow.Author.Rules.{rules}

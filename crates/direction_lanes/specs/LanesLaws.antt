@@ -62,9 +62,9 @@ row_at s w h depth y x i k hx hy hi hk =
     rw (a, b, r, c, add_assoc ((y + i) * w) x k)
 
 -- entry b of pair j of run i of group m
-pub from_at_lem : (row on half m i j b : ℕ) → m < 4 → i < 8 → j < 8 → b < 2 → from_at row on half (m * 128 + i * 16 + 2 * j + b) ≡ m * row + i * on + j + b * half
+pub from_at_is : (row on half m i j b : ℕ) → m < 4 → i < 8 → j < 8 → b < 2 → from_at row on half (m * 128 + i * 16 + 2 * j + b) ≡ m * row + i * on + j + b * half
 unfolding from_at
-from_at_lem row on half m i j b hm hi hj hb =
+from_at_is row on half m i j b hm hi hj hb =
     let e : (m * 128 + i * 16 + 2 * j + b) / 128 ≡ m = omega arith in
     let f : (m * 128 + i * 16 + 2 * j + b) / 16 % 8 ≡ i = omega arith in
     let g : (m * 128 + i * 16 + 2 * j + b) / 2 % 8 ≡ j = omega arith in
@@ -96,7 +96,7 @@ thrice-digits i j t v u hi hj ht hv hu =
     let d2 : (i * 32 + j * 4 + t * 2 + v + u * 256) / 2 ≡ i * 16 + j * 2 + t + u * 128 = omega arith in
     let m2 : (i * 32 + j * 4 + t * 2 + v + u * 256) % 2 ≡ v = omega arith in
     let g : from_at 64 8 256 (i * 32 + j * 4 + t * 2 + v + u * 256) ≡ (v * 2 + u) * 128 + i * 16 + 2 * j + t = halves-is _ (omega arith) ∙ rw (d2, m2) (omega arith) in
-    rw (e, g, from_at_lem 8 64 32 (v * 2 + u) i j t (omega arith) hi hj ht) (omega arith)
+    rw (e, g, from_at_is 8 64 32 (v * 2 + u) i j t (omega arith) hi hj ht) (omega arith)
 
 thrice : (k i j t v u : ℕ) → k ≡ i * 64 + j * 8 + t * 4 + v * 2 + u → i < 8 → j < 8 → t < 2 → v < 2 → u < 2
     → from_at 8 64 32 (from_at 64 8 256 (from_at 64 8 256 k)) ≡ i * 64 + ((t * 4 + v * 2 + u) * 8 + j)

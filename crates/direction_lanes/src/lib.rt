@@ -1,4 +1,6 @@
 // The samples of eight blocks side by side, interleaved into groups of eight lanes: in each group, lane l is of block l.
+#![tactic(auto)]
+
 ghost use Rattle.std.specs.Prelude.{◌≡◌, ◌+◌, ◌*◌, ◌≤◌, length};
 ghost use Rattle.arith_sample.specs.Bounds.{Within};
 ghost use Rattle.direction_lanes.specs.Lanes.{EightIn, rows_of, interleaved_of, lanes_of};

@@ -1,7 +1,7 @@
 -- Laws of strips that are filled entry by entry.
 use Rattle.std.specs.Prelude.{◌≡◌, refl, ◌⊎◌, List, ℕ, zero, suc, ◌+◌, ◌*◌, ◌/◌, ◌%◌, ◌≤◌, ◌<◌, get_or, length, set, replicate}
 use Rattle.std.proofs.Common.{sym, ap, ◌∙◌, ⊎_elim, mul-le-mul, mul-le-mul_right, arith, get_or-set_same, get_or-set_other}
-use Rattle.std.proofs.Math.Decide.{dec_lt, ℕ_discrete}
+use Rattle.std.proofs.Math.Decide.{ℕ_discrete}
 use Rattle.std.proofs.Math.Arith.{digits_div, digits_mod}
 use Rattle.trial_strips.specs.Strips.{Strips, Filled}
 
@@ -97,3 +97,7 @@ module _ (win : List ℕ) (w n : ℕ) where
           let a : x ≤ 4 = omega arith in
           let b : x * n + i + 1 ≤ 5 * n = omega (arith, mul-le-mul_right n a) in
           omega (arith, mul-le-mul_right w b)
+
+-- the same width, written otherwise
+pub width_is : (win : List ℕ) (w v n : ℕ) (s : List ℕ) → w ≡ v → Strips win w n s → Strips win v n s
+width_is win w v n s e f = rw e at f

@@ -1,4 +1,6 @@
 // The window of a block as five strips: each tap of the block's samples, in order, is one run of entries.
+#![tactic(auto)]
+
 ghost use Rattle.std.specs.Prelude.{◌⊎◌, ◌≡◌, ◌≤◌};
 ghost use Rattle.trial_strips.specs.Strips.{Strips};
 
@@ -23,4 +25,20 @@ pub fn strips(win: &[u16; 144], w: usize, n: usize) -> [u16; 480]
         }
     }
     out
+}
+
+// The same with rows of eight.
+fn strips_eight(win: &[u16; 144], n: usize) -> [u16; 480]
+    requires { n ≤ 12 }
+    ensures { Strips win.now 8 n result }
+{
+    strips(win, 8, n)
+}
+
+// The same with rows of four.
+fn strips_four(win: &[u16; 144], n: usize) -> [u16; 480]
+    requires { n ≤ 12 }
+    ensures { Strips win.now 4 n result }
+{
+    strips(win, 4, n)
 }

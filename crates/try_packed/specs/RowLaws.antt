@@ -1,5 +1,5 @@
 -- Laws of a block's samples row after row.
-use Rattle.std.specs.Prelude.{◌≡◌, refl, List, ℕ, zero, suc, ◌+◌, ◌*◌, ◌/◌, ◌%◌, ◌≤◌, ◌<◌, get_or, length, take}
+use Rattle.std.specs.Prelude.{◌≡◌, List, ℕ, zero, suc, ◌+◌, ◌*◌, ◌/◌, ◌%◌, ◌≤◌, ◌<◌, get_or, length, take}
 use Rattle.std.proofs.Math.Path.{sym}
 use Rattle.std.proofs.Common.{ap, ◌∙◌, ⊎_elim, mul_comm, mul-le-mul_right, zero-mul, suc-mul, div-add-mod', get_or-take}
 use native.Mathlib.Omega.{arith}
@@ -9,11 +9,11 @@ use Rattle.cdef_spec.specs.WordsLaws.{sum_same, sum2-same}
 use Rattle.cdef_spec.specs.GeometryLaws.{row_of}
 use Rattle.cdef_spec.specs.Distance.{squared_difference, squares}
 use Rattle.arith_numbers.specs.Packed.{Packed}
-use Rattle.arith_numbers.specs.PackedLaws.{width_low, runs-are, area}
-use Rattle.arith_sample.specs.Upto.{upto, get_or-upto}
+use Rattle.arith_numbers.specs.PackedLaws.{width_low, area}
+use Rattle.arith_sample.specs.Upto.{get_or-upto}
 use Rattle.distance_sums.specs.SumLaws.{sum_rows, sum-high, difference-high}
 use Rattle.distance_sums.specs.Blocks.{at, Within}
-use Rattle.try_packed.specs.Rows.{rows_of, packed_distances}
+use Rattle.try_packed.specs.Rows.{rows_of}
 
 pub square-high : (a b : ℕ) → a < 4096 → b < 4096 → squared_difference a b ≤ 16769025
 square-high a b h k = difference-high a b 4095 (omega arith) (omega arith)

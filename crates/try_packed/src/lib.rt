@@ -1,5 +1,7 @@
 // Whole chroma blocks: the squares of twelve trial blocks, whose rows lie one after the other; the original's are packed likewise, once.
 // Runs of sixteen samples are the same loop for 4 by 4, 4 by 8, 8 by 4 and 8 by 8.
+#![tactic(auto)]
+
 ghost use Rattle.std.specs.Prelude.{◌≡◌, ℕ, ◌+◌, ◌*◌, ◌≤◌, ◌<◌, get_or, length, take};
 ghost use Rattle.cdef_spec.specs.Words.{sum};
 ghost use Rattle.cdef_spec.specs.Distance.{squared_difference};

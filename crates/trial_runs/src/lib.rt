@@ -1,4 +1,6 @@
 // Runs of sixteen samples of a trial block, finished and stored.
+#![tactic(auto)]
+
 ghost use Rattle.std.specs.Prelude.{◌≡◌, ◌+◌, ◌≤◌, ◌<◌, length};
 ghost use Rattle.cdef_spec.specs.LoopForm.{put_row};
 ghost use Rattle.arith_sample.specs.Bounds.{Held, Within};

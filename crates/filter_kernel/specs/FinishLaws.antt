@@ -1,5 +1,5 @@
 -- The last step of a sample: the code's bounds equal the standard's clip, and its rounding the standard's.
-use Rattle.std.specs.Prelude.{◌≡◌, refl, Bool, true, false, cond, List, [], ◌∷◌, ℕ, zero, suc, ◌+◌, ◌-◌, ◌≤◌, min, ltb, ℤ, pos, negsuc, neg_ℤ, ◌+ℤ◌, ◌-ℤ◌}
+use Rattle.std.specs.Prelude.{◌≡◌, refl, Bool, true, false, cond, List, [], ◌∷◌, ℕ, zero, suc, ◌-◌, ◌≤◌, min, ltb, ℤ, pos, negsuc, neg_ℤ, ◌+ℤ◌, ◌-ℤ◌}
 use Rattle.std.proofs.Common.{sym, ap, ◌∙◌, arith, ltb-true, ltb-false, le-ltb}
 use Rattle.std.proofs.Math.IntN.{+ℤ_assoc, +ℤ_comm, *ℤ-zero}
 use Rattle.std.specs.Int.Signed.{lt_z, shr_z, mag}

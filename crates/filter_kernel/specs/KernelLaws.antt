@@ -9,7 +9,7 @@ use Rattle.std.proofs.Math.Dec.{eqb}
 use Rattle.std.proofs.Math.IntN.{+ℤ_idl, +ℤ_idr}
 use Rattle.cdef_spec.specs.declared.Block.{Block}
 use Rattle.cdef_spec.specs.declared.FilterParams.{FilterParams}
-use Rattle.cdef_spec.specs.Standard.{sample, rounded, filter_taps, unclipped, cdef_filter, cdef_sec_taps}
+use Rattle.cdef_spec.specs.Standard.{rounded, filter_taps, unclipped, cdef_filter, cdef_sec_taps}
 use Rattle.cdef_spec.specs.Document01.{Plane, mark, unmarked, available, or_else, damping_from1, filter_centre, filtered}
 use Rattle.cdef_spec.specs.CodeForm.{row_of, col_of, sample_at}
 use Rattle.cdef_spec.proofs.PlaceLaws.{steps_low, available-here2}

@@ -1,4 +1,6 @@
 // The parameters of a filtered row of the window, and the filtered row.
+#![tactic(auto)]
+
 ghost use Rattle.std.specs.Prelude.{◌≡◌, ◌+◌, ◌≤◌, ◌<◌, max, get_or};
 ghost use Rattle.arith_sample.specs.Bounds.{Held};
 ghost use Rattle.arith_sample.specs.Upto.{upto};

@@ -1,4 +1,6 @@
 // Rows stored: the mark is never written.
+#![tactic(auto)]
+
 ghost use Rattle.std.specs.Prelude.{◌≡◌, ◌+◌, ◌*◌, ◌≤◌, length};
 ghost use Rattle.cdef_spec.specs.Document01.{unmarked, or_else};
 ghost use Rattle.cdef_spec.specs.LoopForm.{put_row};

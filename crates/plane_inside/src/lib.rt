@@ -1,4 +1,6 @@
 // The test of a block's place.
+#![tactic(auto)]
+
 ghost use Rattle.std.specs.Prelude.{◌≡◌, ◌≤◌};
 ghost use Rattle.plane_inside.specs.Inner.{inner_block};
 

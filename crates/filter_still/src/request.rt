@@ -1,67 +1,79 @@
 // The damping and the pair out of the arguments.
 use cdef_spec::{DampingChoice, UnitPair};
+use std::io;
 use still_files::say;
 use still_steps::damping;
 use still_steps::damping::DampingText;
 use still_text::numbers;
 use still_text::numbers::Number;
 
+// The files that the arguments name.
+#[derive(Clone, Copy)]
+pub struct Names<'a> {
+    pub still: &'a str,
+    pub original: &'a str,
+    pub output: &'a str,
+}
+
 // What the still is filtered with.
-#[derive(Drop)]
+#[derive(Clone, Copy)]
 pub struct Request {
     pub damping: DampingChoice,
     pub pair: UnitPair,
 }
 
-#[derive(Drop)]
+#[derive(Clone, Copy)]
 pub enum Asked {
     Request(Request),
     Wrong,
 }
 
 // The damping given by argument 3.
-fn damping_argument() -> DampingText {
-    let mut space = io::buffer();
-    let n = os::arg(3, &mut space);
-    let answer = damping::damping_of(&space[..n]);
+fn damping_argument(rt: &impl Eprint, given: &str) -> io::Result<DampingText> {
+    let answer = damping::damping_of(given.as_bytes());
     match answer {
-        DampingText::Signalled(d) => {}
-        DampingText::Rejected(no) => say::index(no),
+        DampingText::Signalled(_) => {}
+        DampingText::Rejected(no) => say::index(rt, no)?,
         DampingText::NotDamping => say::argument(
-            b"DAMPING is q and a quality index, or d and a signalled damping, not ",
-            &space[..n],
-        ),
+            rt,
+            "DAMPING is q and a quality index, or d and a signalled damping, not ",
+            given,
+        )?,
     }
-    answer
+    Ok(answer)
 }
 
 // The number given by an argument.
-fn strength_argument(i: usize, no: &[u8]) -> Number {
-    let mut space = io::buffer();
-    let n = os::arg(i, &mut space);
-    let answer = numbers::number_of(&space[..n]);
+fn strength_argument(rt: &impl Eprint, given: &str, no: &str) -> io::Result<Number> {
+    let answer = numbers::number_of(given.as_bytes());
     if let Number::NoNumber = answer {
-        say::argument(no, &space[..n]);
+        say::argument(rt, no, given)?;
     }
-    answer
+    Ok(answer)
 }
 
 // The request of arguments 3 to 5; Wrong, once the error is reported.
-pub fn request_of_arguments() -> Asked {
-    let DampingText::Signalled(damping) = damping_argument() else {
-        return Asked::Wrong;
+pub fn request_of_arguments(
+    rt: &impl Eprint,
+    damping: &str,
+    primary: &str,
+    secondary: &str,
+) -> io::Result<Asked> {
+    let DampingText::Signalled(damping) = damping_argument(rt, damping)? else {
+        return Ok(Asked::Wrong);
     };
-    let Number::Value(primary) = strength_argument(4, b"PRIMARY is a number, not ") else {
-        return Asked::Wrong;
+    let Number::Value(primary) = strength_argument(rt, primary, "PRIMARY is a number, not ")? else {
+        return Ok(Asked::Wrong);
     };
-    let Number::Value(secondary) = strength_argument(5, b"SECONDARY is a number, not ") else {
-        return Asked::Wrong;
+    let Number::Value(secondary) = strength_argument(rt, secondary, "SECONDARY is a number, not ")?
+    else {
+        return Ok(Asked::Wrong);
     };
-    Asked::Request(Request {
+    Ok(Asked::Request(Request {
         damping: DampingChoice::Given(damping),
         pair: UnitPair {
             primary: damping::small(primary),
             secondary: damping::small(secondary),
         },
-    })
+    }))
 }

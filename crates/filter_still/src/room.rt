@@ -4,8 +4,10 @@ ghost use Rattle.still_pgm.specs.Sizes.{is_taken};
 ghost use Rattle.still_lists.specs.Lists.{Counted};
 
 use crate::report;
-use crate::request::Request;
+use crate::request::{Names, Request};
 use cdef_spec::Visible;
+use std::io;
+use std::rt::Files;
 use still_files::files::Picture;
 use still_files::{files, say};
 use still_lists::Counts;
@@ -14,35 +16,44 @@ use still_pgm::sizes;
 use still_steps::steps::Job;
 use still_steps::{space, steps};
 
-pub fn filter(r: Request) {
+pub fn filter(rt: &(impl Files + Print + Eprint), names: Names<'_>, r: Request) -> io::Result<()> {
     let mut file = [0u8; 1_580_000];
     let mut still = [0u16; 786_432];
     let mut original = [0u16; 786_432];
     let mut filtered = [0u16; 786_432];
-    pictures(r, &mut file, &mut still, &mut original, &mut filtered);
+    pictures(
+        rt,
+        names,
+        r,
+        &mut file,
+        &mut still,
+        &mut original,
+        &mut filtered,
+    )
 }
 
 // Reads both pictures.
 fn pictures(
+    rt: &(impl Files + Print + Eprint),
+    names: Names<'_>,
     r: Request,
     file: &mut [u8],
     still: &mut [u16],
     original: &mut [u16],
     filtered: &mut [u16],
-)
+) -> io::Result<()>
     requires { (length file.old ≡ 1580000) × (length still.old ≡ 786432) × (length original.old ≡ 786432) × (length filtered.old ≡ 786432) }
 {
-    let Picture::Read(h) = files::read_picture(1, file, still) else {
-        return;
+    let Picture::Read(h) = files::read_picture(rt, names.still, file, still)? else {
+        return Ok(());
     };
-    let Picture::Read(o) = files::read_picture(2, file, original) else {
-        return;
+    let Picture::Read(o) = files::read_picture(rt, names.original, file, original)? else {
+        return Ok(());
     };
     if !is_same(h, o) {
-        say::different();
-        return;
+        return say::different(rt);
     }
-    sized(r, h, file, still, original, filtered);
+    sized(rt, names, r, h, file, still, original, filtered)
 }
 
 fn is_same(h: Header, o: Header) -> bool {
@@ -51,13 +62,15 @@ fn is_same(h: Header, o: Header) -> bool {
 
 // Passes slices of the planes and totals, of the picture's size.
 fn sized(
+    rt: &(impl Files + Print + Eprint),
+    names: Names<'_>,
     r: Request,
     h: Header,
     file: &mut [u8],
     still: &[u16],
     original: &[u16],
     filtered: &mut [u16],
-)
+) -> io::Result<()>
     requires height_value { is_taken h.width h.height ≡ true }
     requires file_len { (length file.old ≡ 1580000) × (length still.now ≡ 786432) × (length original.now ≡ 786432) × (length filtered.old ≡ 786432) }
 {
@@ -68,6 +81,8 @@ fn sized(
     let mut tried = space::trial_totals();
     let mut measured = space::unit_totals();
     run(
+        rt,
+        names,
         r,
         h,
         n,
@@ -77,11 +92,13 @@ fn sized(
         &mut filtered[..samples],
         &mut tried[..totals],
         &mut measured[..units],
-    );
+    )
 }
 
 // Filters, writes the output, and then prints.
 fn run(
+    rt: &(impl Files + Print + Eprint),
+    names: Names<'_>,
     r: Request,
     h: Header,
     n: Counts,
@@ -91,7 +108,7 @@ fn run(
     filtered: &mut [u16],
     tried: &mut [i64],
     measured: &mut [i64],
-)
+) -> io::Result<()>
     requires height_value { (is_taken h.width h.height ≡ true) × Counted h.width h.height n × (length file.old ≡ 1580000) }
     requires tried_len { (length tried.old ≡ 12 * length measured.old) × (length measured.old ≤ 4096) }
 {
@@ -105,12 +122,13 @@ fn run(
         counts: n,
     };
     let outcome = steps::calls(job, still, original, filtered, tried, measured);
-    if !report::is_filtered(outcome) {
-        return;
+    if !report::is_filtered(rt, outcome)? {
+        return Ok(());
     }
-    if files::write_picture(h, filtered, file) {
-        report::report(h, n, pair, tried, measured);
+    if !files::write_picture(rt, names.output, h, filtered, file)? {
+        return Ok(());
     }
+    report::report(rt, h, n, pair, tried, measured)
 }
 
 fn visible(h: Header) -> Visible

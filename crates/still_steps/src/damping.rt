@@ -8,7 +8,7 @@ use still_text::numbers;
 use still_text::numbers::Number;
 
 // A signalled damping; or the error code of a quality index that its call rejected; or the text is neither.
-#[derive(Drop)]
+#[derive(Clone, Copy)]
 pub enum DampingText {
     Signalled(SignalledDamping),
     Rejected(u8),

@@ -6,7 +6,7 @@ use cdef_spec::{Answer, DampingChoice, UnitPair, Visible};
 use still_lists::Counts;
 
 // What a still is filtered with, its visible size, its depth and its counts.
-#[derive(Drop)]
+#[derive(Clone, Copy)]
 pub struct Job {
     pub pair: UnitPair,
     pub damping: DampingChoice,
@@ -16,7 +16,7 @@ pub struct Job {
 }
 
 // The outcome: the plane is filtered and measured; or which call was rejected, with its error code.
-#[derive(Drop)]
+#[derive(Clone, Copy)]
 pub enum Outcome {
     Filtered,
     PassRefused(u8),

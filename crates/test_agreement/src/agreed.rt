@@ -7,7 +7,7 @@ use cdef_spec::{DampingAnswer, DampingChoice, SignalledDamping, UnitPair, Visibl
 use testlib_pictures::{lists, picture};
 
 // What the three calls return, and the totals that they leave.
-#[derive(Drop)]
+#[derive(Clone, Copy)]
 pub struct Outcome {
     pub answer: Agreement,
     pub tried: [i64; 72],
@@ -15,7 +15,7 @@ pub struct Outcome {
 }
 
 // The directions and variances of the blocks of luma.
-#[derive(Drop)]
+#[derive(Clone, Copy)]
 pub struct Found {
     pub dirs: [u8; 153],
     pub vars: [u32; 153],

@@ -2,23 +2,24 @@
 ghost use Rattle.std.specs.Prelude.{◌≤◌};
 
 use cdef_spec::{Answer, DampingChoice, SignalledDamping, UnitPair};
+use std::io;
 
-pub fn lines() {
-    applied(0, 4, 2);
-    applied(1, 4, 2);
-    applied(2, 4, 2);
-    applied(3, 4, 2);
-    applied(2, 16, 0);
-    applied(2, 0, 3);
-    applied(3, 16, 3);
-    applied(2, 4, 2);
-    applied(4096, 4, 2);
-    applied(4097, 4, 2);
-    applied(4100, 4, 2);
+pub fn lines(rt: &impl Print) -> io::Result<()> {
+    applied(rt, 0, 4, 2)?;
+    applied(rt, 1, 4, 2)?;
+    applied(rt, 2, 4, 2)?;
+    applied(rt, 3, 4, 2)?;
+    applied(rt, 2, 16, 0)?;
+    applied(rt, 2, 0, 3)?;
+    applied(rt, 3, 16, 3)?;
+    applied(rt, 2, 4, 2)?;
+    applied(rt, 4096, 4, 2)?;
+    applied(rt, 4097, 4, 2)?;
+    applied(rt, 4100, 4, 2)
 }
 
 // The last are more pairs than any picture has units.
-fn applied(n: usize, primary: u8, secondary: u8)
+fn applied(rt: &impl Print, n: usize, primary: u8, secondary: u8) -> io::Result<()>
     requires { n ≤ 4100 }
 {
     let pair = UnitPair { primary, secondary };
@@ -35,15 +36,15 @@ fn applied(n: usize, primary: u8, secondary: u8)
         [pair; 4100],
         DampingChoice::Given(SignalledDamping(5)),
     );
-    line(n, pair, answer);
+    line(rt, n, pair, answer)
 }
 
-fn line(n: usize, pair: UnitPair, answer: Answer) {
-    print::pair(pair.primary, pair.secondary);
-    print::labelled(b", times ", n as u64);
-    print::text(b": ");
+fn line(rt: &impl Print, n: usize, pair: UnitPair, answer: Answer) -> io::Result<()> {
+    print::pair(rt, pair.primary, pair.secondary)?;
+    print::labelled(rt, ", times ", n as u64)?;
+    print::text(rt, ": ")?;
     match answer {
-        Answer::Done => print::text(b"done\n"),
-        Answer::Refused(q) => print::refused(q),
+        Answer::Done => print::text(rt, "done\n"),
+        Answer::Refused(q) => print::refused(rt, q),
     }
 }

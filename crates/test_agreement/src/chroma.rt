@@ -1,5 +1,5 @@
 // A chroma picture, with the pairs as one slice of structs or as two lists.
-ghost use Rattle.io.specs.Counts.{IsPrefixLen};
+ghost use Rattle.std.specs.Prelude.{◌≤◌, length};
 
 use crate::agreed;
 use agreed::Outcome;
@@ -8,13 +8,13 @@ use testlib_pictures::lists;
 
 // How many samples of a plane, and of the scratch, a picture has: what borrowing these needs.
 fn samples(number: u32, dst: [u16; 9792], snapshot: [u16; 9792], original: [u16; 9792]) -> usize
-    ensures { IsPrefixLen result dst × IsPrefixLen result snapshot × IsPrefixLen result original }
+    ensures { (result ≤ length dst) × (result ≤ length snapshot) × (result ≤ length original) }
 {
     testlib_pictures::part(number, 9792)
 }
 
 fn rows(number: u32, scratch: [u16; 576]) -> usize
-    ensures { IsPrefixLen result scratch }
+    ensures { result ≤ length scratch }
 {
     testlib_pictures::part(number, 576)
 }

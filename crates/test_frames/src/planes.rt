@@ -2,64 +2,88 @@
 ghost use Rattle.std.specs.Prelude.{◌≤◌, ◌<◌, ◌≡◌, length};
 
 use cdef_spec::{Answer, DampingChoice, SignalledDamping};
+use std::io;
 use testlib_frame::{lists, planes};
 
-pub fn compared(file: &[u8]) {
+pub fn compared(rt: &impl Print, file: &[u8]) -> io::Result<()> {
     if !testlib_frame::is_frame(file) {
-        print::text(b": not a frame");
-        return;
+        return print::text(rt, ": not a frame");
     }
-    number(file, testlib_frame::WIDTH);
-    number(file, testlib_frame::HEIGHT);
-    number(file, testlib_frame::DEPTH);
-    number(file, testlib_frame::SX);
-    number(file, testlib_frame::SY);
-    all_planes(file);
+    number(rt, file, testlib_frame::WIDTH)?;
+    number(rt, file, testlib_frame::HEIGHT)?;
+    number(rt, file, testlib_frame::DEPTH)?;
+    number(rt, file, testlib_frame::SX)?;
+    number(rt, file, testlib_frame::SY)?;
+    all_planes(rt, file)
 }
 
-fn number(file: &[u8], k: usize)
+fn number(rt: &impl Print, file: &[u8], k: usize) -> io::Result<()>
     requires { k < 16 }
 {
-    said(testlib_frame::number(file, k));
+    said(rt, testlib_frame::number(file, k))
 }
 
-fn said(n: usize) {
-    print::labelled(b" ", n as u64);
+fn said(rt: &impl Print, n: usize) -> io::Result<()> {
+    print::labelled(rt, " ", n as u64)
 }
 
-fn all_planes(file: &[u8]) {
+fn all_planes(rt: &impl Print, file: &[u8]) -> io::Result<()> {
     let mut skip = [0u8; 4800];
     let mut dirs = [0u8; 4800];
     let mut vars = [0u32; 4800];
     let n = lists::fill(file, lists::SKIPS, lists::LUMA, &mut skip);
     let m = lists::fill(file, lists::SKIPS, lists::LUMA, &mut dirs);
     let v = lists::variances(file, &vars);
-    said(n);
-    each(file, &skip[..n], &mut dirs[..m], &mut vars[..v]);
+    said(rt, n)?;
+    each(rt, file, &skip[..n], &mut dirs[..m], &mut vars[..v])
 }
 
 // Luma, and both chroma planes where there are any.
-fn each(file: &[u8], skip: &[u8], dirs: &mut [u8], vars: &mut [u32]) {
-    plane(file, 0, skip, dirs, vars);
+fn each(
+    rt: &impl Print,
+    file: &[u8],
+    skip: &[u8],
+    dirs: &mut [u8],
+    vars: &mut [u32],
+) -> io::Result<()> {
+    plane(rt, file, 0, skip, dirs, vars)?;
     if testlib_frame::number(file, testlib_frame::MONOCHROME) == 0 {
-        plane(file, 1, skip, dirs, vars);
-        plane(file, 2, skip, dirs, vars);
+        plane(rt, file, 1, skip, dirs, vars)?;
+        plane(rt, file, 2, skip, dirs, vars)?;
     }
+    Ok(())
 }
 
 // Reads a plane twice; what is not filtered keeps what went in.
-fn plane(file: &[u8], plane: u32, skip: &[u8], dirs: &mut [u8], vars: &mut [u32])
+fn plane(
+    rt: &impl Print,
+    file: &[u8],
+    plane: u32,
+    skip: &[u8],
+    dirs: &mut [u8],
+    vars: &mut [u32],
+) -> io::Result<()>
     requires { plane ≤ 2 }
 {
     let mut before = planes::space();
     let mut after = planes::space();
     let n = planes::read(file, plane, &mut before);
     let m = planes::read(file, plane, &mut after);
-    filtered(file, plane, &mut after[..m], &before[..n], skip, dirs, vars);
+    filtered(
+        rt,
+        file,
+        plane,
+        &mut after[..m],
+        &before[..n],
+        skip,
+        dirs,
+        vars,
+    )
 }
 
 // Filters a plane and compares it.
 fn filtered(
+    rt: &impl Print,
     file: &[u8],
     plane: u32,
     after: &mut [u16],
@@ -67,12 +91,12 @@ fn filtered(
     skip: &[u8],
     dirs: &mut [u8],
     vars: &mut [u32],
-)
+) -> io::Result<()>
     requires { plane ≤ 2 }
 {
-    code(called(file, plane, after, before, skip, dirs, vars));
-    said(after.len());
-    said(planes::different(file, plane + 3, after));
+    code(rt, called(file, plane, after, before, skip, dirs, vars))?;
+    said(rt, after.len())?;
+    said(rt, planes::different(file, plane + 3, after))
 }
 
 // Directions and variances are luma's before CDEF; chroma takes the directions as they are.
@@ -95,10 +119,10 @@ fn called(
 }
 
 // Prints an error code, 0 where the work is done.
-fn code(answer: Answer) {
+fn code(rt: &impl Print, answer: Answer) -> io::Result<()> {
     match answer {
-        Answer::Done => said(0),
-        Answer::Refused(n) => said(n as usize),
+        Answer::Done => said(rt, 0),
+        Answer::Refused(n) => said(rt, n as usize),
     }
 }
 

@@ -1,64 +1,66 @@
 // Runs stored cases through the public calls: answers of the Rust reference, and RULES, Worked lines. data/README.md gives the formats.
 // Prints each case that does not return what is stored, and for each file how many cases do.
+#![tactic(auto)]
+
 mod blocks; // blocks.rt: calls on a block
 mod chroma; // chroma.rt: applying in chroma
 mod distances; // distances.rt: calls on two blocks
 mod numbers; // numbers.rt: calls on numbers
 
-ghost use Rattle.std.specs.Prelude.{◌≤◌};
+ghost use Rattle.std.specs.Prelude.{◌≤◌, IfOk};
 
-fn main() {
-    let mut space = [0u8; 4096];
-    let n = testlib_lines::read_file(b"files.txt", &mut space);
-    files(&space[..n]);
+use std::rt::Files;
+use std::{fs, io};
+
+fn main(rt: HostRuntime) -> io::Result<()> {
+    let list = fs::read_to_string(&rt, "files.txt")?;
+    files(&rt, list.as_str())
 }
 
-fn files(list: &[u8]) {
-    let mut at = 0;
-    while at < list.len() {
-        let end = testlib_lines::find(list, at, b'\n');
-        file(&list[at..end]);
-        at = end + 1;
+fn files(rt: &(impl Files + Print + Eprint), list: &str) -> io::Result<()> {
+    for line in list.lines() {
+        file(rt, line)?;
     }
+    Ok(())
 }
 
 // A line of the list: a call's number, and the file with its cases.
-fn file(line: &[u8]) {
-    if line.len() < 2 {
-        return;
-    }
+fn file(rt: &(impl Files + Print + Eprint), line: &str) -> io::Result<()> {
+    let Some((call, path)) = line.split_once(' ') else {
+        return Ok(());
+    };
     let mut space = testlib_lines::file_space();
-    let n = testlib_lines::read_file(&line[2..], &mut space);
-    let same = replayed(testlib_lines::number(line, 0), &space[..n]);
-    testlib_lines::told(&line[2..], same as u64);
+    let n = testlib_lines::read_file(rt, path, &mut space)?;
+    let same = replayed(rt, testlib_lines::number(call.as_bytes(), 0), &space[..n])?;
+    testlib_lines::told(rt, path, same as u64)
 }
 
 // How many cases of a text return what is stored.
-fn replayed(call: u64, text: &[u8]) -> usize {
+fn replayed(rt: &impl Print, call: u64, text: &[u8]) -> io::Result<usize> {
     let mut same = 0;
     let mut at = 0;
     while at < text.len() {
         let end = testlib_lines::find(text, at, b'\n');
-        same += counted(call, &text[at..end]);
+        same += counted(rt, call, &text[at..end])?;
         at = end + 1;
     }
-    same
+    Ok(same)
 }
 
 // 1 for a case that returns what is stored; a line that begins with # is a comment.
-fn counted(call: u64, line: &[u8]) -> usize
-    ensures { result ≤ 1 }
+fn counted(rt: &impl Print, call: u64, line: &[u8]) -> io::Result<usize>
+    ensures { IfOk result (λ n. n ≤ 1) }
 {
     if testlib_lines::byte_at(line, 0) == b'#' {
-        return 0;
+        return Ok(0);
     }
     if same(call, line) {
-        return 1;
+        return Ok(1);
     }
-    io::write_all(1, b"different: ");
-    io::write_all(1, line);
-    io::write_all(1, b"\n");
-    0
+    rt.write_all(b"different: ")?;
+    rt.write_all(line)?;
+    rt.write_all(b"\n")?;
+    Ok(0)
 }
 
 // Whether a call returns what its line has stored.

@@ -1,5 +1,5 @@
 -- What is gathered, iteration by iteration, and that an array stands for its list.
-use Rattle.std.specs.Prelude.{◌≡◌, refl, List, [], ◌∷◌, ℕ, zero, suc, ◌+◌, ◌≤◌, ◌<◌, get_or, set, take, length, replicate}
+use Rattle.std.specs.Prelude.{◌≡◌, List, [], ℕ, suc, ◌+◌, ◌≤◌, ◌<◌, get_or, set, take, length, replicate}
 use Rattle.std.proofs.Common.{sym, ap, ◌∙◌, arith, length-set, length-take, get_or-set_same, get_or-set_other, get_or-take, take_all, ext_get_or}
 use Rattle.std.proofs.Math.Decide.{ℕ_discrete, dec_lt}
 use Rattle.std.proofs.lemmas.List.{length-replicate, get_or-replicate}
@@ -8,7 +8,7 @@ use Rattle.cdef_spec.specs.declared.UnitPair.{UnitPair}
 use Rattle.cdef_spec.specs.Words.{table}
 use Rattle.cdef_spec.specs.WordsLaws.{length-table, get_or-table}
 use Rattle.cdef_spec.specs.Picture.{pair_at}
-use Rattle.cdef_pairs.specs.Gather.{gathered, listed}
+use Rattle.cdef_pairs.specs.Gather.{gathered}
 
 -- the pair 0, 0
 abbrev pub none : UnitPair

@@ -1,12 +1,14 @@
 // The list of unit pairs (RULES, Glossary: one primary and one secondary strength per unit) out of the caller's slice of structs, and as two lists of bytes.
-// The borrow checker covers no function that borrows structs: `gather` is proved by hand, and copies the slice into an array by value, which covered code accepts.
+// `gather` copies the slice into an array by value.
+#![tactic(auto)]
+
 ghost use Rattle.std.specs.Prelude.{◌≡◌, [], ◌≤◌, ◌<◌};
 ghost use Rattle.cdef_pairs.specs.Gather.{gathered, primaries, secondaries};
 
 use cdef_spec::UnitPair;
 
 // A primary and a secondary strength for each of 4,096 units, as many as the largest picture has.
-#[derive(Drop)]
+#[derive(Clone, Copy)]
 pub struct PairLists {
     pub pris: [u8; 4096],
     pub secs: [u8; 4096],

@@ -14,15 +14,13 @@ use Rattle.arith_sample.proofs.Sums16.{back}
 use Rattle.direction_lanes.specs.Lanes.{from_at, interleaved_of}
 use Rattle.direction_lanes.specs.LanesLaws.{from_at_is}
 use Rattle.direction_lanes.proofs.interleaved.Goals as goal
-use Rattle.direction_lanes.proofs.interleaved.Goals.{In-loop-i}
 
 -- the two runs of an iteration are in the array
-inside : (c : In-loop-i)
-    → let a = c.args in c.loop-m.m * a.row + c.loop-i.i * a.on + a.half + 8 ≤ 512
-inside c =
-    let m : c.loop-m.m ≤ 3 = omega arith in
-    let i : c.loop-i.i ≤ 7 = omega arith in
-    omega (arith, mul-le-mul_right c.args.row m, mul-le-mul_right c.args.on i, c.requires.1)
+inside : (row on half m i : ℕ) → 3 * row + 7 * on + half + 8 ≤ 512 → m < 4 → i < 8 → m * row + i * on + half + 8 ≤ 512
+inside row on half m i h hm hi =
+    let p : m ≤ 3 = omega arith in
+    let q : i ≤ 7 = omega arith in
+    omega (arith, mul-le-mul_right row p, mul-le-mul_right on q, h)
 
 -- what is stored at k
 stored : (a : List ℤ) (row on half m i j b at k : ℕ) → Within a 128 → m < 4 → i < 8 → j < 8 → b < 2 → at ≡ m * row + i * on + j + b * half
@@ -36,37 +34,37 @@ pub loop-i-init : goal.loop-i-init
 loop-i-init c = (upto-at _ _ _ _ (omega arith) c.loop-m.invariant.0, c.loop-m.invariant.1, omega arith)
 
 pub overflow_mul-from : goal.overflow_mul-from
-overflow_mul-from c = omega (arith, inside c)
+overflow_mul-from c = omega (arith, inside _ _ _ _ _ c.requires.1 c.loop-m-test.true c.loop-i-test.true)
 
 pub overflow_mul-from-in-loop-i : goal.overflow_mul-from-in-loop-i
-overflow_mul-from-in-loop-i c = omega (arith, inside c)
+overflow_mul-from-in-loop-i c = omega (arith, inside _ _ _ _ _ c.requires.1 c.loop-m-test.true c.loop-i-test.true)
 
 pub overflow_add-from : goal.overflow_add-from
-overflow_add-from c = omega (arith, inside c)
+overflow_add-from c = omega (arith, inside _ _ _ _ _ c.requires.1 c.loop-m-test.true c.loop-i-test.true)
 
 pub overflow_add-next : goal.overflow_add-next
-overflow_add-next c = omega (arith, inside c)
+overflow_add-next c = omega (arith, inside _ _ _ _ _ c.requires.1 c.loop-m-test.true c.loop-i-test.true)
 
 pub loop-j-init : goal.loop-j-init
 loop-j-init c = (upto-at _ _ _ _ (omega arith) c.loop-i.invariant.0, c.loop-i.invariant.1, omega arith)
 
 pub overflow_add-out : goal.overflow_add-out
-overflow_add-out c = omega (arith, inside c.before.before)
+overflow_add-out c = omega (arith, inside _ _ _ _ _ c.requires.1 c.loop-m-test.true c.loop-i-test.true)
 
 pub offset_bounds-a-from : goal.offset_bounds-a-from
-offset_bounds-a-from c = omega (arith, inside c.before.before)
+offset_bounds-a-from c = omega (arith, inside _ _ _ _ _ c.requires.1 c.loop-m-test.true c.loop-i-test.true)
 
 pub bounds-a-from : goal.bounds-a-from
-bounds-a-from c = omega (arith, inside c.before.before)
+bounds-a-from c = omega (arith, inside _ _ _ _ _ c.requires.1 c.loop-m-test.true c.loop-i-test.true)
 
 pub overflow_add-out-in-loop-j-2 : goal.overflow_add-out-in-loop-j-2
-overflow_add-out-in-loop-j-2 c = omega (arith, inside c.before.before.before)
+overflow_add-out-in-loop-j-2 c = omega (arith, inside _ _ _ _ _ c.requires.1 c.loop-m-test.true c.loop-i-test.true)
 
 pub offset_bounds-a-next : goal.offset_bounds-a-next
-offset_bounds-a-next c = omega (arith, inside c.before.before.before)
+offset_bounds-a-next c = omega (arith, inside _ _ _ _ _ c.requires.1 c.loop-m-test.true c.loop-i-test.true)
 
 pub bounds-a-next : goal.bounds-a-next
-bounds-a-next c = omega (arith, inside c.before.before.before)
+bounds-a-next c = omega (arith, inside _ _ _ _ _ c.requires.1 c.loop-m-test.true c.loop-i-test.true)
 
 pub loop-j-preserved : goal.loop-j-preserved
 loop-j-preserved c = let m : c.loop-m.m < 4 = omega arith in

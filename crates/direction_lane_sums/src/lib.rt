@@ -1,4 +1,6 @@
 // Line sums of eight blocks in lanes. A line sum is a group of lanes; the rows, of eight groups each, are added up, each from the line of its first sample on.
+#![tactic(auto)]
+
 ghost use Rattle.std.specs.Prelude.{◌≡◌, ◌+◌, ◌-◌, ◌*◌, ◌≤◌, ◌<◌, length};
 ghost use Rattle.arith_sample.specs.Bounds.{Within};
 ghost use Rattle.direction_lane_sums.specs.Lines.{neighbour_sums, added_of, place_of, lane_lines};

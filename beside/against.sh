@@ -23,8 +23,8 @@ library_of() {
     mkdir -p "$kept/tree"
     git -C "$root" archive -o "$kept/tree.tar" "$1" || fail "no files of $1"
     tar -x -f "$kept/tree.tar" -C "$kept/tree" || fail "no files of $1"
-    (cd "$kept/tree" && RT_JOBS=${RT_JOBS:-1} nice rt staticlib cdef_c) >"$kept/log" 2>&1 ||
-        fail "rt staticlib cdef_c failed at $1 (target/against/$1/log)"
+    (cd "$kept/tree" && RT_JOBS=${RT_JOBS:-1} nice .ci/static-library) >"$kept/log" 2>&1 ||
+        fail ".ci/static-library failed at $1 (target/against/$1/log)"
     mv "$kept/tree/target/staticlib/libcdef_c.a" "$kept/libcdef_c.a"
     rm -rf "$kept/tree" "$kept/tree.tar"
     echo "$from" >"$kept/from"

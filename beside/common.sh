@@ -67,7 +67,7 @@ build_library() {
         return
     fi
     command -v rt >/dev/null || fail "target/staticlib/libcdef_c.a is absent or old, and rt, which builds it, is not on PATH"
-    (cd "$root" && rt staticlib cdef_c) || fail "rt staticlib cdef_c failed"
+    "$root/.ci/static-library" || fail ".ci/static-library failed"
 }
 
 # The program refusals, which needs none of the reference's files.

@@ -11,8 +11,8 @@ BEGIN {
 
 function read_source(    i) {
     for (i = 1; i <= tokens; i++) {
-        if (token[i] == "no_mangle" && words(i - 2, i + 3) != "#[no_mangle]pub extern")
-            cannot_read(line_of[i], "no_mangle that is not #[no_mangle] before pub extern")
+        if (token[i] == "no_mangle" && words(i - 4, i + 4) != "#[unsafe(no_mangle)]pub extern")
+            cannot_read(line_of[i], "no_mangle that is not #[unsafe(no_mangle)] before pub extern")
         if (token[i] == "extern")
             read_entry(i)
     }
@@ -24,8 +24,8 @@ function read_entry(i,    name, last, k) {
     if (token[i + 1] != "\"C\"" || token[i + 2] != "fn" || !is_name(name) || token[i + 4] != "(")
         cannot_read(line_of[i], "extern that is not extern \"C\" fn NAME(")
     add_entry(name, file ":" line_of[i])
-    if (words(i - 5, i) != "#[no_mangle]pub extern")
-        different(file ":" line_of[i], name, "expected #[no_mangle] pub before extern \"C\", found none")
+    if (words(i - 8, i) != "#[unsafe(no_mangle)]pub extern")
+        different(file ":" line_of[i], name, "expected #[unsafe(no_mangle)] pub before extern \"C\", found none")
     last = read_list(i + 4)
     for (k = 1; k <= items; k++)
         read_parameter(item_from[k], item_to[k])

@@ -1,4 +1,6 @@
 // The arithmetic of samples in bytes.
+#![tactic(auto)]
+
 ghost use Rattle.std.specs.Prelude.{◌≡◌, ◌+◌, ◌-◌, ◌≤◌, ◌<◌, min, max, pos, nat_abs};
 ghost use Rattle.plane_byte.specs.Arithmetic.{above_of, excess_of};
 

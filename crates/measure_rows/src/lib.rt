@@ -1,4 +1,6 @@
 // The rows of a block, and slices set to zero.
+#![tactic(auto)]
+
 ghost use Rattle.std.specs.Prelude.{◌≡◌, ◌+◌, ◌≤◌, length, replicate};
 ghost use Rattle.measure_rows.specs.Rows.{rows_of};
 

@@ -1,4 +1,6 @@
 // The cost of each direction of eight blocks in lanes. Lines n and 14 - n weigh the same: the eleven lines of an odd direction stand at 2 to 12, and past eight straight lines there are zeros.
+#![tactic(auto)]
+
 ghost use Rattle.std.specs.Prelude.{◌≡◌, ◌+◌, ◌*◌, ◌/◌, ◌≤◌, ◌<◌, length};
 ghost use Rattle.arith_sample.specs.Bounds.{Within};
 ghost use Rattle.arith_sample.specs.Upto.{upto};

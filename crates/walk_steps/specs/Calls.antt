@@ -6,7 +6,7 @@ use mir.Val.{Val}
 use base.Logic.{SProp, ent, sep, ex, emp, id⊢, via, comm∗, assoc∗, assoc', mono_l, mono_r, emp∗, snd∗}
 use base.Fml.{Fml, fsep, feq}
 use types.Logic.{Logic, sem}
-use types.Kit.{Item, ‵, raw, ◌⊛◌, some, later, mean, ⋆, nth, del, push, pop, pull, Goal, Soaks, Seq, Step, step, ◌$◌, ◌∵◌, !, qed, move, use1, split, pick, await, fsplit, feq_l, done}
+use types.Kit.{Item, ‵, raw, ◌⊛◌, some, later, mean, ⋆, nth, del, push, pop, pull, Goal, Soaks, Seq, Step, step, ◌$◌, ◌∵◌, !, qed, move, use1, split, pick, await, fsplit, fjoin, feq_l, done}
 use contract.Lifetimes.{Lfts}
 use contract.Monad.{fact}
 use denote.Exit.{Exit, unchanged, leaves, Last, left}
@@ -23,7 +23,7 @@ use Rattle.walk_steps.specs.Held.{nest, own-list, owns-nest, token-list, toks-ne
 module _ {M : Type 1} (𝓤 : Ura M) where
   abbrev left-entry : {X : Type 0} (e : Exit X) (x : X) → Last e x → List (Item 𝓤) → List (Item 𝓤)
   left-entry unchanged x w Γ = Γ
-  left-entry (leaves L l S s) x w Γ = ‵ (l x w) ∷ Γ
+  left-entry (leaves L l S s r₀) x w Γ = ‵ (l x w) ∷ Γ
 
   module _ {n : ℕ} (κs : Lfts n) where
     abbrev left-entries : (ss : List (Slot n)) (ks : Kepts ss) (a : Denots (types_at ss κs)) → Fins κs ss ks a → List (Item 𝓤) → List (Item 𝓤)
@@ -34,7 +34,7 @@ module _ {M : Type 1} (𝓤 : Ura M) where
     left_one : {X : Type 0} (e : Exit X) (x : X) (w : Last e x) (P : SProp 𝓤) (Γ : List (Item 𝓤)) → ent 𝓤 P (⋆ 𝓛 Γ)
         → ent 𝓤 (sep 𝓤 (sem 𝓛 (left e x w)) P) (⋆ 𝓛 (left-entry e x w Γ))
     left_one unchanged x w P Γ h = via 𝓤 P (snd∗ 𝓤 (emp 𝓤) P) h
-    left_one (leaves L l S s) x w P Γ h = via 𝓤 (sep 𝓤 (sem 𝓛 (l x w)) (⋆ 𝓛 Γ)) (mono_r 𝓤 (sem 𝓛 (l x w)) h) (push 𝓛 (‵ (l x w)) Γ)
+    left_one (leaves L l S s r₀) x w P Γ h = via 𝓤 (sep 𝓤 (sem 𝓛 (l x w)) (⋆ 𝓛 Γ)) (mono_r 𝓤 (sem 𝓛 (l x w)) h) (push 𝓛 (‵ (l x w)) Γ)
 
     left-apart : {n : ℕ} (κs : Lfts n) (ss : List (Slot n)) (ks : Kepts ss) (a : Denots (types_at ss κs)) (ws : Fins κs ss ks a) (Γ : List (Item 𝓤))
         → ent 𝓤 (sep 𝓤 (sem 𝓛 (lasts_of κs ss ks a ws)) (⋆ 𝓛 Γ)) (⋆ 𝓛 (left-entries κs ss ks a ws Γ))
@@ -134,12 +134,22 @@ module _ {M : Type 1} {𝓤 : Ura M} {K : Type 0} (𝓛 : Logic 𝓤) {Γ : List
       pick t (λ ws. split t $ move t (1 ∷ []) $ heard t (φ r ws) (λ x.
       record { prf = via 𝓤 (⋆ 𝓛 (back 𝓛 T s y v r ws Γ)) (take_back 𝓛 T s y v r ws Γ) (k r ws x).prf })))
 
-  -- what is said of a mutable slice's last list: the list comes first, and that it is as long as the old one is learned
+  -- what is said of a mutable slice's last list, its borrow apart: the list comes first, and that it is as long as the old one is learned
   pub lasting : K → (n : ℕ) {P : Fml} {X : Type 0} {x x' : X} → nth 𝓛 n Γ ≡ ‵ (fsep P (feq X x x')) → (x ≡ x' → Seq K 𝓛 (‵ P ∷ del 𝓛 n Γ) G) → Seq K 𝓛 Γ G
   lasting t n {P} {X} {x} {x'} e k =
       let F : Fml = fsep P (feq X x x') in
       let Δ : List (Item 𝓤) = del 𝓛 n Γ in
       record {
         prf = via 𝓤 (sep 𝓤 (sem 𝓛 F) (⋆ 𝓛 Δ)) (subst (λ (j : Item 𝓤). ent 𝓤 (⋆ 𝓛 Γ) (sep 𝓤 (mean 𝓛 j) (⋆ 𝓛 Δ))) e (pull 𝓛 n Γ))
-            (via 𝓤 (⋆ 𝓛 (‵ F ∷ Δ)) (push 𝓛 (‵ F) Δ) (fsplit {W = 𝓛} t $ move t (1 ∷ []) $ feq_l t k).prf);
+            (via 𝓤 (⋆ 𝓛 (‵ F ∷ Δ)) (push 𝓛 (‵ F) Δ) (fsplit {𝓛 = 𝓛} t $ move t (1 ∷ []) $ feq_l t k).prf);
+      }
+
+  -- the same beside the slice's borrow, as its type's `left` says it: list and borrow come first, as `gave_slice` has them
+  pub lasting_lent : K → (n : ℕ) {P B : Fml} {X : Type 0} {x x' : X} → nth 𝓛 n Γ ≡ ‵ (fsep (fsep P (feq X x x')) B) → (x ≡ x' → Seq K 𝓛 (‵ (fsep P B) ∷ del 𝓛 n Γ) G) → Seq K 𝓛 Γ G
+  lasting_lent t n {P} {B} {X} {x} {x'} e k =
+      let F : Fml = fsep (fsep P (feq X x x')) B in
+      let Δ : List (Item 𝓤) = del 𝓛 n Γ in
+      record {
+        prf = via 𝓤 (sep 𝓤 (sem 𝓛 F) (⋆ 𝓛 Δ)) (subst (λ (j : Item 𝓤). ent 𝓤 (⋆ 𝓛 Γ) (sep 𝓤 (mean 𝓛 j) (⋆ 𝓛 Δ))) e (pull 𝓛 n Γ))
+            (via 𝓤 (⋆ 𝓛 (‵ F ∷ Δ)) (push 𝓛 (‵ F) Δ) (fsplit {𝓛 = 𝓛} t $ fsplit t $ move t (1 ∷ []) $ feq_l t (λ long. fjoin t $ k long)).prf);
       }

@@ -17,11 +17,11 @@ nest (F ∷ Fs) = fsep F (nest Fs)
 -- what the types of a list own
 abbrev pub own-list : (Ts : List RattleType) → Denots Ts → Valss Ts → List Fml
 own-list [] a vss = []
-own-list (T ∷ Ts) a vss = T.own a.0 vss.0 ∷ own-list Ts a.1 vss.1
+own-list (T ∷ Ts) a vss = T.own_val a.0 vss.0 ∷ own-list Ts a.1 vss.1
 
 pub owns-nest : (Ts : List RattleType) (a : Denots Ts) (vss : Valss Ts) → owns Ts a vss ≡ nest (own-list Ts a vss)
 owns-nest [] a vss = refl
-owns-nest (T ∷ Ts) a vss = ap (fsep (T.own a.0 vss.0)) (owns-nest Ts a.1 vss.1)
+owns-nest (T ∷ Ts) a vss = ap (fsep (T.own_val a.0 vss.0)) (owns-nest Ts a.1 vss.1)
 
 -- a token for each lifetime
 abbrev pub token-list : (n : ℕ) → Lfts n → Shares n → List Fml

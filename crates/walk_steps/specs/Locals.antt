@@ -2,7 +2,7 @@
 -- In between, the context has one entry for each local's cell, in order, and one for the rights to free them all.
 use Rattle.std.specs.Prelude.{ℕ, zero, refl, List, [], ◌∷◌, T}
 use seplogic.Ra.Ura.{Ura}
-use seplogic.Ra.TreeShare.{full_share}
+use base.Fraction.{full_share}
 use mir.Syntax.{Ty, Local}
 use mir.Val.{Val, WT, has_ty}
 use base.Logic.{SProp, ent, sep, wand, emp, id⊢, via, comm∗, assoc∗, assoc', mono_l, mono_r, emp∗, snd∗, wand_i, all_i}
@@ -166,7 +166,7 @@ module _ {M : Type 1} {𝓤 : Ura M} (𝓛 : Logic 𝓤) where
     passes E [] fits Γ Q k = k
     passes [] (v ∷ vs) fits Γ Q k = absurd fits
     passes (e ∷ E) (v ∷ vs) fits Γ Q k =
-        (init {K = Go {0}} {W = 𝓛} {Γ = cell e unset ∷ dies e ∷ mixed E [] Γ} ! 0 refl fits.0).go (pass 𝓤 H E vs Q)
+        (init {𝓛 = 𝓛} {K = Go {0}} {Γ = cell e unset ∷ dies e ∷ mixed E [] Γ} ! 0 refl fits.0).go (pass 𝓤 H E vs Q)
         (via 𝓤 (⋆ 𝓛 (mixed E [] (cell e (set v) ∷ dies e ∷ Γ))) (to_back (cell e (set v)) (dies e) Γ E [])
         (passes E vs fits.1 (cell e (set v) ∷ dies e ∷ Γ) Q
         (via 𝓤 (⋆ 𝓛 (mixed (e ∷ E) (held (v ∷ vs)) Γ)) (to_front (cell e (set v)) (dies e) Γ E (held vs)) k)))

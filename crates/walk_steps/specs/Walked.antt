@@ -22,11 +22,11 @@ module _ {M : Type 1} {𝓤 : Ura M} (𝓛 : Logic 𝓤) (T : Ended) (stays : St
   abbrev Parts : Type 0
   Parts = Shares T.signature.lifetimes
 
-  abbrev types : Lives → List RattleType
-  types κs = types_at T.signature.params κs
+  abbrev types_of : Lives → List RattleType
+  types_of κs = types_at T.signature.params κs
 
   abbrev values : (κs : Lives) → Args T.signature κs → Vals T.signature κs
-  values κs a = valss (types κs) (spelt κs) a
+  values κs a = valss (types_of κs) (spelt κs) a
 
   abbrev Bounds : Lives → Type 0
   Bounds κs = AllOutlive T.signature.lifetimes T.signature.outlives κs
@@ -35,7 +35,7 @@ module _ {M : Type 1} {𝓤 : Ura M} (𝓛 : Logic 𝓤) (T : Ended) (stays : St
   before κs qs a = on_entry 𝓛 T.signature κs qs a (values κs a)
 
   abbrev after : (κs : Lives) (qs : Parts) (bounds : Bounds κs) (a : Args T.signature κs) → (c κs a).ghost → SProp 𝓤
-  after κs qs bounds a g = run (flat (types κs) (values κs a)) ((walk_of 𝓛 T stays c).post ((κs, qs, bounds, a, values κs a), g))
+  after κs qs bounds a g = run (flat (types_of κs) (values κs a)) ((walk_of 𝓛 T stays c).post ((κs, qs, bounds, a, values κs a), g))
 
   -- φ: what the `requires` states
   module _ (φ : (κs : Lives) → Args T.signature κs → Type 0) where
@@ -43,17 +43,17 @@ module _ {M : Type 1} {𝓤 : Ura M} (𝓛 : Logic 𝓤) (T : Ended) (stays : St
     Asks = (κs : Lives) (a : Args T.signature κs) (g : (c κs a).ghost) (P Q : SProp 𝓤) → (φ κs a → ent 𝓤 P Q) → ent 𝓤 (sep 𝓤 P ((c κs a).requires g)) Q
 
     abbrev WithFacts : (κs : Lives) (qs : Parts) (bounds : Bounds κs) (a : Args T.signature κs) → Type 1
-    WithFacts κs qs bounds a = (g : (c κs a).ghost) → EachFact (types κs) (Ises (types κs)) a (values κs a) (φ κs a → ent 𝓤 (before κs qs a) (after κs qs bounds a g))
+    WithFacts κs qs bounds a = (g : (c κs a).ghost) → EachFact (types_of κs) (Ises (types_of κs)) a (values κs a) (φ κs a → ent 𝓤 (before κs qs a) (after κs qs bounds a g))
 
     abbrev WithArgs : (κs : Lives) → Parts → Type 1
-    WithArgs κs qs = (bounds : Bounds κs) → EachArg (types κs) (WithFacts κs qs bounds)
+    WithArgs κs qs = (bounds : Bounds κs) → EachArg (types_of κs) (WithFacts κs qs bounds)
 
     abbrev WithShares : Lives → Type 1
     WithShares κs = EachShare T.signature.lifetimes (WithArgs κs)
 
-    pub walked-parts : Asks → ((κs : Lives) → Tellss (types κs) (Ises (types κs)) (spelt κs)) → EachLft T.signature.lifetimes WithShares → Walks 𝓛 T stays run c
+    pub walked-parts : Asks → ((κs : Lives) → Tellss (types_of κs) (Ises (types_of κs)) (spelt κs)) → EachLft T.signature.lifetimes WithShares → Walks 𝓛 T stays run c
     walked-parts asks tells k = walked 𝓛 T stays c run spelt tells (λ κs qs bounds a g are.
         asks κs a g (before κs qs a) (after κs qs bounds a g)
-        (each-fact (types κs) (Ises (types κs)) a (values κs a) (φ κs a → ent 𝓤 (before κs qs a) (after κs qs bounds a g))
-        (each-arg (types κs) (WithFacts κs qs bounds)
+        (each-fact (types_of κs) (Ises (types_of κs)) a (values κs a) (φ κs a → ent 𝓤 (before κs qs a) (after κs qs bounds a g))
+        (each-arg (types_of κs) (WithFacts κs qs bounds)
         (each-share T.signature.lifetimes (WithArgs κs) (each-lft T.signature.lifetimes WithShares k κs) qs bounds) a g) are))

@@ -1,4 +1,6 @@
 // The directions and variances of eight blocks in lanes: in each group of eight entries, entry l is of block l.
+#![tactic(auto)]
+
 ghost use Rattle.std.specs.Prelude.{◌≡◌, length};
 ghost use Rattle.arith_sample.specs.Bounds.{Within};
 ghost use Rattle.direction_eight.specs.Best.{found_by_samples};

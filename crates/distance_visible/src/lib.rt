@@ -1,4 +1,6 @@
 // The distance of the visible part of a block, as trying and measuring add it up.
+#![tactic(auto)]
+
 ghost use Rattle.std.specs.Prelude.{ℕ, ◌^◌, ◌≤◌, ◌<◌, ◌≡◌};
 ghost use Rattle.distance_weight.specs.Weighing.{OfDepth};
 ghost use Rattle.distance_sums.specs.Blocks.{at as sample_in, Within};

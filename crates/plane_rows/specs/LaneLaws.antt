@@ -1,11 +1,11 @@
 -- One sample of a plane without marks: its taps, its kernel by which strengths are 0, and its bounds.
-use Rattle.std.specs.Prelude.{◌≡◌, refl, Bool, List, ℕ, ◌+◌, ◌-◌, ◌*◌, ◌≤◌, ◌<◌, min, max, eqb, get_or, ℤ, pos, nat_abs, ◌+ℤ◌}
+use Rattle.std.specs.Prelude.{◌≡◌, Bool, List, ℕ, ◌≤◌, ◌<◌, eqb, get_or, ℤ, nat_abs, ◌+ℤ◌}
 use Rattle.std.proofs.Common.{sym, ap, ◌∙◌, arith}
 use Rattle.std.proofs.Math.Bool.{true, false, cond}
 use borrow.Author.Tests.{eq-eqb, ne_eqb}
 use Rattle.std.specs.Int.Signed.{mag}
 use Rattle.cdef_spec.specs.SignedLaws.{size-add}
-use Rattle.arith_sample.specs.Sample.{moved_of, over_of, under_of, finish_of, free_of}
+use Rattle.arith_sample.specs.Sample.{moved_of, over_of, finish_of, free_of}
 use Rattle.arith_sample.specs.SampleLaws.{finish-on, free_on, over-is-nat, held-nat}
 use Rattle.arith_sample.proofs.Sums16.{size-moved, size-over}
 use Rattle.filter_rows.specs.Place.{on_from, back_from}

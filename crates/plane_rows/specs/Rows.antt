@@ -1,14 +1,12 @@
 -- Rows of a block, their taps straight from a plane without marks. Definitions only.
-use Rattle.std.specs.Prelude.{◌≡◌, List, ℕ, zero, suc, ◌+◌, ◌-◌, ◌*◌, ◌^◌, ◌≤◌, ◌<◌, get_or, set}
+use Rattle.std.specs.Prelude.{◌≡◌, List, ℕ, zero, suc, ◌+◌, ◌-◌, ◌*◌, ◌≤◌, ◌<◌, get_or, set}
 use Rattle.cdef_spec.specs.Standard.{Tap}
 use Rattle.cdef_spec.specs.Document01.{unmarked}
 use Rattle.cdef_spec.specs.LoopForm.{put_block}
-use Rattle.filter_rows.specs.Place.{on_from, back_from}
 use Rattle.filter_rows.specs.Pairs.{pair_of}
 use Rattle.filter_rows.specs.declared.Taps.{Taps}
 use Rattle.filter_rows.specs.declared.Strength.{Strength}
 use Rattle.filter_kernel.specs.Kernel.{kernel_at}
-use Rattle.plane_taps.specs.Steps.{Reach}
 use Rattle.plane_taps.specs.Plain.{first_of}
 use Rattle.plane_taps.specs.declared.plain.Part.{Part}
 

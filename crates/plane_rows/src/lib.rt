@@ -1,4 +1,6 @@
 // Rows of eight samples of a block two samples or more inside a plane without marks: their taps straight from the plane.
+#![tactic(auto)]
+
 ghost use Rattle.std.specs.Prelude.{◌≡◌, ℕ, ◌+◌, ◌*◌, ◌≤◌, ◌<◌, get_or, length};
 ghost use Rattle.arith_sample.specs.Sample.{free_of};
 ghost use Rattle.arith_sample.specs.Upto.{upto};

@@ -1,8 +1,8 @@
 -- Question 9 by the window: each entry is a sample of the depth or the mark exactly where each examined sample is.
-use Rattle.std.specs.Prelude.{◌≡◌, refl, Bool, false, cond, ◌&&◌, ◌||◌, List, ◌⊎◌, ltb, eqb, get_or}
-use Rattle.std.proofs.Common.{sym, ap, subst, ◌∙◌, inl, inr, arith, lt-ltb, le-ltb, ltb-true, eqb-true, pow_mono}
+use Rattle.std.specs.Prelude.{◌≡◌, refl, Bool, false, ◌||◌, ◌⊎◌, ltb, eqb, get_or}
+use Rattle.std.proofs.Common.{sym, subst, ◌∙◌, inl, inr, arith, ltb-true, eqb-true, pow_mono}
 use Rattle.std.proofs.Math.Bool.{true}
-use Prim.Native.Nat.{ℕ, zero, suc, ◌+◌, ◌-◌, ◌*◌, ◌/◌, ◌%◌, ◌^◌, ◌≤◌, ◌<◌, min}
+use Prim.Native.Nat.{ℕ, ◌+◌, ◌-◌, ◌*◌, ◌/◌, ◌%◌, ◌^◌, ◌≤◌, ◌<◌, min}
 use Rattle.std.proofs.Math.Decide.{dec_lt, dec_le}
 use Rattle.std.proofs.Math.ListN.{get_or-eq_default}
 use Rattle.cdef_spec.specs.declared.Block.{Block}
@@ -10,7 +10,6 @@ use Rattle.cdef_spec.specs.Words.{every}
 use Rattle.cdef_spec.specs.WordsLaws.{every-at, every-make}
 use Rattle.cdef_spec.specs.Document01.{Plane, mark}
 use Rattle.cdef_spec.specs.Questions.{sample_or_mark, looked_at, widened_taken}
-use Rattle.cdef_spec.specs.CodeForm.{sample_at}
 use Rattle.arith_sample.specs.Bounds.{Marked}
 use Rattle.arith_sample.specs.Upto.{upto, length-upto, get_or-upto}
 use Rattle.filter_window.specs.Window.{window_at}

@@ -1,4 +1,5 @@
 // The block filter: a block of a plane filtered into rows of a destination.
+#![tactic(auto)]
 
 ghost use Rattle.std.specs.Prelude.{◌≡◌, ◌+◌, ◌-◌, ◌*◌, ◌≤◌, ◌<◌, min, length};
 ghost use Rattle.cdef_spec.specs.Document01.{filtered};

@@ -1,4 +1,6 @@
 // One block of the direction pass.
+#![tactic(auto)]
+
 ghost use Rattle.std.specs.Prelude.{◌+◌, ◌*◌, ◌/◌, ◌<◌};
 ghost use Rattle.pass_one.specs.Pass.{PassIn, Filled};
 

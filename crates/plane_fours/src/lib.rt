@@ -1,4 +1,6 @@
 // Four rows of four samples of a block, sixteen at once, their taps straight from the plane.
+#![tactic(auto)]
+
 ghost use Rattle.std.specs.Prelude.{◌≡◌, ◌+◌, ◌*◌, ◌<◌, ◌≤◌, length, slice_index};
 ghost use Rattle.arith_sample.specs.Sample.{free_of};
 ghost use Rattle.arith_sample.specs.Upto.{upto};

@@ -1,0 +1,17 @@
+-- `plane_fours::run` meets its contract.
+use Rattle.std.proofs.Common.{◌≡◌, ℕ, ◌+◌, ◌-◌, ◌*◌, ◌≤◌, length, get_or, take}
+use Rattle.arith_sample.specs.Upto.{upto}
+use Rattle.plane_fours.specs.Fours.{four_at}
+use Rattle.plane_fours.proofs.run.Given as goal
+
+abbrev pub invariant-loop-j : goal.invariant-loop-j
+invariant-loop-j l = (take (l.to + l.j) l.v ≡ upto (λ (n : ℕ). get_or l.src (four_at l.w l.k n) 0) (l.to + l.j)) × (length l.v ≡ 16) × (l.j ≤ 4)
+
+abbrev pub decreases-loop-j : goal.decreases-loop-j
+decreases-loop-j l = 4 - l.j
+
+abbrev pub invariant-loop-i : goal.invariant-loop-i
+invariant-loop-i l = (take (l.i * 4) l.v ≡ upto (λ (n : ℕ). get_or l.src (four_at l.w l.k n) 0) (l.i * 4)) × (length l.v ≡ 16) × (l.i ≤ 4)
+
+abbrev pub decreases-loop-i : goal.decreases-loop-i
+decreases-loop-i l = 4 - l.i

@@ -1,4 +1,6 @@
 // The checks of the calls on one block, in order: each returns the error code of the first that fails, or 0. No public function of the crate requires anything.
+#![tactic(auto)]
+
 ghost use Rattle.std.specs.Prelude.{◌≡◌, ◌&&◌, List, [], ◌∷◌, ℕ};
 ghost use Rattle.cdef_spec.specs.Document01.{Plane};
 ghost use Rattle.cdef_spec.specs.Questions.{ask, first_no, depth_taken, side_taken, full as full_plane, block_taken};

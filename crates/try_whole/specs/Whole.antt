@@ -1,5 +1,5 @@
 -- The weighted distances of twelve trial blocks, as the code computes them. Definitions only.
-use Rattle.std.specs.Prelude.{◌≡◌, List, ℕ, ◌*◌, ◌<◌, Float, get_or}
+use Rattle.std.specs.Prelude.{◌≡◌, List, ℕ, ◌*◌, ◌^◌, ◌<◌, Float, get_or}
 use Rattle.std.specs.Float.{nan}
 use Rattle.cdef_spec.specs.declared.DistanceConstants.{DistanceConstants}
 use Rattle.cdef_spec.specs.Distance.{spread, squares, weight}
@@ -29,3 +29,4 @@ times_at e w t = times_of (get_or e t 0) (get_or w t nan)
 pub record Weighed (c : DistanceConstants) (a blocks e : List ℕ) (w : List Float) : Type 0 where
   pub weighs : (t : ℕ) → t < 12 → Weighs (get_or w t nan) (get_or e t 0)
   pub is : (t : ℕ) → t < 12 → times_at e w t ≡ whole_distances c a blocks t
+  pub low : (t : ℕ) → t < 12 → times_at e w t < 2 ^ 53

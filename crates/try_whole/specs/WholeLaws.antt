@@ -1,6 +1,6 @@
 -- A whole luma block's weighted distances.
-use Rattle.std.specs.Prelude.{◌≡◌, refl, List, ℕ, ◌+◌, ◌-◌, ◌*◌, ◌/◌, ◌%◌, ◌^◌, ◌≤◌, ◌<◌, Float, get_or}
-use Rattle.std.proofs.Common.{sym, ap, ◌∙◌, arith}
+use Rattle.std.specs.Prelude.{◌≡◌, refl, List, ℕ, ◌*◌, ◌^◌, ◌≤◌, ◌<◌, Float, get_or}
+use Rattle.std.proofs.Common.{◌∙◌}
 use Rattle.std.specs.Float.Ieee.{nan}
 use Rattle.cdef_spec.specs.declared.DistanceConstants.{DistanceConstants}
 use Rattle.cdef_spec.specs.Words.{sum}
@@ -10,7 +10,7 @@ use Rattle.distance_weight.specs.Weighing.{OfDepth}
 use Rattle.distance_weight.specs.WeighingLaws.{times-weight}
 use Rattle.distance_sums.specs.Blocks.{at, cell, block_of, Below, Within, weighted_by}
 use Rattle.distance_sums.specs.BlockLaws.{block-cell, block-below, squares-same, squares-64}
-use Rattle.distance_block.specs.WeightedLaws.{spread_same, spread-high, squares-high}
+use Rattle.distance_block.specs.WeightedLaws.{spread_same, spread-high, squares-high, weighted-same, weighted-64-low}
 use Rattle.try_whole.specs.Whole.{whole_distances, spreads_of, errors_of, weights_of, times_at, Weighed}
 
 -- ---- trial block t
@@ -41,6 +41,14 @@ module _ (a blocks : List ℕ) (depth t : ℕ) (flat : depth ≤ 12) (b : Below 
 
   pub error-limit : squares 8 8 (cell a) (at blocks (t * 64) 8) ≤ squares_limit depth
   error-limit = rw (← trial-error) (squares-high a depth b block trial-below)
+
+-- ---- each distance is below 2 ^ 53
+
+pub distances-low : (c : DistanceConstants) (depth : ℕ) (a blocks : List ℕ) → OfDepth c depth → Below a (2 ^ depth) → (t : ℕ) → Within blocks (t * 64) 8 8 8 (2 ^ depth) → whole_distances c a blocks t < 2 ^ 53
+unfolding whole_distances
+distances-low c depth a blocks o b t w =
+    rw (← weighted-same c (cell a) (cell a) _ _ (λ m n hm hn. refl) (block-cell blocks (t * 64) 8))
+    (weighted-64-low c depth a (block_of blocks (t * 64) 8) o b (block-below blocks (t * 64) 8 (2 ^ depth) w))
 
 -- ---- from the sums and the weights, as the code computes them
 
@@ -84,4 +92,5 @@ module _ (c : DistanceConstants) (depth : ℕ) (a blocks : List ℕ) (o : OfDept
             is = weight-at t l;
           };
           is = times-at;
+          low = λ t l. rw (times-at t l) (distances-low c depth a blocks o b t (h t l));
         }

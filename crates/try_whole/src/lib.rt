@@ -1,4 +1,6 @@
 // Whole luma blocks: the weighted distances of twelve trial blocks, in loops of their own for the sums, the weights and the distances.
+#![tactic(auto)]
+
 ghost use Rattle.std.specs.Prelude.{◌≡◌, ℕ, ◌*◌, ◌^◌, ◌≤◌, ◌<◌, get_or, replicate};
 ghost use Rattle.cdef_spec.specs.Distance.{squares_limit, weight};
 ghost use Rattle.arith_sample.specs.Upto.{upto};

@@ -1,3 +1,5 @@
 -- The distances that trying adds up, and their laws.
 pub mod Totals
 pub mod SameLaws
+pub mod WholeLaws
+pub mod FourLaws

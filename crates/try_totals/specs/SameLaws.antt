@@ -1,11 +1,11 @@
 -- Whole blocks have the same distances.
-use Rattle.std.specs.Prelude.{◌≡◌, refl, Bool, true, false, List, ℕ, ◌*◌, ◌^◌, ◌≤◌, ◌<◌, get_or}
-use Rattle.std.proofs.Common.{sym, ap, ◌∙◌, lt_of_lt_of_le, pow_mono}
+use Rattle.std.specs.Prelude.{◌≡◌, refl, true, false, List, ℕ, ◌*◌, ◌^◌, ◌≤◌, ◌<◌, get_or}
+use Rattle.std.proofs.Common.{sym, ◌∙◌, lt_of_lt_of_le, pow_mono}
 use Rattle.cdef_spec.specs.declared.DistanceConstants.{DistanceConstants}
 use Rattle.cdef_spec.specs.LoopForm.{add_turns}
 use Rattle.arith_sample.specs.Upto.{upto, upto-ext, get_or-upto}
 use Rattle.arith_totals.specs.FoldLaws.{turns_same}
-use Rattle.distance_sums.specs.Blocks.{at, cell, block_of, Within}
+use Rattle.distance_sums.specs.Blocks.{at, block_of, Within}
 use Rattle.distance_sums.specs.BlockLaws.{block-cell}
 use Rattle.distance_block.specs.WeightedLaws.{weighted-same}
 use Rattle.distance_visible.specs.Cut.{cut_distance}

@@ -1,6 +1,6 @@
 -- Two rows of eight samples: where they lie, and what is kept of them.
-use Rattle.std.specs.Prelude.{◌≡◌, ℕ, zero, suc, ◌+◌, ◌-◌, ◌*◌, ◌/◌, ◌%◌, ◌<◌, ◌≤◌, List, length, slice_index, slice_index_or, refl}
-use Rattle.std.proofs.Common.{sym, ap, ◌∙◌, mul-le-mul_right, add-one, inl, inr}
+use Rattle.std.specs.Prelude.{◌≡◌, ℕ, ◌+◌, ◌-◌, ◌*◌, ◌/◌, ◌%◌, ◌<◌, ◌≤◌, List, length, slice_index, slice_index_or}
+use Rattle.std.proofs.Common.{ap, ◌∙◌, mul-le-mul_right, inl, inr}
 use native.Mathlib.Omega.{arith}
 use Rattle.std.proofs.Math.Decide.{dec_le}
 use Rattle.arith_sample.specs.Upto.{upto, get_or-upto, upto-ext}

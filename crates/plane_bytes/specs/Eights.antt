@@ -1,5 +1,5 @@
 -- Two rows of eight samples of a plane whose samples are bytes. Definitions only.
-use Rattle.std.specs.Prelude.{◌≡◌, ℕ, zero, suc, ◌+◌, ◌*◌, ◌/◌, ◌%◌, ◌<◌, ◌≤◌, List, slice_index}
+use Rattle.std.specs.Prelude.{ℕ, ◌+◌, ◌*◌, ◌/◌, ◌%◌, ◌<◌, ◌≤◌, List, slice_index}
 use Rattle.arith_sample.specs.Upto.{upto}
 use Rattle.filter_rows.specs.Place.{on_from, back_from}
 

@@ -1,4 +1,6 @@
 // Eight blocks of the direction pass, side by side.
+#![tactic(auto)]
+
 ghost use Rattle.std.specs.Prelude.{◌≡◌, ◌+◌, ◌*◌, ◌/◌, ◌≤◌, ◌<◌, length};
 ghost use Rattle.pass_one.specs.Pass.{PassIn, Filled};
 

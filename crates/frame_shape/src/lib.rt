@@ -1,5 +1,7 @@
 // What the cores of the frame calls share: the geometry of a plane and its blocks' filter parameters.
 // The cores validate nothing and are given the figure in force.
+#![tactic(auto)]
+
 pub mod geometry; // geometry.rt: blocks, units, the visible part
 pub mod params; // params.rt: a block's filter parameters
 

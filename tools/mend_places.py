@@ -25,6 +25,9 @@ def plain_steps(table):
             subprocess.run(["rt", "check", "--generated", made], cwd=folder, capture_output=True, text=True)
         goals = open(f"{made}/Rattle-{crate}-proofs/{module.replace('.', '/')}/Goals.antt", encoding="utf-8").read()
         m = re.search(rf"^{re.escape(name)} =\s+(?:View\.In|Lts\.)\S*((?:\s+[\w.'-]+)*?)\n\n", goals, re.M)
+        if not m:
+            print(f"look: {module}: {name} is none of Goals' places")
+            return None
         return " ".join({"Tie": "tie.", "Reads": "reads.", "the": "goal.the"}[re.match(r"Tie|Reads|the", x)[0]] + re.sub(r"^(Tie\.|Reads\.|the)", "", x) for x in m[1].split())
 
     for key, e in table.items():
@@ -33,6 +36,12 @@ def plain_steps(table):
         if not os.path.exists(path):
             continue
         text = open(path, encoding="utf-8").read()
+        if "\nabbrev Upto-" in text:
+            new = re.sub(r"^(Upto-(\S+) = steps\.\S+) .*$", lambda x: f"{x[1]} {given(m[1], x[2]) or x[0].split(x[1] + ' ')[1]}", text, flags=re.M)
+            if new != text:
+                text = new
+                changed += 1
+                open(path, "w", encoding="utf-8").write(text)
         raw = {n: p[0] for p, n, t in zip(e["places"], e["places_by_name"], e.get("typed", [])) if t}
         use = re.search(r"^use (\S+)\.Goals\.\{(.*)\}$", text, re.M)
         if not use:

@@ -1,4 +1,6 @@
 // The direction pass: the direction and the variance of each 8 by 8 block of a luma plane.
+#![tactic(auto)]
+
 ghost use Rattle.std.specs.Prelude.{◌≡◌, ℕ, ◌+◌, ◌*◌, ◌/◌, ◌%◌, ◌^◌, ◌≤◌, ◌<◌, get_or, length};
 ghost use Rattle.cdef_spec.specs.Words.{table};
 ghost use Rattle.cdef_spec.specs.Document01.{block_direction, block_variance};

@@ -1,0 +1,9 @@
+-- `pass_plane::direction_pass` meets its contract.
+use mathlib.Core.Path.{◌≡◌}
+use Prim.Native.Nat.{◌*◌, ◌/◌, ◌≤◌}
+use lib.ListN.{length}
+use Rattle.pass_one.specs.Pass.{Filled}
+use Rattle.pass_plane.proofs.direction_pass.Given as goal
+
+abbrev pub invariant-loop-by : goal.invariant-loop-by
+invariant-loop-by l = Filled l.plane l.width l.height l.depth (l.by * (l.width / 8)) l.dirs l.vars × (length l.dirs ≡ length l.initial.dirs) × (length l.vars ≡ length l.initial.vars) × (length l.a ≡ 512) × (length l.s ≡ 512) × (l.by ≤ l.height / 8)

@@ -1,4 +1,6 @@
 // Sums of sixteen samples that lie one after the other in a list, as their taps do; marks count as the values that they are. Sums of the same taps are computed in one loop.
+#![tactic(auto)]
+
 ghost use Rattle.std.specs.Prelude.{◌≡◌, ◌+◌, ◌≤◌, get_or, length};
 ghost use Rattle.arith_sample.specs.Bounds.{Held};
 ghost use Rattle.arith_sample.specs.Upto.{upto};

@@ -1,4 +1,6 @@
 // The filter parameters of the twelve trials.
+#![tactic(auto)]
+
 ghost use Rattle.std.specs.Prelude.{◌≡◌, ◌≤◌, ◌<◌};
 ghost use Rattle.trial_strengths.specs.Strengths.{adjusted_by, twelve_of};
 

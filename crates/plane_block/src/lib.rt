@@ -1,4 +1,6 @@
 // Blocks of a plane without marks: those two samples or more inside it are filtered straight from the plane, the others through their window.
+#![tactic(auto)]
+
 ghost use Rattle.std.specs.Prelude.{◌≡◌, ◌+◌, ◌-◌, ◌*◌, ◌≤◌, min, length};
 ghost use Rattle.filter_window.specs.Spans.{InPlane};
 ghost use Rattle.filter_block.specs.Store.{Usable};

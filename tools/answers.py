@@ -326,6 +326,8 @@ class Turner:
         parts = split_top(body[a + 1 : b - 1])
         if parts and parts[-1] == "tt" and len(parts) == len(names) + 1:
             parts = parts[:-1]
+        while len(parts) < len(names) and parts[-1].startswith("(") and parts[-1].endswith(")") and len(split_top(parts[-1][1:-1])) > 1:
+            parts = parts[:-1] + split_top(parts[-1][1:-1])
         if len(parts) != len(names):
             print(f"look: {self.fn}: {len(parts)} parts for {names}")
             return body

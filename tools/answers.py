@@ -396,8 +396,9 @@ def turn(path, entry, fn, known, module):
             body = t.code("= " + body)[2:] if False else t.code(body)
             names = []
             if new.endswith("requires") or "-requires" in new:
+                base = new.split("-requires")[0]
                 for f, c in t.callee.items():
-                    if new == f"{f}-requires":
+                    if f == base or (not names and c.split("::")[-1] == base):
                         names = t.clauses(c, "requires")
             elif new.startswith("returns"):
                 names = t.clauses(fn, "ensures")

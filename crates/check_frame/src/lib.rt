@@ -1,5 +1,7 @@
 // The checks of trying, measuring and applying, in order: the error code of the first that fails, or 0. All input is examined before anything is written,
 // and no list is walked before the questions that come first have passed.
+#![tactic(auto)]
+
 ghost use Rattle.std.specs.Prelude.{◌≡◌, true, ◌&&◌, List, ℕ, ◌*◌, eqb, length};
 ghost use Rattle.cdef_spec.specs.Picture.{units};
 ghost use Rattle.cdef_spec.specs.Questions.{visible_taken, all_taken, primary_taken, secondary_taken};

@@ -1,4 +1,6 @@
 // The checks that the frame calls share. 1, 2 and 3 come first; what follows them requires that these passed. A list is walked (8, 9) only once its length has passed (4, 7).
+#![tactic(auto)]
+
 ghost use Rattle.std.specs.Prelude.{◌≡◌, List, [], ◌∷◌, ℕ, ◌*◌, ◌≤◌, eqb, length};
 ghost use Rattle.cdef_spec.specs.Picture.{plane_width, plane_height, units as units_in};
 ghost use Rattle.cdef_spec.specs.Questions.{first_no, flags_taken, picture_listed, visible_taken, variances_taken, picture_taken};
@@ -86,6 +88,7 @@ pub fn units(f: Frame) -> usize
 }
 
 // 7: the visible size is 1 to the luma sides.
+#[tactic(auto, unfolding(cdef_spec::specs::Questions::visible_taken, frame_shape::specs::Frame::picture_of))]
 pub fn visible_taken(f: Frame, v: Visible) -> bool
     ensures { (s d vs : List ℕ) → result ≡ visible_taken (picture_of f s d vs) v }
 {

@@ -9,7 +9,7 @@ use filter_rows::{Strength, Taps};
 
 // The filter parameters of the twelve: the taps of direction 0, used where the signalled primary is 0, those of the block's own direction,
 // three primary strengths and two secondary ones. The fourth primary and the third secondary are 0.
-#[derive(Drop)]
+#[derive(Clone, Copy)]
 pub struct Twelve {
     pub zero: Taps,
     pub own: Taps,

@@ -16,7 +16,7 @@ use plane_taps::{load, plain};
 pub mod limits; // limits.rt: the least and the greatest of each sample and its taps
 
 // The sums of three primary strengths.
-#[derive(Drop)]
+#[derive(Clone, Copy)]
 pub struct PriSums {
     pub p1: [i16; 16],
     pub p2: [i16; 16],
@@ -24,7 +24,7 @@ pub struct PriSums {
 }
 
 // The sums of two secondary strengths.
-#[derive(Drop)]
+#[derive(Clone, Copy)]
 pub struct SecSums {
     pub s1: [i16; 16],
     pub s2: [i16; 16],

@@ -9,7 +9,7 @@ use filter_limits::Pairs;
 use filter_rows::Taps;
 use plane_taps::load;
 
-#[derive(Drop)]
+#[derive(Clone, Copy)]
 pub struct Limits {
     pub lo: [u16; 16],
     pub hi: [u16; 16],

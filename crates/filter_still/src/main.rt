@@ -28,7 +28,7 @@ fn main(rt: HostRuntime) -> io::Result<()> {
         primary.as_str(),
         secondary.as_str(),
     )? {
-        Asked::Request(r) => room::filter(&rt, names, r),
+        Asked::Request(r) => room::filter(&rt, rt.alloc(), names, r),
         Asked::Wrong => Ok(()),
     }
 }

@@ -1,11 +1,12 @@
-// Room for the file, the planes and the totals: all of it in two frames of the stack, and borrowed from there.
-ghost use Rattle.std.specs.Prelude.{◌*◌, ◌≤◌, ◌≡◌, true, length};
+// Room for the file, the planes and the totals: that of the file and the planes on the heap, that of the totals on the stack, and borrowed from there.
+ghost use Rattle.std.specs.Prelude.{◌*◌, ◌≤◌, ◌≡◌, true, length, IfOk};
 ghost use Rattle.still_pgm.specs.Sizes.{is_taken};
 ghost use Rattle.still_lists.specs.Lists.{Counted};
 
 use crate::report;
 use crate::request::{Names, Request};
 use cdef_spec::Visible;
+use std::alloc::{AllocError, Global};
 use std::io;
 use std::rt::Files;
 use still_files::files::Picture;
@@ -16,19 +17,38 @@ use still_pgm::sizes;
 use still_steps::steps::Job;
 use still_steps::{space, steps};
 
-pub fn filter(rt: &(impl Files + Print + Eprint), names: Names<'_>, r: Request) -> io::Result<()> {
-    let mut file = [0u8; 1_580_000];
-    let mut still = [0u16; 786_432];
-    let mut original = [0u16; 786_432];
-    let mut filtered = [0u16; 786_432];
+// Bytes, all of them 0.
+fn bytes(alloc: Global, n: usize) -> Result<Vec<u8>, AllocError>
+    ensures { IfOk result (λ v. length v.items ≡ n) }
+{
+    vec![in alloc; 0; n]
+}
+
+// Samples, all of them 0.
+fn samples(alloc: Global, n: usize) -> Result<Vec<u16>, AllocError>
+    ensures { IfOk result (λ v. length v.items ≡ n) }
+{
+    vec![in alloc; 0; n]
+}
+
+pub fn filter(
+    rt: &(impl Files + Print + Eprint),
+    alloc: Global,
+    names: Names<'_>,
+    r: Request,
+) -> io::Result<()> {
+    let mut file = bytes(alloc, 1_580_000)?;
+    let mut still = samples(alloc, 786_432)?;
+    let mut original = samples(alloc, 786_432)?;
+    let mut filtered = samples(alloc, 786_432)?;
     pictures(
         rt,
         names,
         r,
-        &mut file,
-        &mut still,
-        &mut original,
-        &mut filtered,
+        file.as_mut_slice(),
+        still.as_mut_slice(),
+        original.as_mut_slice(),
+        filtered.as_mut_slice(),
     )
 }
 

@@ -1,4 +1,6 @@
 // The checks of the direction pass.
+#![tactic(auto)]
+
 ghost use Rattle.std.specs.Prelude.{◌≡◌};
 ghost use Rattle.cdef_spec.specs.FrameCalls.{direction_pass_no};
 

@@ -1,5 +1,5 @@
 -- The twelve trial blocks from a list of samples whose taps lie at wrapped offsets; marks as in trial_sums. Definitions only.
-use Rattle.std.specs.Prelude.{cond, List, ◌≡◌, ℕ, ◌+◌, ◌/◌, ◌%◌, ◌≤◌, eqb, ℤ, ◌+ℤ◌, get_or}
+use Rattle.std.specs.Prelude.{cond, List, ◌≡◌, ℕ, ◌+◌, ◌/◌, ◌%◌, eqb, ℤ, ◌+ℤ◌, get_or}
 use Rattle.std.specs.Int.Signed.{mag}
 use Rattle.cdef_spec.specs.Standard.{Tap, sample}
 use Rattle.cdef_spec.specs.LoopForm.{put_row}

@@ -1,4 +1,6 @@
 // Sixteen samples of the twelve trial blocks, from their sums.
+#![tactic(auto)]
+
 ghost use Rattle.std.specs.Prelude.{◌≡◌, true, ℕ, ◌+◌, ◌≤◌, length};
 ghost use Rattle.cdef_spec.specs.LoopForm.{put_block};
 ghost use Rattle.arith_sample.specs.Bounds.{Held, Within};

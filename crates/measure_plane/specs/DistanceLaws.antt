@@ -108,8 +108,11 @@ module _ (f : Frame) (h : Shaped f) (v : Visible) (s ds vs : List ℕ) (by bx : 
 
       pub measured-low : Sampled f plane → Sampled f original → measured_distance q d v plane original p by bx < 2 ^ 53
       unfolding measured_distance
-      measured-low gp go = distance-low _ _ (λ i j hi hj. (unfold at_place in go.low _, here (is_off p) i j hi hj))
+      measured-low gp go = distance-low _ _ (λ i j hi hj. (wanted go i j, here (is_off p) i j hi hj))
         where
+          wanted : Sampled f original → (i j : ℕ) → at_place q original (by * block_height q + i) (bx * block_width q + j) < 2 ^ f.depth
+          wanted s i j = unfold at_place in s.low _
+
           unmarked-all : (k : ℕ) → get_or plane k 0 < mark
           unmarked-all k = omega (arith, sample-low f h plane gp k)
 

@@ -1,4 +1,6 @@
 // Measuring: per unit, the distance between an original and a plane, filtered with one pair or unfiltered.
+#![tactic(auto)]
+
 pub mod block; // block.rt: one block
 pub mod totals; // totals.rt: a row of blocks
 

@@ -1,5 +1,5 @@
 // The calls for applying: the snapshot filtered into a destination, each unit with its own pair of the caller's slice.
-// A function that borrows structs is proved by hand, and only gathers them for the covered function next to it.
+// A function that borrows the pairs only gathers them for the function next to it.
 ghost use Rattle.std.specs.Prelude.{◌≡◌};
 ghost use Rattle.cdef_spec.specs.Answers.{read_answer};
 ghost use Rattle.cdef_spec.specs.Picture.{luma_picture, chroma_picture};

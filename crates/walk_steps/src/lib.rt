@@ -1,3 +1,3 @@
 #![tactic(auto)]
 
-// Specs only: the steps that the proofs by hand share (walks/README.md).
+// Specs only: laws for proofs step by step over the MIR of functions that take or pass on slices of structs.

@@ -2,12 +2,14 @@
 use Rattle.std.specs.Prelude.{◌≡◌, refl, Bool, true, false, cond, List, ℕ, ◌+◌, ◌-◌, ◌*◌, ◌/◌, ◌%◌, ◌≤◌, ◌<◌, eqb, get_or, set, replicate}
 use Rattle.std.proofs.Common.{sym, ap, ◌∙◌, mul-le-mul, mul_comm, div-add-mod', eqb-true}
 use native.Mathlib.Omega.{arith}
+use Rattle.std.proofs.Math.Arith.{digits_div, digits_mod}
 use Rattle.std.proofs.lemmas.List.{length-replicate, get_or-replicate}
 use Rattle.cdef_spec.specs.Standard.{sample, missing}
 use Rattle.cdef_spec.specs.Document01.{unmarked, or_else}
 use Rattle.cdef_spec.specs.GeometryLaws.{row_of}
 use Rattle.cdef_spec.specs.LoopForm.{put_row, put_block}
 use Rattle.cdef_spec.proofs.PlaneLaws.{row_same, block_in, block_more}
+use Rattle.arith_sample.specs.Upto.{upto, get_or-upto}
 use Rattle.filter_block.specs.Store.{window_tap}
 use Rattle.filter_rows.specs.declared.Taps.{Taps}
 use Rattle.filter_rows.specs.declared.Strength.{Strength}
@@ -15,6 +17,7 @@ use Rattle.filter_rows.specs.Sums.{Near6, InRange}
 use Rattle.filter_kernel.specs.Kernel.{kernel_at}
 use Rattle.trial_runs.specs.Runs.{run_tap}
 use Rattle.trial_runs.specs.RunLaws.{run_more}
+use Rattle.trial_runs.specs.JoinLaws.{row-join}
 use Rattle.trial_strengths.specs.declared.Twelve.{Twelve}
 use Rattle.trial_strengths.specs.Strengths.{Ready}
 use Rattle.trial_any.specs.Any.{none, taps_by, primary_by, secondary_by, kernel_tap, any_tap}
@@ -91,3 +94,33 @@ trials-more win u w n l d last t o f g eo ef eg e h =
     h
     ∙ row_same d 64 (kernel_tap win o f g w) (any_tap win u w) t 0 n (λ c a b. rw (eo, ef, eg))
     ∙ rw (block_more l 64 (any_tap win u w) 0 0 n t, z, e)
+
+-- ---- row by row
+
+-- row i of w entries lies in the 64 of a trial block
+pub row_low : (i w h : ℕ) → i < h → w ≤ 8 → h ≤ 8 → i * w + w ≤ 64
+row_low i w h hi hw hh = let a : i + 1 ≤ 8 = omega arith in omega (arith, mul-le-mul a hw)
+
+module _ (win : List ℕ) (o : Taps) (f g : Strength) (w : ℕ) (hw : w ≤ 8) where
+  abbrev at : ℕ → ℕ
+  at k = kernel_at win k o f g
+
+  -- entry c of a trial block, in its row i
+  row-entry : (i c : ℕ) (v : List ℕ) → v ≡ upto (λ (j : ℕ). at ((i + 2) * 12 + 2 + j)) 8 → i * w ≤ c → c < i * w + w → get_or v (c - i * w) 0 ≡ at ((c / w + 2) * 12 + 2 + c % w)
+  row-entry i c v e lo hi =
+      let j : ℕ = c - i * w in
+      let l : j < w = omega arith in
+      let k : i * w + j ≡ c = omega arith in
+      let q : c / w ≡ i = ap (λ (n : ℕ). n / w) (sym k) ∙ digits_div i {m = w} {r = j} l in
+      let r : c % w ≡ j = ap (λ (n : ℕ). n % w) (sym k) ∙ digits_mod i {m = w} {r = j} l in
+      rw (e, get_or-upto (λ (j : ℕ). at ((i + 2) * 12 + 2 + j)) 8 j 0 (omega arith), q, r)
+
+  -- one row more
+  pub trial-more : (l d last : List ℕ) (t i : ℕ) (v : List ℕ) → v ≡ upto (λ (j : ℕ). kernel_at win ((i + 2) * 12 + 2 + j) o f g) 8
+      → d ≡ put_row l 64 (kernel_tap win o f g w) t 0 (i * w) → last ≡ put_row d 64 (run_tap v (i * w)) t (i * w) w → last ≡ put_row l 64 (kernel_tap win o f g w) t 0 ((i + 1) * w)
+  unfolding run_tap kernel_tap
+  trial-more l d last t i v ev e h =
+      let z : (i + 1) * w ≡ i * w + w = omega arith in
+      h
+      ∙ row_same d 64 (run_tap v (i * w)) (kernel_tap win o f g w) t (i * w) w (λ c a b. ap sample (row-entry i c v ev a b))
+      ∙ rw (e, z) (row-join l 64 (kernel_tap win o f g w) t (i * w) w)

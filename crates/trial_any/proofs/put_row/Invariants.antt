@@ -1,0 +1,13 @@
+-- `trial_any::put_row` meets its contract.
+use mathlib.Core.Path.{◌≡◌}
+use Prim.Native.Nat.{◌-◌, ◌≤◌}
+use lib.ListN.{length}
+use Rattle.cdef_spec.specs.LoopForm.{put_row}
+use Rattle.trial_runs.specs.Runs.{run_tap}
+use Rattle.trial_any.proofs.put_row.Given as goal
+
+abbrev pub invariant-loop-j : goal.invariant-loop-j
+invariant-loop-j l = (l.out ≡ put_row l.initial.out 64 (run_tap l.v l.k) l.t l.k l.j) × (length l.out ≡ length l.initial.out) × (l.j ≤ l.n)
+
+abbrev pub decreases-loop-j : goal.decreases-loop-j
+decreases-loop-j l = l.n - l.j

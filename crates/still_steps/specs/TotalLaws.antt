@@ -1,5 +1,5 @@
 -- Totals compared.
-use Rattle.std.specs.Prelude.{◌≡◌, refl, Bool, true, false, cond, List, ℕ, zero, suc, ◌+◌, ◌*◌, ◌≤◌, ◌<◌, get_or, ℤ, pos, negsuc}
+use Rattle.std.specs.Prelude.{◌≡◌, refl, Bool, true, false, cond, List, ℕ, zero, suc, ◌+◌, ◌*◌, ◌≤◌, get_or, ℤ, pos, negsuc}
 use Rattle.std.proofs.Common.{ap, add-one, arith, eq-eqb, ne_eqb}
 use Rattle.still_lists.specs.Lists.{same_total, differ}
 

@@ -1,5 +1,6 @@
-// Passes the first n pairs of an array as a slice to the calls that take one, for test programs.
-// A function that borrows an array of structs as a slice is proved by hand; covered code passes the array by value.
+// Passes the first n pairs of an array, which is passed by value, as a slice to the calls that take one, for test programs.
+#![tactic(auto)]
+
 ghost use Rattle.std.specs.Prelude.{◌≡◌, true, ◌≤◌, take};
 ghost use Rattle.cdef_spec.specs.Answers.{read_answer};
 ghost use Rattle.cdef_spec.specs.Picture.{luma_picture, chroma_picture};

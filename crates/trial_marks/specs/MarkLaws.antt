@@ -1,7 +1,7 @@
 -- Where marks count as values, the sums and the sample are those that leave marks out.
 use Rattle.std.specs.Prelude.{◌≡◌, List, ◌⊎◌, ℤ, neg_ℤ, ◌+ℤ◌, ◌*ℤ◌}
 use Rattle.std.proofs.Math.Path.{sym}
-use Rattle.std.proofs.Common.{ap, ◌∙◌, inl, inr, ⊎_elim, le-div_iff_mul-le, le-ltb, pow_pos}
+use Rattle.std.proofs.Common.{ap, ◌∙◌, inl, inr, le-div_iff_mul-le, le-ltb, pow_pos}
 use Prim.Native.Nat.{ℕ, ◌*◌, ◌/◌, ◌^◌, ◌≤◌, ◌<◌, min}
 use Rattle.std.proofs.Math.Decide.{ℕ_discrete}
 use native.Mathlib.Omega.{arith}

@@ -1,6 +1,6 @@
 -- Laws of blocks whose samples fill runs of sixteen.
-use Rattle.std.specs.Prelude.{◌≡◌, refl, List, ℕ, zero, suc, ◌+◌, ◌*◌, ◌/◌, ◌%◌, ◌^◌, ◌≤◌, ◌<◌, get_or}
-use Rattle.std.proofs.Common.{sym, ap, ◌∙◌, ⊎_elim, div-add-mod', mod-lt, mul-le-mul, mul-le-mul_right, div-lt_iff_lt-mul, mul_comm, arith}
+use Rattle.std.specs.Prelude.{◌≡◌, refl, List, ℕ, zero, suc, ◌+◌, ◌*◌, ◌/◌, ◌%◌, ◌≤◌, ◌<◌, get_or}
+use Rattle.std.proofs.Common.{sym, ap, ◌∙◌, div-add-mod', mod-lt, mul-le-mul_right, div-lt_iff_lt-mul, arith}
 use Rattle.std.proofs.Math.Decide.{dec_lt}
 use Rattle.cdef_spec.specs.Standard.{Tap}
 use Rattle.cdef_spec.specs.LoopForm.{put_row, put_block}
@@ -21,7 +21,7 @@ use Rattle.trial_sixteen.specs.Sixteen.{raw_tap, Strong}
 use Rattle.trial_marks.specs.Trial.{trial_tap, Tame}
 use Rattle.trial_marks.specs.TrialLaws.{trial-is, same-twelve}
 use Rattle.arith_numbers.specs.Packed.{Packed}
-use Rattle.arith_numbers.specs.PackedLaws.{width_low, runs-are, area, few}
+use Rattle.arith_numbers.specs.PackedLaws.{width_low, runs-are, area}
 
 module _ (w h : ℕ) (k : Packed w h) where
   rows-low : (h + 4) * w ≤ 12 * w

@@ -1,16 +1,15 @@
 -- THE TWELVE TRIALS OF A WINDOW ARE THE FILTERED SAMPLES of the plane.
-use Rattle.std.specs.Prelude.{◌≡◌, Bool, true, false, cond, List, eqb, get_or}
+use Rattle.std.specs.Prelude.{◌≡◌, false, List, eqb, get_or}
 use Rattle.std.proofs.Math.Path.{refl, ap}
 use Prim.Native.Nat.{ℕ, zero, suc, ◌+◌, ◌-◌, ◌*◌, ◌/◌, ◌%◌, ◌^◌, ◌≤◌, ◌<◌, max}
 use Rattle.std.proofs.Common.{mul_comm, zero-mul, arith}
 use Rattle.cdef_spec.specs.declared.Block.{Block}
 use Rattle.cdef_spec.specs.declared.FilterParams.{FilterParams}
 use Rattle.cdef_spec.specs.declared.TrialWay.{TrialWay}
-use Rattle.cdef_spec.specs.declared.TrialWay.TheVariants.{Luma, Chroma}
 use Rattle.cdef_spec.specs.declared.WorkingDamping.{WorkingDamping}
-use Rattle.cdef_spec.specs.Words.{◌>>◌, ◌<<◌}
-use Rattle.cdef_spec.specs.Standard.{sample, adjust_pri}
-use Rattle.cdef_spec.specs.Document01.{Plane, mark, or_else, filtered, primaries, secondaries, trial_pair, luma_params, chroma_params}
+use Rattle.cdef_spec.specs.Words.{◌<<◌}
+use Rattle.cdef_spec.specs.Standard.{sample}
+use Rattle.cdef_spec.specs.Document01.{Plane, mark, or_else, filtered, primaries, secondaries}
 use Rattle.cdef_spec.specs.GeometryLaws.{row_of}
 use Rattle.cdef_spec.specs.BlockCalls.{trial_params}
 use Rattle.arith_sample.specs.Bounds.{Held}

@@ -1,4 +1,6 @@
 // The trial of a block: twelve trial blocks from its window, in strips where its samples fill runs of sixteen.
+#![tactic(auto)]
+
 pub mod block; // block.rt: the trial of a block of a plane
 
 ghost use Rattle.std.specs.Prelude.{◌≡◌, true, ℕ, ◌+◌, ◌*◌, ◌≤◌, ◌<◌, length};
@@ -12,6 +14,14 @@ ghost use Rattle.arith_numbers.specs.Packed.{Packed};
 
 use filter_rows::Taps;
 use trial_strengths::Twelve;
+
+// Whether a block's samples fill runs of sixteen, in rows of four or of eight.
+fn packs(w: usize, h: usize) -> bool
+    requires { (w ≤ 8) × (h ≤ 8) }
+    ensures { result ≡ true → Packed w h }
+{
+    arith_numbers::packs(w, h)
+}
 
 // The first n runs of sixteen entries of the twelve trial blocks.
 fn runs(

@@ -31,10 +31,10 @@ pub loop-k-smaller : goal.loop-k-smaller
 loop-k-smaller c = omega arith
 
 pub loop-k-preserved : goal.loop-k-preserved
-loop-k-preserved c = let p = c.before.before in (upto-more _ _ _ _ p.loop-k.invariant.0 (omega arith) refl, simp length-set p.loop-k.invariant.1, omega arith, p.loop-k.invariant.3)
+loop-k-preserved c = (upto-more _ _ _ _ c.loop-k.invariant.0 (omega arith) refl, simp length-set c.loop-k.invariant.1, omega arith, c.loop-k.invariant.3)
 
 pub shape_of-dst : goal.shape_of-dst
-shape_of-dst c = let p = c.before in p.loop-k.invariant.1
+shape_of-dst c = c.loop-k.invariant.1
 
 pub returns : goal.returns
-returns c = let p = c.before in copy_done _ _ _ c.before.before.if-dst-snapshot.false (upto_all _ _ _ _ p.loop-k.invariant.0 (p.loop-k.invariant.1 ∙ c.before.before.if-dst-snapshot.false) (omega arith))
+returns c = copy_done _ _ _ c.if-dst-snapshot.false (upto_all _ _ _ _ c.loop-k.invariant.0 (c.loop-k.invariant.1 ∙ c.if-dst-snapshot.false) (omega arith))

@@ -1,7 +1,6 @@
 -- `agree_parts::trial_pairs` meets its contract.
 use mathlib.Core.Path.{refl, ◌∙◌}
 use native.Mathlib.Omega.{arith}
-use borrow.Author.Rules.{rules}
 use Rattle.agree_parts.specs.PartLaws.{every-none, every_more, many-pairs, few-pairs}
 use Rattle.agree_parts.proofs.trial_pairs.Goals as goal
 
@@ -14,15 +13,6 @@ loop-u-init c = (every-none _, omega arith, refl)
 pub bounds-pris-u : goal.bounds-pris-u
 bounds-pris-u c = omega arith
 
-pub at_or_zero-secondary-requires : goal.at_or_zero-secondary-requires
-at_or_zero-secondary-requires c = search rules
-
-pub is_trial_pair-this-requires : goal.is_trial_pair-this-requires
-is_trial_pair-this-requires c = search rules
-
-pub both-all-requires : goal.both-all-requires
-both-all-requires c = search rules
-
 pub overflow_step-u : goal.overflow_step-u
 overflow_step-u c = omega arith
 
@@ -30,7 +20,7 @@ pub loop-u-smaller : goal.loop-u-smaller
 loop-u-smaller c = omega arith
 
 pub loop-u-preserved : goal.loop-u-preserved
-loop-u-preserved c = let p = c.before.before.before.before.before in (every_more _ _ _ _ _ p.loop-u.invariant.0 (c.before.is_trial_pair-this.ensures ∙ rw c.before.before.at_or_zero-secondary.ensures) c.both-all.ensures, omega arith, p.loop-u.invariant.2)
+loop-u-preserved c = (every_more _ _ _ _ _ c.loop-u.invariant.0 (c.is_trial_pair-this.ensures ∙ rw c.at_or_zero-secondary.ensures) c.both-all.ensures, omega arith, c.loop-u.invariant.2)
 
 pub returns : goal.returns
-returns c = let p = c.before in few-pairs _ _ _ _ (omega arith) (omega arith) p.loop-u.invariant.0
+returns c = few-pairs _ _ _ _ (omega arith) (omega arith) c.loop-u.invariant.0

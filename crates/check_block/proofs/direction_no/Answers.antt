@@ -9,40 +9,37 @@ use Rattle.check_block.specs.Parts.{plane_first}
 use Rattle.check_block.specs.PartLaws.{plane-yes}
 use Rattle.check_block.specs.DirectionLaws.{no-plane, no-corner, no_cut, no_none}
 use Rattle.check_block.proofs.direction_no.Goals as goal
-use Rattle.check_block.proofs.direction_no.Goals.{Start}
-use Rattle.check_block.proofs.direction_no.Lts as steps
-use Rattle.check_block.proofs.direction_no.Tie as tie
-use Rattle.check_block.proofs.direction_no.Reads as reads
-
-abbrev Upto-Else-no-ne0 : Type 0
-Upto-Else-no-ne0 = steps.Else1 tie.the-claims reads.Pre reads.Post tie.handed_clauses
-
-abbrev Upto-Else-not-corner_taken : Type 0
-Upto-Else-not-corner_taken = steps.Else2 tie.the-claims reads.Pre reads.Post tie.handed_clauses
-
-abbrev plane_of : Start → Plane
-plane_of s = record { samples = s.args.plane.now; width = s.args.width; height = s.args.height }
-
-zero : (c : Upto-Else-no-ne0) → let s = c.before.before.before in first_no (plane_first (plane_of s) s.args.depth) ≡ 0
-zero c = sym c.before.plane_no-no.ensures ∙ c.if-no-ne0.false
-
-corner-yes : (c : Upto-Else-not-corner_taken) → let s = c.before.before.before.before.before in corner_taken (plane_of s) s.args.y s.args.x ≡ true
-corner-yes c = yes-so (c.before.corner_taken.ensures c.before.before.before.before.before.args.plane.now) c.if-not-corner_taken.false
 
 pub returns-then-no-ne0 : goal.returns-then-no-ne0
-returns-then-no-ne0 c = let s = c.before.before.before in no-plane (plane_of s.before) s.args.depth s.args.y s.args.x _ c.before.plane_no-no.ensures c.if-no-ne0.true
+returns-then-no-ne0 c =
+    let plane_of : Plane = record { samples = c.args.plane.now; width = c.args.width; height = c.args.height } in
+    no-plane plane_of c.args.depth c.args.y c.args.x _ c.plane_no-no.ensures c.if-no-ne0.true
 
 pub returns-then-not-corner_taken : goal.returns-then-not-corner_taken
-returns-then-not-corner_taken c = let s = c.before.before.before.before.before in no-corner (plane_of s.before) s.args.depth s.args.y s.args.x (zero c.before.before.before) (no-so (c.before.corner_taken.ensures s.args.plane.now) c.if-not-corner_taken.true)
+returns-then-not-corner_taken c =
+    let plane_of : Plane = record { samples = c.args.plane.now; width = c.args.width; height = c.args.height } in
+    let zero : first_no (plane_first plane_of c.args.depth) ≡ 0 = sym c.plane_no-no.ensures ∙ c.if-no-ne0.false in
+    no-corner plane_of c.args.depth c.args.y c.args.x zero (no-so (c.corner_taken.ensures c.args.plane.now) c.if-not-corner_taken.true)
 
 pub cut_taken-requires : goal.cut_taken-requires
-cut_taken-requires c = let s = c.before.before.before.before.before in
-    let f = plane-yes (plane_of s.before) s.args.depth (zero c.before.before.before) in
-    let k = corner-low (plane_of s.before) s.args.y s.args.x (corner-yes c.before) in
+cut_taken-requires c =
+    let plane_of : Plane = record { samples = c.args.plane.now; width = c.args.width; height = c.args.height } in
+    let zero : first_no (plane_first plane_of c.args.depth) ≡ 0 = sym c.plane_no-no.ensures ∙ c.if-no-ne0.false in
+    let corner-yes : corner_taken plane_of c.args.y c.args.x ≡ true = yes-so (c.corner_taken.ensures c.args.plane.now) c.if-not-corner_taken.false in
+    let f = plane-yes plane_of c.args.depth zero in
+    let k = corner-low plane_of c.args.y c.args.x corner-yes in
     record { plane_len = f.full_is; width_bound = (f.wide, f.high, k.0, k.1, f.flat) }
 
 pub returns-then-not-cut_taken : goal.returns-then-not-cut_taken
-returns-then-not-cut_taken c = let s = c.before.before.before.before.before.before.before in no_cut (plane_of s.before) s.args.depth s.args.y s.args.x (zero c.before.before.before.before.before) (corner-yes c.before.before.before) (no-so {test = cut_taken (plane_of s.before) s.args.depth s.args.y s.args.x} c.before.cut_taken.ensures c.if-not-cut_taken.true)
+returns-then-not-cut_taken c =
+    let plane_of : Plane = record { samples = c.args.plane.now; width = c.args.width; height = c.args.height } in
+    let zero : first_no (plane_first plane_of c.args.depth) ≡ 0 = sym c.plane_no-no.ensures ∙ c.if-no-ne0.false in
+    let corner-yes : corner_taken plane_of c.args.y c.args.x ≡ true = yes-so (c.corner_taken.ensures c.args.plane.now) c.if-not-corner_taken.false in
+    no_cut plane_of c.args.depth c.args.y c.args.x zero corner-yes (no-so {test = cut_taken plane_of c.args.depth c.args.y c.args.x} c.cut_taken.ensures c.if-not-cut_taken.true)
 
 pub returns : goal.returns
-returns c = let s = c.before.before.before.before.before.before.before in no_none (plane_of s.before) s.args.depth s.args.y s.args.x (zero c.before.before.before.before.before) (corner-yes c.before.before.before) (yes-so {test = cut_taken (plane_of s.before) s.args.depth s.args.y s.args.x} c.before.cut_taken.ensures c.if-not-cut_taken.false)
+returns c =
+    let plane_of : Plane = record { samples = c.args.plane.now; width = c.args.width; height = c.args.height } in
+    let zero : first_no (plane_first plane_of c.args.depth) ≡ 0 = sym c.plane_no-no.ensures ∙ c.if-no-ne0.false in
+    let corner-yes : corner_taken plane_of c.args.y c.args.x ≡ true = yes-so (c.corner_taken.ensures c.args.plane.now) c.if-not-corner_taken.false in
+    no_none plane_of c.args.depth c.args.y c.args.x zero corner-yes (yes-so {test = cut_taken plane_of c.args.depth c.args.y c.args.x} c.cut_taken.ensures c.if-not-cut_taken.false)

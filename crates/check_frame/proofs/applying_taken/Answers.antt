@@ -3,7 +3,7 @@ use Rattle.check_sides.specs.Said.{no-so, yes-so}
 use Rattle.check_frame.proofs.applying_taken.Goals as goal
 
 pub returns-then-not-all_primary : goal.returns-then-not-all_primary
-returns-then-not-all_primary c = rw (no-so c.before.all_primary.ensures c.if-not-all_primary.true)
+returns-then-not-all_primary c = rw (no-so c.all_primary.ensures c.if-not-all_primary.true)
 
 pub returns : goal.returns
-returns c = rw (yes-so c.before.before.all_primary.ensures c.before.if-not-all_primary.false) c.all_secondary.ensures
+returns c = rw (yes-so c.all_primary.ensures c.if-not-all_primary.false) c.all_secondary.ensures

@@ -10,7 +10,7 @@ pub bounds-list-k : goal.bounds-list-k
 bounds-list-k c = omega arith
 
 pub returns-then-m-list : goal.returns-then-m-list
-returns-then-m-list c = no-below _ _ _ c.before.before.loop-k-test.true c.if-m-list.true
+returns-then-m-list c = no-below _ _ _ c.loop-k-test.true c.if-m-list.true
 
 pub overflow_step-k : goal.overflow_step-k
 overflow_step-k c = omega arith
@@ -19,7 +19,7 @@ pub loop-k-smaller : goal.loop-k-smaller
 loop-k-smaller c = omega arith
 
 pub loop-k-preserved : goal.loop-k-preserved
-loop-k-preserved c = let p = c.before.before.before in let a = p.before.args in (more-below a.m a.list.now p.loop-k.k p.loop-k.invariant.0 c.if-m-list.false, omega arith)
+loop-k-preserved c = (more-below c.args.m c.args.list.now c.loop-k.k c.loop-k.invariant.0 c.if-m-list.false, omega arith)
 
 pub returns : goal.returns
-returns c = let p = c.before in yes-below _ _ _ p.loop-k.invariant.0 (omega arith)
+returns c = yes-below _ _ _ c.loop-k.invariant.0 (omega arith)

@@ -14,7 +14,7 @@ bounds-list-k c = omega arith
 
 pub returns-then-list-k-gt15 : goal.returns-then-list-k-gt15
 unfolding primary_taken
-returns-then-list-k-gt15 c = no-at primary_taken _ _ c.before.before.loop-k-test.true (lt-leb _ 15 c.if-list-k-gt15.true)
+returns-then-list-k-gt15 c = no-at primary_taken _ _ c.loop-k-test.true (lt-leb _ 15 c.if-list-k-gt15.true)
 
 pub overflow_step-k : goal.overflow_step-k
 overflow_step-k c = omega arith
@@ -24,7 +24,7 @@ loop-k-smaller c = omega arith
 
 pub loop-k-preserved : goal.loop-k-preserved
 unfolding primary_taken
-loop-k-preserved c = let p = c.before.before.before in (every_more _ _ p.loop-k.invariant.0 (le-leb (get_or p.before.args.list.now p.loop-k.k 0) 15 c.if-list-k-gt15.false), omega arith)
+loop-k-preserved c = (every_more _ _ c.loop-k.invariant.0 (le-leb (get_or c.args.list.now c.loop-k.k 0) 15 c.if-list-k-gt15.false), omega arith)
 
 pub returns : goal.returns
-returns c = let p = c.before in yes-all primary_taken _ _ p.loop-k.invariant.0 (omega arith)
+returns c = yes-all primary_taken _ _ c.loop-k.invariant.0 (omega arith)

@@ -52,17 +52,13 @@ pub loop-k-smaller : goal.loop-k-smaller
 loop-k-smaller c = omega arith
 
 pub loop-k-preserved : goal.loop-k-preserved
-loop-k-preserved c = let p = c.before.before.before.before.before in
-    let a = p.before.args in
-    (four-more a.depth a.list.now _ p.loop-k.bits p.loop-k.k p.loop-k.invariant.0, omega arith)
+loop-k-preserved c = (four-more c.args.depth c.args.list.now _ c.loop-k.bits c.loop-k.k c.loop-k.invariant.0, omega arith)
 
 pub overflow_step-k-2 : goal.overflow_step-k-2
 overflow_step-k-2 c = omega arith
 
 pub loop-k-2-init : goal.loop-k-2-init
-loop-k-2-init c = let p = c.before in
-    let a = p.before.args in
-    (four-all a.depth a.list.now _ p.loop-k.bits p.loop-k.k p.loop-k.invariant.0 (omega arith), omega arith)
+loop-k-2-init c = (four-all c.args.depth c.args.list.now _ c.loop-k.bits c.loop-k.k c.loop-k.invariant.0 (omega arith), omega arith)
 
 pub offset_bounds-list-k-in-loop-k-2 : goal.offset_bounds-list-k-in-loop-k-2
 offset_bounds-list-k-in-loop-k-2 c = omega arith
@@ -77,9 +73,7 @@ pub loop-k-2-smaller : goal.loop-k-2-smaller
 loop-k-2-smaller c = omega arith
 
 pub loop-k-2-preserved : goal.loop-k-2-preserved
-loop-k-2-preserved c = let p = c.before.before in
-    let a = p.before.before.before.args in
-    (bits-more a.depth a.list.now p.loop-k-2.bits p.loop-k-2.k p.loop-k-2.invariant.0, omega arith)
+loop-k-2-preserved c = (bits-more c.args.depth c.args.list.now c.loop-k-2.bits c.loop-k-2.k c.loop-k-2.invariant.0, omega arith)
 
 pub overflow_cast-result-2 : goal.overflow_cast-result-2
 overflow_cast-result-2 c = omega arith
@@ -88,6 +82,4 @@ pub overflow_shr-result : goal.overflow_shr-result
 overflow_shr-result c = omega arith
 
 pub returns : goal.returns
-returns c = let p = c.before in
-    let a = p.before.before.before.args in
-    bits-say a.depth a.list.now p.loop-k-2.bits p.loop-k-2.k p.loop-k-2.invariant.0 (omega arith)
+returns c = bits-say c.args.depth c.args.list.now c.loop-k-2.bits c.loop-k-2.k c.loop-k-2.invariant.0 (omega arith)

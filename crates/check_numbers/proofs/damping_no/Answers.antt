@@ -2,16 +2,12 @@
 use Rattle.cdef_spec.specs.Questions.{first_no}
 use Rattle.cdef_spec.specs.BlockCalls.{damping_no}
 use Rattle.check_sides.specs.Said.{no-so, yes-so}
-use borrow.Author.Rules.{rules}
 use Rattle.check_numbers.proofs.damping_no.Goals as goal
-
-pub index_taken-requires : goal.index_taken-requires
-index_taken-requires c = search rules
 
 pub returns-then-not-index_taken : goal.returns-then-not-index_taken
 unfolding damping_no first_no
-returns-then-not-index_taken c = rw (no-so c.before.index_taken.ensures c.if-not-index_taken.true)
+returns-then-not-index_taken c = rw (no-so c.index_taken.ensures c.if-not-index_taken.true)
 
 pub returns : goal.returns
 unfolding damping_no first_no
-returns c = rw (yes-so c.before.index_taken.ensures c.if-not-index_taken.false)
+returns c = rw (yes-so c.index_taken.ensures c.if-not-index_taken.false)

@@ -7,12 +7,12 @@ use Rattle.check_picture.proofs.flags_taken.Goals as goal
 
 pub returns-then-f : goal.returns-then-f
 unfolding flags_taken
-returns-then-f c = λ vs. rw (kind-luma c.before.args.f vs c.if-f.true)
+returns-then-f c = λ vs. rw (kind-luma c.args.f vs c.if-f.true)
 
 pub returns-then-f-gt1 : goal.returns-then-f-gt1
 unfolding flags_taken
-returns-then-f-gt1 c = let f = c.before.before.before.args.f in λ vs. rw (kind-chroma f vs c.before.before.if-f.false, le-ltb f.sx 2 c.if-f-gt1.true)
+returns-then-f-gt1 c = λ vs. rw (kind-chroma c.args.f vs c.if-f.false, le-ltb c.args.f.sx 2 c.if-f-gt1.true)
 
 pub returns : goal.returns
 unfolding flags_taken
-returns c = let f = c.before.before.before.before.args.f in λ vs. rw (kind-chroma f vs c.before.before.before.if-f.false, lt-ltb f.sx 2 (omega (arith, c.before.if-f-gt1.false)))
+returns c = λ vs. rw (kind-chroma c.args.f vs c.if-f.false, lt-ltb c.args.f.sx 2 (omega (arith, c.if-f-gt1.false)))

@@ -5,12 +5,12 @@ use Rattle.check_picture.proofs.values_no.Goals as goal
 
 pub returns-then-not-picture_taken : goal.returns-then-not-picture_taken
 unfolding first_no
-returns-then-not-picture_taken c = rw (no-so c.before.picture_taken.ensures c.if-not-picture_taken.true)
+returns-then-not-picture_taken c = rw (no-so c.picture_taken.ensures c.if-not-picture_taken.true)
 
 pub returns-then-not-vals : goal.returns-then-not-vals
 unfolding first_no
-returns-then-not-vals c = rw (yes-so c.before.before.picture_taken.ensures c.before.if-not-picture_taken.false, c.if-not-vals.true)
+returns-then-not-vals c = rw (yes-so c.picture_taken.ensures c.if-not-picture_taken.false, c.if-not-vals.true)
 
 pub returns : goal.returns
 unfolding first_no
-returns c = rw (yes-so c.before.before.picture_taken.ensures c.before.if-not-picture_taken.false, c.if-not-vals.false)
+returns c = rw (yes-so c.picture_taken.ensures c.if-not-picture_taken.false, c.if-not-vals.false)

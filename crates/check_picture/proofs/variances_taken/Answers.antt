@@ -5,8 +5,8 @@ use Rattle.check_picture.proofs.variances_taken.Goals as goal
 
 pub returns-then-f : goal.returns-then-f
 unfolding variances_taken
-returns-then-f c = let a = c.before.before.before.args in rw (kind-luma a.f a.vars.now c.before.if-f.true) c.all_below_u32.ensures
+returns-then-f c = rw (kind-luma c.args.f c.args.vars.now c.if-f.true) c.all_below_u32.ensures
 
 pub returns : goal.returns
 unfolding variances_taken
-returns c = let a = c.before.before.args in rw (kind-chroma a.f a.vars.now c.if-f.false)
+returns c = rw (kind-chroma c.args.f c.args.vars.now c.if-f.false)

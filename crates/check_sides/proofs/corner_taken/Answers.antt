@@ -4,7 +4,7 @@ use Rattle.cdef_spec.specs.Questions.{corner_taken}
 use Rattle.check_sides.proofs.corner_taken.Goals as goal
 
 pub returns-then-width-x : goal.returns-then-width-x
-returns-then-width-x c = unfold corner_taken in λ s. rw (le-ltb c.before.args.x c.before.args.width c.if-width-x.true)
+returns-then-width-x c = unfold corner_taken in λ s. rw (le-ltb c.args.x c.args.width c.if-width-x.true)
 
 pub returns : goal.returns
-returns c = unfold corner_taken in λ s. rw (lt-ltb c.before.args.x c.before.args.width c.if-width-x.false)
+returns c = unfold corner_taken in λ s. rw (lt-ltb c.args.x c.args.width c.if-width-x.false)

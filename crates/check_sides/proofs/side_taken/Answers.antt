@@ -9,4 +9,4 @@ pub returns-then-n-eq0 : goal.returns-then-n-eq0
 returns-then-n-eq0 c = unfold side_taken in rw c.if-n-eq0.true
 
 pub returns : goal.returns
-returns c = unfold side_taken in let h : 1 ≤ c.before.args.n = omega arith in rw (le-leb 1 c.before.args.n h)
+returns c = unfold side_taken in let h : 1 ≤ c.args.n = omega arith in rw (le-leb 1 c.args.n h)

@@ -22,10 +22,8 @@ high (pos n) t = refl
 high (negsuc n) t = sym (le-leb (suc n) 4095 (omega (arith, ltb-false 4094 n t)))
 
 pub returns-then-difference-ltminus4095 : goal.returns-then-difference-ltminus4095
-returns-then-difference-ltminus4095 c = let z = c.before.args.difference in
-    low z (rw (to_z-of_z w32 z c.before.ranges.difference) at c.if-difference-ltminus4095.true)
+returns-then-difference-ltminus4095 c = low c.args.difference (rw (to_z-of_z w32 c.args.difference c.ranges.difference) at c.if-difference-ltminus4095.true)
 
 pub returns : goal.returns
-returns c = let z = c.before.args.difference in
-    let e = to_z-of_z w32 z c.before.ranges.difference in
-    rw e (high z (rw e at c.if-difference-ltminus4095.false))
+returns c = let e = to_z-of_z w32 c.args.difference c.ranges.difference in
+    rw e (high c.args.difference (rw e at c.if-difference-ltminus4095.false))

@@ -8,7 +8,6 @@ use lib.Dec.{leb}
 use Rattle.cdef_spec.specs.declared.FilterParams.{FilterParams}
 use Rattle.cdef_spec.specs.Questions.{working_taken, params_taken}
 use Rattle.arith_strength.specs.StrengthLaws.{limit}
-use borrow.Author.Rules.{rules}
 use Rattle.check_values.proofs.params_taken.Goals as goal
 
 module _ (q : FilterParams) where
@@ -28,26 +27,14 @@ module _ (q : FilterParams) where
   unfolding params_taken working_taken
   rest h g k = rw (le-leb q.pri (15 * 2 ^ (q.depth - 8)) h, le-leb q.sec (4 * 2 ^ (q.depth - 8)) g, lt-ltb q.dir 8 k)
 
-pub overflow_sub-shift : goal.overflow_sub-shift
-overflow_sub-shift c = search rules
-
-pub overflow_cast-shift : goal.overflow_cast-shift
-overflow_cast-shift c = search rules
-
-pub overflow_shl-shift : goal.overflow_shl-shift
-overflow_shl-shift c = search rules
-
 pub returns-then-shift-q : goal.returns-then-shift-q
-returns-then-shift-q c = let s = c.before.before.before in no-pri s.args.q (omega (arith, limit 15 s.args.q.depth (omega arith) s.requires.1, c.if-shift-q.true))
-
-pub overflow_shl-shift-2 : goal.overflow_shl-shift-2
-overflow_shl-shift-2 c = search rules
+returns-then-shift-q c = no-pri c.args.q (omega (arith, limit 15 c.args.q.depth (omega arith) c.requires.1, c.if-shift-q.true))
 
 pub returns-then-shift-q-2 : goal.returns-then-shift-q-2
-returns-then-shift-q-2 c = let s = c.before.before.before.before.before in let d = s.args.q.depth in no-sec s.args.q (omega (arith, limit 15 d (omega arith) s.requires.1, c.before.before.if-shift-q.false)) (omega (arith, limit 4 d (omega arith) s.requires.1, c.if-shift-q-2.true))
+returns-then-shift-q-2 c = let d = c.args.q.depth in no-sec c.args.q (omega (arith, limit 15 d (omega arith) c.requires.1, c.if-shift-q.false)) (omega (arith, limit 4 d (omega arith) c.requires.1, c.if-shift-q-2.true))
 
 pub returns-then-q-gt7 : goal.returns-then-q-gt7
-returns-then-q-gt7 c = let s = c.before.before.before.before.before.before.before in let d = s.args.q.depth in no-dir s.args.q (omega (arith, limit 15 d (omega arith) s.requires.1, c.before.before.before.before.if-shift-q.false)) (omega (arith, limit 4 d (omega arith) s.requires.1, c.before.before.if-shift-q-2.false)) (omega (arith, c.if-q-gt7.true))
+returns-then-q-gt7 c = let d = c.args.q.depth in no-dir c.args.q (omega (arith, limit 15 d (omega arith) c.requires.1, c.if-shift-q.false)) (omega (arith, limit 4 d (omega arith) c.requires.1, c.if-shift-q-2.false)) (omega (arith, c.if-q-gt7.true))
 
 pub returns : goal.returns
-returns c = let s = c.before.before.before.before.before.before.before.before in let d = s.args.q.depth in rest s.args.q (omega (arith, limit 15 d (omega arith) s.requires.1, c.before.before.before.before.before.if-shift-q.false)) (omega (arith, limit 4 d (omega arith) s.requires.1, c.before.before.before.if-shift-q-2.false)) (omega (arith, c.before.if-q-gt7.false))
+returns c = let d = c.args.q.depth in rest c.args.q (omega (arith, limit 15 d (omega arith) c.requires.1, c.if-shift-q.false)) (omega (arith, limit 4 d (omega arith) c.requires.1, c.if-shift-q-2.false)) (omega (arith, c.if-q-gt7.false))

@@ -30,17 +30,18 @@ module _ (d s : List ℕ) (y0 w h : ℕ) (b : Block) where
       go (yes k) = rw (le-leb (n - y0) (length d / w) k, le-leb n (y0 + length d / w) (omega arith))
       go (no k) = rw (lt-leb (n - y0) (length d / w) (omega arith), lt-leb n (y0 + length d / w) (omega arith))
 
-end_is : (c : After-row_known-1) → let a = c.before.before.before.before.before.before.args in c.before.if-below-height.end ≡ min (a.b.y + a.b.height) a.height
-end_is c = elim c.before.if-below-height.branch [ then-below-height w ↦ omega arith | else-below-height w ↦ omega arith ]
-
 pub returns-then-dst-width-ne0 : goal.returns-then-dst-width-ne0
 returns-then-dst-width-ne0 c = λ s. no_rows _ s _ _ _ _ c.if-dst-width-ne0.true
 
 pub returns-then-b-y0 : goal.returns-then-b-y0
-returns-then-b-y0 c = λ s. no_start _ s _ _ _ _ c.before.before.if-dst-width-ne0.false (omega arith)
+returns-then-b-y0 c = λ s. no_start _ s _ _ _ _ c.if-dst-width-ne0.false (omega arith)
 
 pub overflow_sub-result : goal.overflow_sub-result
-overflow_sub-result c = omega (arith, end_is c, c.before.before.before.before.before.before.requires.1)
+overflow_sub-result c =
+    let end_is : c.if-below-height.end ≡ min (c.args.b.y + c.args.b.height) c.args.height = elim c.if-below-height.branch [ then-below-height w ↦ omega arith | else-below-height w ↦ omega arith ] in
+    omega (arith, end_is, c.requires.1)
 
 pub returns : goal.returns
-returns c = λ s. by_end _ s _ _ _ _ c.before.before.before.before.before.if-dst-width-ne0.false (omega arith) _ (end_is c) (omega (arith, end_is c, c.before.before.before.before.before.before.requires.1))
+returns c =
+    let end_is : c.if-below-height.end ≡ min (c.args.b.y + c.args.b.height) c.args.height = elim c.if-below-height.branch [ then-below-height w ↦ omega arith | else-below-height w ↦ omega arith ] in
+    λ s. by_end _ s _ _ _ _ c.if-dst-width-ne0.false (omega arith) _ end_is (omega (arith, end_is, c.requires.1))

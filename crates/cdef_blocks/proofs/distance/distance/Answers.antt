@@ -1,0 +1,48 @@
+-- `cdef_blocks::distance::distance` meets its contract.
+use Rattle.std.proofs.Common.{arith, ◌≡◌, ℕ, ◌<◌, ◌^◌, List, sym, ap, ◌∙◌, pos, w64}
+use mir.ValLaws.{to_z_pos}
+use Rattle.cdef_spec.specs.Document01.{Plane}
+use Rattle.cdef_spec.specs.BlockCalls.{plane_distance, distance_no}
+use Rattle.distance_block.specs.PlaneLaws.{distance-low}
+use Rattle.check_block.specs.DistanceLaws.{distance-facts, distance-refused, distance-done}
+use Rattle.cdef_blocks.proofs.distance.distance.Goals as goal
+
+abbrev plane_of : List ℕ → ℕ → ℕ → Plane
+plane_of s w h = record { samples = s; width = w; height = h }
+
+pub returns-then-no-ne0 : goal.returns-then-no-ne0
+returns-then-no-ne0 c =
+    let p = plane_of c.args.orig.now c.args.width c.args.height in
+    distance-refused p c.args.other.now c.args.depth c.args.y c.args.x _ c.distance_no-no.ensures c.if-no-ne0.true
+
+pub constants_of-c-requires : goal.constants_of-c-requires
+constants_of-c-requires c =
+    let p = plane_of c.args.orig.now c.args.width c.args.height in
+    let zero : distance_no p c.args.other.now c.args.depth c.args.y c.args.x ≡ 0 = sym c.distance_no-no.ensures ∙ c.if-no-ne0.false in
+    let f = distance-facts p c.args.other.now c.args.depth c.args.y c.args.x zero in
+    (f.plane.deep, f.plane.flat)
+
+pub cdef_dist_8x8-d-requires : goal.cdef_dist_8x8-d-requires
+cdef_dist_8x8-d-requires c =
+    let p = plane_of c.args.orig.now c.args.width c.args.height in
+    let zero : distance_no p c.args.other.now c.args.depth c.args.y c.args.x ≡ 0 = sym c.distance_no-no.ensures ∙ c.if-no-ne0.false in
+    let f = distance-facts p c.args.other.now c.args.depth c.args.y c.args.x zero in
+    record { orig_len = (f.plane.full_is, f.other-full); width_bound = (f.plane.wide, f.plane.high, f.x-in, f.y-in); by_index = (c.args.depth, record { deep = f.plane.deep; flat = f.plane.flat; is = c.constants_of-c.ensures }, f.cut, f.other_cut) }
+
+pub overflow_cast-result : goal.overflow_cast-result
+overflow_cast-result c =
+    let p = plane_of c.args.orig.now c.args.width c.args.height in
+    let zero : distance_no p c.args.other.now c.args.depth c.args.y c.args.x ≡ 0 = sym c.distance_no-no.ensures ∙ c.if-no-ne0.false in
+    let f = distance-facts p c.args.other.now c.args.depth c.args.y c.args.x zero in
+    let is : c.cdef_dist_8x8-d.result ≡ plane_distance p c.args.other.now c.args.depth c.args.y c.args.x = c.cdef_dist_8x8-d.ensures _ c.constants_of-c.ensures in
+    let low : c.cdef_dist_8x8-d.result < 2 ^ 53 = rw is (distance-low c.args.orig.now c.args.other.now c.args.width c.args.height c.args.depth c.args.y c.args.x f.plane.full_is f.other-full f.x-in f.y-in f.plane.deep f.plane.flat f.cut f.other_cut) in
+    record { sfits = omega (arith, low) }
+
+pub returns : goal.returns
+returns c =
+    let p = plane_of c.args.orig.now c.args.width c.args.height in
+    let zero : distance_no p c.args.other.now c.args.depth c.args.y c.args.x ≡ 0 = sym c.distance_no-no.ensures ∙ c.if-no-ne0.false in
+    let f = distance-facts p c.args.other.now c.args.depth c.args.y c.args.x zero in
+    let is : c.cdef_dist_8x8-d.result ≡ plane_distance p c.args.other.now c.args.depth c.args.y c.args.x = c.cdef_dist_8x8-d.ensures _ c.constants_of-c.ensures in
+    let low : c.cdef_dist_8x8-d.result < 2 ^ 53 = rw is (distance-low c.args.orig.now c.args.other.now c.args.width c.args.height c.args.depth c.args.y c.args.x f.plane.full_is f.other-full f.x-in f.y-in f.plane.deep f.plane.flat f.cut f.other_cut) in
+    distance-done _ _ _ _ _ _ zero (to_z_pos w64 _ (omega (arith, low)) ∙ ap pos is)

@@ -1,4 +1,5 @@
 -- `trial_block::block::trial_window` meets its contract.
+use native.Mathlib.Omega.{arith}
 use Rattle.arith_sample.specs.BoundLaws.{marked-held}
 use Rattle.trial_strengths.specs.StrengthLaws.{twelve-ready}
 use Rattle.trial_marks.specs.TrialLaws.{quiet-twelve}
@@ -14,7 +15,7 @@ pub packs-requires : goal.packs-requires
 packs-requires c = search rules
 
 pub by_strips-requires : goal.by_strips-requires
-by_strips-requires c = let s = c.before.before.before.before.before.before.before in let a = s.args in (s.requires.out_len.0, c.before.before.packs.ensures c.before.if-packs.true, s.requires.out_len.3, s.requires.dir_bound.0, rw c.before.before.before.before.before.strengths-u.ensures (strong-twelve a.way a.dir a.damping a.depth s.requires.dir_bound.0 s.requires.dir_bound.3), rw c.before.before.before.before.before.strengths-u.ensures (quiet-twelve a.way a.dir a.damping a.depth c.before.before.before.if-damping-le12.true s.requires.dir_bound.3))
+by_strips-requires c = let s = c.before.before.before.before.before.before.before in let a = s.args in (s.requires.out_len.0, c.before.before.packs.ensures c.before.if-packs.true, s.requires.out_len.3, s.requires.dir_bound.0, rw c.before.before.before.before.before.strengths-u.ensures (strong-twelve a.way a.dir a.damping a.depth s.requires.dir_bound.0 s.requires.dir_bound.3), rw c.before.before.before.before.before.strengths-u.ensures (quiet-twelve a.way a.dir a.damping a.depth (omega arith) s.requires.dir_bound.3))
 
 pub shape_of-out-then-packs : goal.shape_of-out-then-packs
 shape_of-out-then-packs c = search rules

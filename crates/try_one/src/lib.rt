@@ -1,4 +1,6 @@
 // Trying: one block of a plane.
+#![tactic(auto)]
+
 ghost use Rattle.std.specs.Prelude.{◌≡◌, ◌+◌, ◌*◌, ◌/◌, ◌<◌, length};
 ghost use Rattle.cdef_spec.specs.Distance.{constants_of};
 ghost use Rattle.cdef_spec.specs.LoopForm.{signed};

@@ -11,7 +11,7 @@ ghost use Rattle.try_whole.specs.Whole.{spreads_of, errors_of, weights_of, whole
 use cdef_spec::DistanceConstants;
 
 // Of twelve trial blocks: their spreads, and their squared differences from an original; `none` is 64 zeros.
-#[derive(Drop)]
+#[derive(Clone, Copy)]
 pub struct Sums {
     pub spreads: [u64; 12],
     pub errors: [u64; 12],

@@ -1,4 +1,6 @@
 // Applying with the pairs as two plain lists, for C. Validation and promise are those of cdef::applying; no function here requires anything.
+#![tactic(auto)]
+
 ghost use Rattle.std.specs.Prelude.{◌≡◌};
 ghost use Rattle.cdef_spec.specs.Answers.{read_answer};
 ghost use Rattle.cdef_spec.specs.Picture.{luma_picture, chroma_picture};

@@ -1,4 +1,6 @@
 // The frame calls for luma and chroma at once: the checks, then the core. Each returns the error code of the first failed check, or 0 where the work is done.
+#![tactic(auto)]
+
 ghost use Rattle.std.specs.Prelude.{◌≡◌, true};
 ghost use Rattle.cdef_spec.specs.FrameCalls.{trying_no, trying_outcome, measuring_no, measuring_outcome, applying_lists_no, applying_lists_outcome};
 ghost use Rattle.frame_shape.specs.Frame.{picture_of};

@@ -1,0 +1,47 @@
+-- `cdef::pass::direction_pass` meets its contract.
+use mathlib.Core.Path.{◌≡◌, sym, ◌∙◌}
+use Rattle.cdef_answer.specs.JoinLaws.{pass-joined}
+use borrow.Author.Rules.{rules}
+use Rattle.cdef_spec.specs.Answers.{read_answer}
+use Rattle.cdef_spec.specs.Document01.{Plane}
+use Rattle.cdef_spec.specs.FrameCalls.{direction_pass_no}
+use Rattle.check_pass.specs.PassLaws.{PassFacts}
+use Rattle.check_pass.specs.PassLaws.{pass-facts}
+use Rattle.frame_calls.specs.OutcomeLaws.{pass-refused, pass-done}
+use borrow.Author.Rules.{rules}
+use Rattle.cdef.proofs.pass.direction_pass.Goals as goal
+
+pub direction_pass_no-no-requires : goal.direction_pass_no-no-requires
+direction_pass_no-no-requires c = search rules
+
+pub shape_of-dirs-then-no-ne0 : goal.shape_of-dirs-then-no-ne0
+shape_of-dirs-then-no-ne0 c = search rules
+
+pub shape_of-vars-then-no-ne0 : goal.shape_of-vars-then-no-ne0
+shape_of-vars-then-no-ne0 c = search rules
+
+pub returns-then-no-ne0 : goal.returns-then-no-ne0
+unfolding read_answer
+returns-then-no-ne0 c =
+    let plane_of : Plane = record { samples = c.args.plane.now; width = c.args.width; height = c.args.height } in
+    pass-joined _ _ _ _ (pass-refused plane_of c.args.depth c.args.dirs.now c.args.vars.now _ c.direction_pass_no-no.ensures c.if-no-ne0.true)
+
+pub direction_pass-requires : goal.direction_pass-requires
+direction_pass-requires c =
+    let plane_of : Plane = record { samples = c.args.plane.now; width = c.args.width; height = c.args.height } in
+    let taken : direction_pass_no plane_of c.args.depth c.args.dirs.now c.args.vars.now ≡ 0 = sym c.direction_pass_no-no.ensures ∙ c.if-no-ne0.false in
+    let facts : PassFacts plane_of c.args.depth c.args.dirs.now c.args.vars.now = pass-facts plane_of c.args.depth c.args.dirs.now c.args.vars.now taken in
+    let g = facts in record { plane_len = (g.full_is, g.dirs-long, g.vars-long); le_width = (g.w-low, g.wide, g.w-whole, g.h-low, g.high, g.h-whole, g.deep, g.flat); by_index = g.low }
+
+pub shape_of-dirs : goal.shape_of-dirs
+shape_of-dirs c = search rules
+
+pub shape_of-vars : goal.shape_of-vars
+shape_of-vars c = search rules
+
+pub returns : goal.returns
+unfolding read_answer
+returns c =
+    let plane_of : Plane = record { samples = c.args.plane.now; width = c.args.width; height = c.args.height } in
+    let taken : direction_pass_no plane_of c.args.depth c.args.dirs.now c.args.vars.now ≡ 0 = sym c.direction_pass_no-no.ensures ∙ c.if-no-ne0.false in
+    pass-joined _ _ _ _ (pass-done plane_of c.args.depth c.args.dirs.now c.args.vars.now taken _ _ c.direction_pass.ensures.dirs_after c.direction_pass.ensures.vars_after)

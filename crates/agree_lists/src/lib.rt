@@ -1,4 +1,6 @@
 // Trying, applying and measuring, one call after the other, with the pairs as two lists, and the agreement of their totals.
+#![tactic(auto)]
+
 pub mod chroma; // chroma.rt: in a chroma plane
 pub mod luma; // luma.rt: in luma
 

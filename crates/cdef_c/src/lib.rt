@@ -1,4 +1,6 @@
 // The C entries. A call returns its error code (RULES, Questions), 0 where the work is done, and writes only then.
+#![tactic(auto)]
+
 mod answer; // answer.rt: answers as error codes
 pub mod applying; // applying.rt: a plane filtered
 pub mod direction; // direction.rt: the direction of a block

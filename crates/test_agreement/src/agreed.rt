@@ -7,7 +7,7 @@ use cdef_spec::{DampingAnswer, DampingChoice, SignalledDamping, UnitPair, Visibl
 use testlib_pictures::{lists, picture};
 
 // What the three calls return, and the totals that they leave.
-#[derive(Clone, Copy)]
+#[derive(Drop)]
 pub struct Outcome {
     pub answer: Agreement,
     pub tried: [i64; 72],

@@ -12,6 +12,7 @@ pub mod FrameCalls
 pub mod Demand3
 -- The forms that the code uses.
 pub mod CodeForm
+pub mod Lent
 pub mod LoopForm
 -- Laws: of the definitions, and that the code's forms equal them.
 pub mod WordsLaws

@@ -1,6 +1,8 @@
 // The plain data that the calls take and return. No code.
 #![tactic(auto)]
 
+pub mod full; // full.rt: a plane whose samples are as many as its sides say
+
 // The damping as the frame header carries it, 3 to 6.
 #[derive(Clone, Copy)]
 pub struct SignalledDamping(pub u8);
@@ -110,4 +112,51 @@ pub enum DirectionAnswer {
 pub enum DistanceAnswer {
     Distance(i64),
     NoDistance(u8),
+}
+
+// Why a call refuses its input: the first of its checks that fails. The number of each is its error code (RULES, Questions).
+#[derive(Clone, Copy, Debug, PartialEq, Eq)]
+pub enum Refusal {
+    Depth = 1,
+    Sides = 2,
+    Subsampling = 3,
+    PlaneLength = 4,
+    Position = 5,
+    Destination = 6,
+    Lengths = 7,
+    Values = 8,
+    Samples = 9,
+}
+
+// The direction of a block, 0 to 7, and its variance.
+#[derive(Clone, Copy, Debug, PartialEq, Eq)]
+pub struct Found {
+    pub direction: u8,
+    pub variance: u32,
+}
+
+// A plane as a call receives it, nothing of it checked: its samples row by row, and its sides.
+#[derive(Clone, Copy)]
+pub struct Plane<'a> {
+    pub samples: &'a [u16],
+    pub width: usize,
+    pub height: usize,
+}
+
+// Which plane of a picture: luma, with a variance per block; or a chroma plane, with its two subsampling flags.
+#[derive(Clone, Copy)]
+pub enum PlaneKind<'a> {
+    Luma { vars: &'a [u32] },
+    Chroma { sx: u8, sy: u8 },
+}
+
+// What the frame calls share of a plane of a picture, nothing of it checked. The sides are luma's; per block a skip flag and a direction.
+#[derive(Clone, Copy)]
+pub struct Picture<'a> {
+    pub kind: PlaneKind<'a>,
+    pub depth: u8,
+    pub width: usize,
+    pub height: usize,
+    pub skip: &'a [u8],
+    pub dirs: &'a [u8],
 }

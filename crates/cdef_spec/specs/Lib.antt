@@ -15,6 +15,7 @@ pub mod CodeForm
 pub mod Lent
 pub mod LoopForm
 -- Laws: of the definitions, and that the code's forms equal them.
+pub mod AnswerLaws
 pub mod WordsLaws
 pub mod SignedLaws
 pub mod ConstrainLaws

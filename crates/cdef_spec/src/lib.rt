@@ -2,6 +2,7 @@
 #![tactic(auto)]
 
 pub mod full; // full.rt: a plane whose samples are as many as its sides say
+pub mod codes; // codes.rt: refusals as error codes and as text
 
 // The damping as the frame header carries it, 3 to 6.
 #[derive(Clone, Copy)]

@@ -5,3 +5,4 @@ pub mod HeldLaws
 pub mod Upto
 pub mod Bounds
 pub mod BoundLaws
+pub mod FromFn

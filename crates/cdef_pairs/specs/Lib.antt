@@ -1,3 +1,6 @@
+pub mod Applying
+pub mod EachLaws
+pub mod KindLaws
 pub mod Gather
 pub mod GatherLaws
 pub mod PairLaws

@@ -2,10 +2,120 @@
 // `gather` copies the slice into an array by value.
 #![tactic(auto)]
 
-ghost use Rattle.std.specs.Prelude.{◌≡◌, [], ◌≤◌, ◌<◌};
+ghost use Rattle.std.specs.Prelude.{◌≡◌, Bool, List, [], ℕ, ◌≤◌, ◌<◌, ◌&&◌, eqb, get_or, length};
+ghost use Rattle.cdef_spec.specs.declared.UnitPair.{UnitPair};
+ghost use Rattle.cdef_spec.specs.Picture.{pair_at};
+ghost use Rattle.cdef_spec.specs.Questions.{all_taken, pair_taken, primary_taken, secondary_taken};
+ghost use Rattle.cdef_spec.specs.FrameCalls.{pairs_of};
+ghost use Rattle.cdef_pairs.specs.Applying.{PairsLaws};
+ghost use Rattle.cdef_pairs.specs.KindLaws.{lists-as-many, lists-taken, slice-as-many, slice-taken};
 ghost use Rattle.cdef_pairs.specs.Gather.{gathered, primaries, secondaries};
 
 use cdef_spec::UnitPair;
+
+// A list of unit pairs, however the caller keeps it, and its own tests of questions 7 and 8.
+pub trait Pairs {
+    // the pair of each unit
+    ghost pairs: { Self → List UnitPair };
+
+    // 7: it has an entry for each of so many units
+    ghost listed: { Self → ℕ → Bool };
+
+    // 8: its strengths
+    ghost taken: { Self → Bool };
+
+    fn is_listed(&self, n: usize) -> bool
+        ensures { result ≡ listed self.now n };
+
+    fn are_taken(&self) -> bool
+        ensures { result ≡ taken self.now };
+
+    // How many pairs there are.
+    fn count(&self) -> usize
+        ensures { result ≡ length (pairs self.now) };
+
+    // The pair of unit u.
+    fn pair(&self, u: usize) -> UnitPair
+        requires { u < length (pairs self.now) }
+        ensures { result ≡ pair_at (pairs self.now) u };
+
+    ghost laws: { PairsLaws pairs listed taken };
+}
+
+// A slice with the pair of each unit.
+#[derive(Clone, Copy)]
+pub struct PairSlice<'a> {
+    pub units: &'a [UnitPair],
+}
+
+impl<'a> Pairs for PairSlice<'a> {
+    ghost pairs = { λ s. s.units.now };
+
+    ghost listed = { λ s n. eqb (length s.units.now) n };
+
+    ghost taken = { λ s. all_taken pair_taken s.units.now };
+
+    fn is_listed(&self, n: usize) -> bool {
+        self.units.len() == n
+    }
+
+    fn are_taken(&self) -> bool {
+        self.units.iter().all(|p| check_values::pair_taken(*p))
+    }
+
+    fn count(&self) -> usize {
+        self.units.len()
+    }
+
+    fn pair(&self, u: usize) -> UnitPair {
+        self.units[u]
+    }
+
+    ghost laws = { record { as-many = λ s n e. slice-as-many s.units.now n e; taken-is = λ s n e. slice-taken s.units.now } };
+}
+
+// A list with the primary strength of each unit, and one with the secondary strengths. Their lengths are tested by question 7.
+#[derive(Clone, Copy)]
+pub struct StrengthLists<'a> {
+    pub pris: &'a [u8],
+    pub secs: &'a [u8],
+}
+
+// Entry k of a list, 0 past its end.
+fn at_or_zero(list: &[u8], k: usize) -> u8
+    ensures { result ≡ get_or list.now k 0 }
+{
+    list.get(k).copied().unwrap_or(0)
+}
+
+impl<'a> Pairs for StrengthLists<'a> {
+    ghost pairs = { λ s. pairs_of s.pris.now s.secs.now };
+
+    ghost listed = { λ s n. eqb (length s.pris.now) n && eqb (length s.secs.now) n };
+
+    ghost taken = { λ s. all_taken primary_taken s.pris.now && all_taken secondary_taken s.secs.now };
+
+    fn is_listed(&self, n: usize) -> bool {
+        self.pris.len() == n && self.secs.len() == n
+    }
+
+    fn are_taken(&self) -> bool {
+        check_lists::all_primary(self.pris) && check_lists::all_secondary(self.secs)
+    }
+
+    fn count(&self) -> usize {
+        self.pris.len()
+    }
+
+    fn pair(&self, u: usize) -> UnitPair {
+        UnitPair {
+            primary: self.pris[u],
+            secondary: at_or_zero(self.secs, u),
+        }
+    }
+
+    ghost laws = { record { as-many = λ s n e. lists-as-many s.pris.now s.secs.now n e; taken-is = λ s n e. lists-taken s.pris.now s.secs.now n e } };
+}
 
 // A primary and a secondary strength for each of 4,096 units, as many as the largest picture has.
 #[derive(Clone, Copy)]

@@ -1,5 +1,9 @@
 -- A plane of a picture, as the cores receive it.
 pub mod Frame
+pub mod Shape
+pub mod Checked
+pub mod ShapeLaws
+pub mod CountLaws
 -- What the cores require.
 pub mod Lent
 -- Laws of its picture.

@@ -1,0 +1,30 @@
+-- `frame_shape::checked::ShapedPicture::unit_at` meets its contract.
+use Rattle.std.proofs.Common.{ℕ, ◌+◌, ◌*◌, ◌/◌, ◌≤◌, refl, arith}
+use Rattle.std.proofs.Math.Nat.{mul-le-mul}
+use Rattle.cdef_spec.specs.Lent.{picture_in}
+use Rattle.cdef_spec.specs.Picture.{unit_at}
+use Rattle.frame_shape.specs.ShapeLaws.{luma-sides}
+use Rattle.frame_shape.proofs.checked.ShapedPicture.unit_at.Goals as goal
+
+-- the first unit of a row of units
+low : (by width : ℕ) → by ≤ 512 → width ≤ 4096 → by / 8 * ((width + 63) / 64) ≤ 64 * 64
+low by width hy hw =
+    let a : by / 8 ≤ 64 = omega arith in
+    let b : (width + 63) / 64 ≤ 64 = omega arith in
+    mul-le-mul a b
+
+pub overflow_add-result : goal.overflow_add-result
+unfolding picture_in
+overflow_add-result c = let h = luma-sides _ c.args.self.now.shaped in omega arith
+
+pub overflow_mul-result : goal.overflow_mul-result
+unfolding picture_in
+overflow_mul-result c = omega (arith, low _ _ c.requires.0 (luma-sides _ c.args.self.now.shaped).0)
+
+pub overflow_add-result-2 : goal.overflow_add-result-2
+unfolding picture_in
+overflow_add-result-2 c = omega (arith, low _ _ c.requires.0 (luma-sides _ c.args.self.now.shaped).0, c.requires.1)
+
+pub returns : goal.returns
+unfolding unit_at picture_in
+returns c = refl

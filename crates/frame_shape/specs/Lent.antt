@@ -1,8 +1,8 @@
 -- What the cores require of the lists passed to them. Definitions only.
 use Rattle.std.specs.Prelude.{◌≡◌, true, List, ℕ, ◌+◌, ◌*◌, ◌/◌, ◌^◌, ◌≤◌, ◌<◌, get_or, length}
-use Rattle.cdef_spec.specs.declared.SignalledDamping.{SignalledDamping}
 use Rattle.cdef_spec.specs.declared.Visible.{Visible}
 use Rattle.frame_shape.specs.declared.Frame.{Frame}
+pub use Rattle.frame_shape.specs.Shape.{InForce}
 
 -- the numbers of blocks, units and samples
 abbrev pub blocks_of : Frame → ℕ
@@ -30,11 +30,6 @@ pub record Sampled (f : Frame) (s : List ℕ) : Type 0 where
 pub record Seen (f : Frame) (v : Visible) : Type 0 where
   pub wide : v.width ≤ f.width
   pub high : v.height ≤ f.height
-
--- the figure in force
-pub record InForce (d : SignalledDamping) : Type 0 where
-  pub least : 3 ≤ d.0
-  pub most : d.0 ≤ 6
 
 -- a primary and a secondary strength per unit
 pub record Paired (f : Frame) (pris secs : List ℕ) : Type 0 where

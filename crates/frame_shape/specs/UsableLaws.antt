@@ -11,7 +11,7 @@ use Rattle.cdef_spec.specs.Document01.{luma_damping, chroma_damping, luma_params
 use Rattle.cdef_spec.specs.Picture.{PlaneKind, luma, chroma, params_for}
 use Rattle.arith_strength.specs.StrengthLaws.{limit-low, adjust-low}
 use Rattle.filter_block.specs.Store.{Usable}
-use Rattle.frame_shape.specs.Lent.{InForce}
+use Rattle.frame_shape.specs.Shape.{InForce}
 
 or-zero : (b : Bool) (i : ℕ) → i < 8 → cond b 0 i < 8
 or-zero true i h = omega arith

@@ -7,6 +7,8 @@ ghost use Rattle.cdef_spec.specs.Questions.{first_no, flags_taken, picture_liste
 ghost use Rattle.frame_shape.specs.Frame.{Shaped, kind_of, picture_of};
 ghost use Rattle.check_picture.specs.Parts.{sides_first, shape_first, lists_next, values_next, samples_last};
 
+pub mod checks; // checks.rt: the questions, in order
+
 use cdef_spec::{SignalledDamping, Visible};
 use frame_shape::Frame;
 

@@ -4,6 +4,7 @@ ghost use Rattle.cdef_spec.specs.Answers.{read_distance};
 ghost use Rattle.cdef_spec.specs.BlockCalls.{distance_outcome, squares_outcome};
 
 use cdef_spec::DistanceAnswer;
+use cdef_spec::full::FullPlane;
 
 // The weighted distance of the 8 by 8 blocks at (x, y); plain squares where they cross the right or bottom edge.
 pub fn distance(
@@ -23,7 +24,12 @@ pub fn distance(
         return DistanceAnswer::NoDistance(no);
     }
     let c = distance_weight::constants_of(depth);
-    let d = distance_block::cdef_dist_8x8(orig, other, width, height, x, y, c);
+    let plane = FullPlane {
+        samples: orig,
+        width,
+        height,
+    };
+    let d = distance_block::cdef_dist_8x8(&plane, other, x, y, c);
     DistanceAnswer::Distance(d as i64)
 }
 
@@ -44,6 +50,11 @@ pub fn squares(
     if no != 0 {
         return DistanceAnswer::NoDistance(no);
     }
-    let d = distance_block::block_sse_8x8(orig, other, width, height, x, y);
+    let plane = FullPlane {
+        samples: orig,
+        width,
+        height,
+    };
+    let d = distance_block::block_sse_8x8(&plane, other, x, y);
     DistanceAnswer::Distance(d as i64)
 }

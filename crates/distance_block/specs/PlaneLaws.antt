@@ -1,5 +1,5 @@
 -- From blocks to planes: the block at a corner, cropped to the plane, and its distances (RULES, Distance).
-use Rattle.std.specs.Prelude.{◌≡◌, refl, Bool, true, false, ◌&&◌, List, leb, get_or, length}
+use Rattle.std.specs.Prelude.{◌≡◌, refl, Bool, true, false, ◌&&◌, ◌⊎◌, List, leb, get_or, length}
 use Rattle.std.proofs.Common.{ap, ◌∙◌, inl, inr, lt_of_lt_of_le, mul_comm, mul-le-mul_right, pow_mono}
 use Prim.Native.Nat.{ℕ, ◌+◌, ◌-◌, ◌*◌, ◌^◌, ◌≤◌, ◌<◌, min}
 use native.Mathlib.Omega.{arith}
@@ -7,7 +7,9 @@ use borrow.Author.Tests.{ltb-true, le-leb, lt-leb}
 use Rattle.std.proofs.Math.Arith.{digits_lt}
 use Rattle.cdef_spec.specs.WordsLaws.{every-at}
 use Rattle.cdef_spec.specs.Document01.{Plane}
+use Rattle.cdef_spec.specs.declared.full.FullPlane.{FullPlane}
 use Rattle.cdef_spec.specs.Questions.{sample_taken, looked_at, cut_taken}
+use Rattle.cdef_spec.specs.Lent.{plane_in_full}
 use Rattle.cdef_spec.specs.Words.{sum}
 use Rattle.cdef_spec.specs.Distance.{squared_difference, squares, constants_of, weighted_distance}
 use Rattle.cdef_spec.specs.BlockCalls.{in_plane, plane_squares, plane_distance}
@@ -18,6 +20,10 @@ use Rattle.distance_block.specs.WeightedLaws.{weighted-same, weighted-64-low}
 
 abbrev pub sized : List ℕ → ℕ → ℕ → Plane
 sized s w h = record { samples = s; width = w; height = h }
+
+-- the other samples, with the plane's sides
+unfoldable pub beside : FullPlane → List ℕ → Plane
+beside p t = sized t p.width p.height
 
 pub place-low : (w h r c : ℕ) → r < h → c < w → r * w + c < w * h
 place-low w h r c hr hc = rw (mul_comm w h) (digits_lt {q = r} {m = h} {r = c} {c = w} hr hc)
@@ -112,3 +118,26 @@ module _ (s t : List ℕ) (w h depth y x : ℕ) (fs : length s ≡ w * h) (ft : 
               (block-below t (y * w + x) w (2 ^ depth) (whole-within t w h (2 ^ depth) y x a b (cut-within t w h depth y x ft hx hy ct))))
         ]
   ]
+
+-- ---- a plane and another of its sides
+
+module _ (p : FullPlane) (t : List ℕ) (depth y x : ℕ) (long : length t ≡ p.width * p.height) (hx : x < p.width) (hy : y < p.height) where
+  pub own-within : cut_taken (plane_in_full p) depth y x ≡ true → Within p.samples.now (y * p.width + x) p.width (min 8 (p.height - y)) (min 8 (p.width - x)) (2 ^ depth)
+  unfolding plane_in_full
+  own-within c = cut-within p.samples.now p.width p.height depth y x p.full hx hy c
+
+  pub other-within : cut_taken (beside p t) depth y x ≡ true → Within t (y * p.width + x) p.width (min 8 (p.height - y)) (min 8 (p.width - x)) (2 ^ depth)
+  unfolding beside
+  other-within c = cut-within t p.width p.height depth y x long hx hy c
+
+  pub past-edge : (p.width < x + 8) ⊎ (p.height < y + 8) → plane_distance (plane_in_full p) t depth y x ≡ plane_squares (plane_in_full p) t y x
+  unfolding plane_in_full
+  past-edge (inl l) = past-right p.samples.now t p.width p.height y x depth l
+  past-edge (inr l) = past-bottom p.samples.now t p.width p.height y x depth l
+
+  module _ (ix : x + 8 ≤ p.width) (iy : y + 8 ≤ p.height) where
+    pub own-whole : cut_taken (plane_in_full p) depth y x ≡ true → Within p.samples.now (y * p.width + x) p.width 8 8 (2 ^ depth)
+    own-whole c = whole-within _ _ p.height _ _ _ ix iy (own-within c)
+
+    pub other-whole : cut_taken (beside p t) depth y x ≡ true → Within t (y * p.width + x) p.width 8 8 (2 ^ depth)
+    other-whole c = whole-within _ _ p.height _ _ _ ix iy (other-within c)

@@ -1,13 +1,15 @@
 // The trial of a block of a plane.
 ghost use Rattle.std.specs.Prelude.{◌≡◌, ◌≤◌, ◌<◌, length};
 ghost use Rattle.cdef_spec.specs.Words.{table};
+ghost use Rattle.cdef_spec.specs.Lent.{plane_in_full};
 ghost use Rattle.cdef_spec.specs.Document01.{Plane};
 ghost use Rattle.cdef_spec.specs.BlockCalls.{trial_place};
 ghost use Rattle.arith_sample.specs.Bounds.{Marked};
 ghost use Rattle.arith_sample.specs.Upto.{upto};
-ghost use Rattle.filter_window.specs.Window.{plane_of, window_at};
+ghost use Rattle.filter_window.specs.Window.{window_at};
 ghost use Rattle.filter_window.specs.Spans.{InPlane};
 
+use cdef_spec::full::FullPlane;
 use cdef_spec::{Block, TrialWay, WorkingDamping};
 
 // Twelve trial blocks from a block's window. A block of other sides, or with a damping at which a mark's difference may count, is filtered trial by trial.
@@ -35,22 +37,21 @@ pub fn trial_window(
     trial_any::trials(out, b.width, b.height, win, u);
 }
 
-// Twelve trial blocks of 64 entries of a block of the plane src, w by h.
+// Twelve trial blocks of 64 entries of a block of a plane.
 pub fn cdef_block_candidates(
     out: &mut [u16],
-    src: &[u16],
-    w: usize,
-    h: usize,
+    src: &FullPlane<'_>,
     b: Block,
     way: TrialWay,
     dir: u8,
     damping: WorkingDamping,
     depth: u8,
 )
-    requires in_plane { InPlane src.now w h b × Marked (upto (window_at (plane_of src.now w h) b) 144) × (length out.old ≡ 768) }
+    requires on_plane { InPlane src.now.samples.now src.now.width src.now.height b × Marked (upto (window_at (plane_in_full src.now) b) 144)
+        × (length out.old ≡ 768) }
     requires dir_bound { (dir < 8) × (damping.0 ≤ 31) × (8 ≤ depth) × (depth ≤ 12) }
-    ensures { out.new ≡ table 768 (trial_place (plane_of src.now w h) b way dir damping depth out.old) }
+    ensures { out.new ≡ table 768 (trial_place (plane_in_full src.now) b way dir damping depth out.old) }
 {
-    let win = filter_window::window(src, w, h, b);
+    let win = filter_window::window(src.samples, src.width, src.height, b);
     trial_window(out, &win, b, way, dir, damping, depth);
 }

@@ -7,6 +7,7 @@ ghost use Rattle.frame_shape.specs.Frame.{Shaped, picture_of};
 ghost use Rattle.frame_shape.specs.Lent.{Listed, Sampled, Seen, InForce};
 ghost use Rattle.try_blocks.specs.TrialBlocks.{trial_blocks, visible_part};
 
+use cdef_spec::full::FullPlane;
 use cdef_spec::{Block, SignalledDamping, Visible};
 use frame_shape::{Frame, geometry, params};
 
@@ -35,14 +36,17 @@ pub fn make_trials(
 {
     let b = geometry::block_of(f, by, bx);
     let k = by * (f.width / 8) + bx;
-    let w = geometry::plane_width(f);
-    let h = geometry::plane_height(f);
+    let width = geometry::plane_width(f);
+    let height = geometry::plane_height(f);
+    let plane = FullPlane {
+        samples: snapshot,
+        width,
+        height,
+    };
     let way = params::way_of(f, vars, k);
     let dir = params::dir_of(f, dirs, k);
     let damping = params::damping_of(f, d);
-    trial_block::block::cdef_block_candidates(
-        blocks, snapshot, w, h, b, way, dir, damping, f.depth,
-    );
+    trial_block::block::cdef_block_candidates(blocks, &plane, b, way, dir, damping, f.depth);
 }
 
 // The visible part of a block that begins inside the visible area.

@@ -1,63 +1,58 @@
 -- `try_blocks::make_trials` meets its contract.
-use mathlib.Core.Path.{◌∙◌}
-use Prim.Native.Nat.{◌+◌, ◌*◌, ◌≤◌, ◌<◌}
-use native.Mathlib.Omega.{arith}
-use borrow.Author.Rules.{rules}
-use Prim.Native.Nat.{◌/◌}
-use native.Mathlib.Nat.{mul-le-mul}
+use Rattle.std.proofs.Common.{ℕ, List, ◌+◌, ◌*◌, ◌/◌, ◌≤◌, ◌<◌, ◌∙◌, mul-le-mul, arith}
+use Rattle.cdef_spec.specs.Lent.{plane_in_full}
+use Rattle.frame_shape.specs.declared.Frame.{Frame}
+use Rattle.frame_shape.specs.Frame.{Shaped}
 use Rattle.frame_shape.specs.FrameLaws.{side-facts}
-use Rattle.frame_shape.specs.Lent.{blocks_of, Listed}
 use Rattle.frame_shape.specs.BlockLaws.{counts-low, number-low, block_in, window-low}
 use Rattle.try_blocks.specs.TrialBlockLaws.{dir-low, damping-low, trials-are}
 use Rattle.try_blocks.proofs.make_trials.Goals as goal
-use Rattle.try_blocks.proofs.make_trials.Goals.{Start}
-
-listed : (s : Start) → Listed s.args.f s.requires.by_index.0 s.args.dirs.now s.args.vars.now
-listed s = s.requires.by_index.1
 
 -- the block's index
-number : (s : Start) → let a = s.args in a.by * (a.f.width / 8) + a.bx < blocks_of a.f
-number s = let a = s.args in let p = s.requires.shaped in number-low a.f p.0 s.requires.by_index.0 a.dirs.now a.vars.now a.by a.bx p.3 p.4
-
-few : (s : Start) → let a = s.args in a.by * (a.f.width / 8) + a.bx < 512 * 512
-few s = let a = s.args in
-    let x : a.f.height / 8 ≤ 512 = omega (arith, (side-facts _ s.requires.shaped.0.high).1) in
-    let y : a.f.width / 8 ≤ 512 = omega (arith, (side-facts _ s.requires.shaped.0.wide).1) in
-    omega (arith, number s, mul-le-mul x y)
+few : (f : Frame) (dirs vars : List ℕ) (by bx : ℕ) → Shaped f → List ℕ → by < f.height / 8 → bx < f.width / 8 → by * (f.width / 8) + bx < 512 * 512
+few f dirs vars by bx h l hy hx =
+    let x : f.height / 8 ≤ 512 = omega (arith, (side-facts _ h.high).1) in
+    let y : f.width / 8 ≤ 512 = omega (arith, (side-facts _ h.wide).1) in
+    omega (arith, number-low f h l dirs vars by bx hy hx, mul-le-mul x y)
 
 pub block_of-b-requires : goal.block_of-b-requires
-block_of-b-requires c = let s = c.before.before.before.before in let p = s.requires.shaped in let n = counts-low s.args.f p.0 s.requires.by_index.0 s.args.dirs.now s.args.vars.now s.args.by s.args.bx p.3 p.4 in (p.0, n.0, n.1)
+block_of-b-requires c = let p = c.requires.shaped in let n = counts-low c.args.f p.0 c.requires.by_index.0 c.args.dirs.now c.args.vars.now c.args.by c.args.bx p.3 p.4 in (p.0, n.0, n.1)
 
 pub overflow_mul-k : goal.overflow_mul-k
-overflow_mul-k c = omega (arith, few c.before.before.before.before.before.before.before)
+overflow_mul-k c = omega (arith, few c.args.f c.args.dirs.now c.args.vars.now c.args.by c.args.bx c.requires.shaped.0 c.requires.by_index.0 c.requires.shaped.3 c.requires.shaped.4)
 
 pub overflow_add-k : goal.overflow_add-k
-overflow_add-k c = omega (arith, few c.before.before.before.before.before.before.before)
+overflow_add-k c = omega (arith, few c.args.f c.args.dirs.now c.args.vars.now c.args.by c.args.bx c.requires.shaped.0 c.requires.by_index.0 c.requires.shaped.3 c.requires.shaped.4)
 
-pub plane_width-w-requires : goal.plane_width-w-requires
-plane_width-w-requires c = search rules
-
-pub plane_height-h-requires : goal.plane_height-h-requires
-plane_height-h-requires c = search rules
+pub invariant_of-plane : goal.invariant_of-plane
+invariant_of-plane c =
+    let a = c.args in
+    let p = c.requires.shaped in
+    let k = c.requires.by_index.0 in
+    let i = block_in a.f p.0 k a.dirs.now a.vars.now a.by a.bx p.3 p.4 a.snapshot.now p.1 in
+    rw (c.plane_width-width.ensures k a.dirs.now a.vars.now, c.plane_height-height.ensures k a.dirs.now a.vars.now) record { full = i.full; sides = (i.wide, i.high) }
 
 pub way_of-way-requires : goal.way_of-way-requires
-way_of-way-requires c = let s = c.before.before.before.before.before.before.before.before in λ e. omega (arith, number s.before, (listed s.before).vars-long e)
+way_of-way-requires c = λ e. omega (arith, number-low c.args.f c.requires.shaped.0 c.requires.by_index.0 c.args.dirs.now c.args.vars.now c.args.by c.args.bx c.requires.shaped.3 c.requires.shaped.4, c.requires.by_index.1.vars-long e)
 
 pub dir_of-dir-requires : goal.dir_of-dir-requires
-dir_of-dir-requires c = let s = c.before.before.before.before.before.before.before.before.before in (s.requires.shaped.0, omega (arith, number s.before, (listed s.before).dirs-long), (listed s.before).dirs-low _)
-
-pub damping_of-damping-requires : goal.damping_of-damping-requires
-damping_of-damping-requires c = search rules
+dir_of-dir-requires c = (c.requires.shaped.0, omega (arith, number-low c.args.f c.requires.shaped.0 c.requires.by_index.0 c.args.dirs.now c.args.vars.now c.args.by c.args.bx c.requires.shaped.3 c.requires.shaped.4, c.requires.by_index.1.dirs-long), c.requires.by_index.1.dirs-low _)
 
 pub cdef_block_candidates-requires : goal.cdef_block_candidates-requires
-cdef_block_candidates-requires c = let s = c.before.before.before.before.before.before.before.before.before.before.before.before in
-    let a = s.args in
-    let p = s.requires.shaped in
-    let k = s.requires.by_index.0 in
-    record { in_plane = (rw (c.before.before.before.before.before.plane_width-w.ensures k a.dirs.now a.vars.now, c.before.before.before.before.plane_height-h.ensures k a.dirs.now a.vars.now, c.before.before.before.before.before.before.before.block_of-b.ensures k a.dirs.now a.vars.now) (block_in a.f p.0 k a.dirs.now a.vars.now a.by a.bx p.3 p.4 a.snapshot.now p.1), window-low a.f p.0 a.snapshot.now p.1 _ _ _, p.5); dir_bound = (rw (c.before.before.dir_of-dir.ensures a.vars.now) (dir-low _ _ _ ((listed s.before).dirs-low _)), rw (c.before.damping_of-damping.ensures a.vars.now) (damping-low _ _ _ p.2 p.0.flat), p.0.deep, p.0.flat) }
-
-pub shape_of-blocks : goal.shape_of-blocks
-shape_of-blocks c = search rules
+unfolding plane_in_full
+cdef_block_candidates-requires c =
+    let a = c.args in
+    let p = c.requires.shaped in
+    let k = c.requires.by_index.0 in
+    record {
+      on_plane = (
+        rw (c.plane_width-width.ensures k a.dirs.now a.vars.now, c.plane_height-height.ensures k a.dirs.now a.vars.now, c.block_of-b.ensures k a.dirs.now a.vars.now) (block_in a.f p.0 k a.dirs.now a.vars.now a.by a.bx p.3 p.4 a.snapshot.now p.1),
+        window-low a.f p.0 a.snapshot.now p.1 _ _ _,
+        p.5,
+      );
+      dir_bound = (rw (c.dir_of-dir.ensures a.vars.now) (dir-low _ _ _ (c.requires.by_index.1.dirs-low _)), rw (c.damping_of-damping.ensures a.vars.now) (damping-low _ _ _ p.2 p.0.flat), p.0.deep, p.0.flat);
+    }
 
 pub returns : goal.returns
-returns c = let a = c.before.before.before.before.before.before.before.before.before.before.before.before.before.before.before.args in λ k. c.before.before.cdef_block_candidates.ensures ∙ trials-are a.f k a.dirs.now a.vars.now a.d a.snapshot.now a.by a.bx a.blocks.now _ _ _ _ _ _ (c.before.before.before.before.before.before.before.before.plane_width-w.ensures k a.dirs.now a.vars.now) (c.before.before.before.before.before.before.before.plane_height-h.ensures k a.dirs.now a.vars.now) (c.before.before.before.before.before.before.before.before.before.before.block_of-b.ensures k a.dirs.now a.vars.now) c.before.before.before.before.before.before.way_of-way.ensures (c.before.before.before.before.before.dir_of-dir.ensures a.vars.now) (c.before.before.before.before.damping_of-damping.ensures a.vars.now)
+unfolding plane_in_full
+returns c = let a = c.args in λ k. c.cdef_block_candidates.ensures ∙ trials-are a.f k a.dirs.now a.vars.now a.d a.snapshot.now a.by a.bx a.blocks.now _ _ _ _ _ _ (c.plane_width-width.ensures k a.dirs.now a.vars.now) (c.plane_height-height.ensures k a.dirs.now a.vars.now) (c.block_of-b.ensures k a.dirs.now a.vars.now) c.way_of-way.ensures (c.dir_of-dir.ensures a.vars.now) (c.damping_of-damping.ensures a.vars.now)

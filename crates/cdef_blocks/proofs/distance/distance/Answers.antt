@@ -3,7 +3,8 @@ use Rattle.std.proofs.Common.{arith, ◌≡◌, ℕ, ◌<◌, ◌^◌, List, sym
 use mir.ValLaws.{to_z_pos}
 use Rattle.cdef_spec.specs.Document01.{Plane}
 use Rattle.cdef_spec.specs.BlockCalls.{plane_distance, distance_no}
-use Rattle.distance_block.specs.PlaneLaws.{distance-low}
+use Rattle.cdef_spec.specs.Lent.{plane_in_full}
+use Rattle.distance_block.specs.PlaneLaws.{beside, distance-low}
 use Rattle.check_block.specs.DistanceLaws.{distance-facts, distance-refused, distance-done}
 use Rattle.cdef_blocks.proofs.distance.distance.Goals as goal
 
@@ -22,14 +23,23 @@ constants_of-c-requires c =
     let f = distance-facts p c.args.other.now c.args.depth c.args.y c.args.x zero in
     (f.plane.deep, f.plane.flat)
 
+pub invariant_of-plane : goal.invariant_of-plane
+invariant_of-plane c =
+    let p = plane_of c.args.orig.now c.args.width c.args.height in
+    let zero : distance_no p c.args.other.now c.args.depth c.args.y c.args.x ≡ 0 = sym c.distance_no-no.ensures ∙ c.if-no-ne0.false in
+    let f = distance-facts p c.args.other.now c.args.depth c.args.y c.args.x zero in
+    record { full = f.plane.full_is; sides = (f.plane.wide, f.plane.high) }
+
 pub cdef_dist_8x8-d-requires : goal.cdef_dist_8x8-d-requires
+unfolding plane_in_full beside
 cdef_dist_8x8-d-requires c =
     let p = plane_of c.args.orig.now c.args.width c.args.height in
     let zero : distance_no p c.args.other.now c.args.depth c.args.y c.args.x ≡ 0 = sym c.distance_no-no.ensures ∙ c.if-no-ne0.false in
     let f = distance-facts p c.args.other.now c.args.depth c.args.y c.args.x zero in
-    record { orig_len = (f.plane.full_is, f.other-full); width_bound = (f.plane.wide, f.plane.high, f.x-in, f.y-in); by_index = (c.args.depth, record { deep = f.plane.deep; flat = f.plane.flat; is = c.constants_of-c.ensures }, f.cut, f.other_cut) }
+    record { on_plane = (f.other-full, f.x-in, f.y-in); samples_taken = (c.args.depth, record { deep = f.plane.deep; flat = f.plane.flat; is = c.constants_of-c.ensures }, f.cut, f.other_cut) }
 
 pub overflow_cast-result : goal.overflow_cast-result
+unfolding plane_in_full
 overflow_cast-result c =
     let p = plane_of c.args.orig.now c.args.width c.args.height in
     let zero : distance_no p c.args.other.now c.args.depth c.args.y c.args.x ≡ 0 = sym c.distance_no-no.ensures ∙ c.if-no-ne0.false in
@@ -39,6 +49,7 @@ overflow_cast-result c =
     record { sfits = omega (arith, low) }
 
 pub returns : goal.returns
+unfolding plane_in_full
 returns c =
     let p = plane_of c.args.orig.now c.args.width c.args.height in
     let zero : distance_no p c.args.other.now c.args.depth c.args.y c.args.x ≡ 0 = sym c.distance_no-no.ensures ∙ c.if-no-ne0.false in

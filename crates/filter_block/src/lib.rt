@@ -7,10 +7,12 @@ ghost use Rattle.cdef_spec.specs.LoopForm.{put_block};
 ghost use Rattle.arith_sample.specs.Bounds.{Held};
 ghost use Rattle.arith_sample.specs.Upto.{upto};
 ghost use Rattle.filter_rows.specs.Sums.{Near6, InRange};
-ghost use Rattle.filter_window.specs.Window.{plane_of, window_at};
-ghost use Rattle.filter_window.specs.Spans.{InPlane};
+ghost use Rattle.cdef_spec.specs.Lent.{plane_in_full};
+ghost use Rattle.filter_window.specs.Window.{window_at};
+ghost use Rattle.filter_window.specs.Spans.{BeginsIn};
 ghost use Rattle.filter_block.specs.Store.{window_tap, block_tap, Usable};
 
+use cdef_spec::full::FullPlane;
 use cdef_spec::{Block, FilterParams};
 use filter_rows::{Strength, Taps};
 
@@ -58,26 +60,18 @@ pub fn filter_window(
     let t = filter_kernel::taps(q.dir as usize);
     let f = filter_kernel::primary(q.pri as u16, d, q.depth);
     let g = filter_kernel::secondary(q.sec as u16, d);
-    let cols = arith_numbers::lesser(b.width, w - b.x);
-    let rows = arith_numbers::lesser(b.height, h - b.y);
+    let cols = b.width.min(w - b.x);
+    let rows = b.height.min(h - b.y);
     filter_rows(dst, w, b.y - y0, b.x, rows, cols, win, t, f, g);
 }
 
-// Filters a block of the plane src, w by h, into a destination whose first row is the plane's row y0.
-pub fn cdef_filter_block(
-    dst: &mut [u16],
-    y0: usize,
-    src: &[u16],
-    w: usize,
-    h: usize,
-    b: Block,
-    q: FilterParams,
-)
-    requires in_plane { InPlane src.now w h b × Held (upto (window_at (plane_of src.now w h) b) 144) × Usable q }
-    requires y0_le_y { (y0 ≤ b.y) × ((b.y - y0 + min b.height (h - b.y)) * w ≤ length dst.old) }
-    ensures { dst.new ≡ put_block dst.old w (λ r c. filtered (plane_of src.now w h) q (y0 + r) c) (b.y - y0)
-        b.x (min b.width (w - b.x)) (min b.height (h - b.y)) }
+// Filters a block of the plane src into a destination whose first row is the plane's row y0.
+pub fn cdef_filter_block(dst: &mut [u16], y0: usize, src: &FullPlane<'_>, b: Block, q: FilterParams)
+    requires begins { BeginsIn src.now b × Held (upto (window_at (plane_in_full src.now) b) 144) × Usable q }
+    requires rows_fit { (y0 ≤ b.y) × ((b.y - y0 + min b.height (src.now.height - b.y)) * src.now.width ≤ length dst.old) }
+    ensures { dst.new ≡ put_block dst.old src.now.width (λ r c. filtered (plane_in_full src.now) q (y0 + r) c) (b.y - y0)
+        b.x (min b.width (src.now.width - b.x)) (min b.height (src.now.height - b.y)) }
 {
-    let win = filter_window::window(src, w, h, b);
-    filter_window(dst, y0, &win, w, h, b, q);
+    let win = filter_window::window(src, b);
+    filter_window(dst, y0, &win, src.width, src.height, b, q);
 }

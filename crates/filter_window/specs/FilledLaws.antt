@@ -4,11 +4,16 @@ use Rattle.std.proofs.Common.{sym, ap, ◌∙◌, ⊎_elim, mul_comm, arith, len
 use Rattle.std.proofs.Math.Decide.{dec_lt, ℕ_discrete}
 use Rattle.std.proofs.Math.Arith.{digits_lt}
 use Rattle.std.proofs.lemmas.List.{length-replicate, get_or-replicate}
+use Rattle.std.proofs.lemmas.List.{places}
+use Rattle.std.proofs.lemmas.List.Edits.{length-between, get_or-between}
+use Rattle.std.specs.List.{between}
+use borrow.Rule.Slice.PartMut.{put_mid}
 use Rattle.cdef_spec.specs.declared.Block.{Block}
 use Rattle.cdef_spec.specs.Document01.{Plane}
 use Rattle.arith_sample.specs.Upto.{upto, length-upto, get_or-upto}
 use Rattle.filter_window.specs.Window.{plane_of, window_at}
-use Rattle.filter_window.specs.Spans.{InPlane, Inside, Filled}
+use Rattle.cdef_spec.specs.declared.full.FullPlane.{FullPlane}
+use Rattle.filter_window.specs.Spans.{InPlane, BeginsIn, Inside, Filled}
 use Rattle.filter_window.specs.WindowLaws.{window-in, window-right, window-below, sample_in}
 
 module _ (p : Plane) (b : Block) where
@@ -30,6 +35,20 @@ module _ (p : Plane) (b : Block) where
       go : (k : ℕ) → k < n + 1 → Dec (k ≡ n) → get_or (set out n v) k 0 ≡ window_at p b k
       go k l (yes q) = rw q (get_or-set_same out n v 0 (omega (arith, f.long)) ∙ e)
       go k l (no q) = get_or-set_other out n k v 0 (omega arith) ∙ f.done k (omega arith)
+
+  -- k entries more, written at once
+  pub filled_run : (n k : ℕ) (out ys : List ℕ) → Filled p b n out → n + k ≤ 144 → length ys ≡ k → ((j : ℕ) → j < k → get_or ys j 0 ≡ window_at p b (n + j)) → Filled p b (n + k) (put_mid n k out ys)
+  filled_run n k out ys f h e each = record {
+    long = grind (arith, places, f.long, e, h);
+    done = λ i l. go i l (dec_lt i n);
+    rest = λ i l g. grind (arith, places, f.long, e, h, f.rest i (omega arith) g);
+  }
+    where
+      go : (i : ℕ) → i < n + k → Dec (i < n) → get_or (put_mid n k out ys) i 0 ≡ window_at p b i
+      go i l (yes q) = grind (arith, places, f.long, e, h, f.done i q)
+      go i l (no q) =
+          let r : n + (i - n) ≡ i = omega arith in
+          grind (arith, places, f.long, e, h, r, each (i - n) (omega arith))
 
   -- entries that are marks
   pub filled-skip : (n m : ℕ) (out : List ℕ) → Filled p b n out → n ≤ m → m ≤ 144 → ((k : ℕ) → n ≤ k → k < m → window_at p b k ≡ 16384) → Filled p b m out
@@ -59,6 +78,14 @@ module _ (p : Plane) (b : Block) where
       let q : k / 12 * 12 + k % 12 ≡ k = omega arith in
       ap (window_at p b) (sym q) ∙ window-below p b (k / 12) (k % 12) (omega arith) (omega arith)))
 
+-- all entries computed one by one
+pub filled_each : (p : Plane) (b : Block) (out : List ℕ) → length out ≡ 144 → ((k : ℕ) → k < 144 → get_or out k 0 ≡ window_at p b k) → out ≡ upto (window_at p b) 144
+filled_each p b out e f = filled-all p b out (record { long = e; done = f; rest = λ k l g. absurd (omega arith) })
+
+-- a block that begins in a plane
+pub in-plane : (p : FullPlane) (b : Block) → BeginsIn p b → InPlane p.samples.now p.width p.height b
+in-plane p b s = record { full = p.full; wide = p.sides.0; high = p.sides.1; x-in = s.x-in; y-in = s.y-in; bw = s.bw; bh = s.bh }
+
 -- four wide or more
 pub inside-wide : (w h : ℕ) (b : Block) → Inside w h b → 4 ≤ b.width
 inside-wide w h b r = ⊎_elim (λ e. omega arith) (λ e. omega arith) r.width
@@ -84,3 +111,19 @@ module _ (s : List ℕ) (w h : ℕ) (b : Block) (q : InPlane s w h b) (r : Insid
       (sym
       (window-in p b i j (omega (arith, q.bw)) hi hj
       ∙ sample_in p (b.y + i) (b.x + j) (omega (arith, r.top)) (omega (arith, r.bottom)) (omega (arith, r.left)) (omega (arith, r.right))))
+
+-- ---- a run of the samples of row i of such a block, from column c on and below column d, copied into the window
+module _ (s : List ℕ) (w h : ℕ) (b : Block) (q : InPlane s w h b) (r : Inside w h b) (i c d a e n k : ℕ) (out ys : List ℕ) (hi : i < b.height + 4) (hc : c < d) (hd : d ≤ b.width + 4) where
+  pub row_run : a ≡ (b.y + i - 2) * w + (b.x - 2) + c → e ≡ (b.y + i - 2) * w + (b.x - 2) + d → n ≡ i * 12 + c → k ≡ d - c → ys ≡ between a e s → Filled (plane_of s w h) b (i * 12 + c) out → Filled (plane_of s w h) b (i * 12 + d) (put_mid n k out ys)
+  row_run ea ee en ek ey f =
+      let p = plane_of s w h in
+      let l : e ≤ length s = omega (arith, inside-low s w h b q r i (d - 1) hi (omega arith)) in
+      let m : length ys ≡ k = rw ey (length-between s a e l ∙ omega arith) in
+      filled_at p b (n + k) (i * 12 + d) _ (omega arith) (filled_run p b n k out ys (filled_at p b (i * 12 + c) n _ (omega arith) f) (omega (arith, q.bh, q.bw)) m (λ j g.
+      let t : a + j ≡ (b.y + i - 2) * w + (b.x - 2) + (c + j) = omega arith in
+      let u : n + j ≡ i * 12 + (c + j) = omega arith in
+      rw ey (get_or-between s a e j 0 (omega arith) ∙ rw (t, u) (inside_is s w h b q r i (c + j) hi (omega arith)))))
+
+-- a block that begins in a full plane
+pub begins-in : (p : FullPlane) (b : Block) → InPlane p.samples.now p.width p.height b → BeginsIn p b
+begins-in p b i = record { x-in = i.x-in; y-in = i.y-in; bw = i.bw; bh = i.bh }

@@ -1,6 +1,7 @@
 -- What the window's functions receive: a block that begins in its plane, the rows or columns that are examined; and what they have filled. Definitions only.
 use Rattle.std.specs.Prelude.{◌≡◌, ◌⊎◌, List, ℕ, ◌+◌, ◌-◌, ◌*◌, ◌≤◌, ◌<◌, min, length, get_or}
 use Rattle.cdef_spec.specs.declared.Block.{Block}
+use Rattle.cdef_spec.specs.declared.full.FullPlane.{FullPlane}
 use Rattle.cdef_spec.specs.Document01.{Plane}
 use Rattle.filter_window.specs.declared.Span.{Span}
 use Rattle.filter_window.specs.Window.{window_at}
@@ -12,6 +13,13 @@ pub record InPlane (s : List ℕ) (w h : ℕ) (b : Block) : Type 0 where
   pub high : h ≤ 4096
   pub x-in : b.x < w
   pub y-in : b.y < h
+  pub bw : b.width ≤ 8
+  pub bh : b.height ≤ 8
+
+-- a block of sides up to 8 that begins in a plane
+pub record BeginsIn (p : FullPlane) (b : Block) : Type 0 where
+  pub x-in : b.x < p.width
+  pub y-in : b.y < p.height
   pub bw : b.width ≤ 8
   pub bh : b.height ≤ 8
 

@@ -3,10 +3,13 @@
 
 ghost use Rattle.std.specs.Prelude.{◌≡◌, true, ◌+◌, ◌*◌, ◌≤◌, ◌<◌};
 ghost use Rattle.arith_sample.specs.Upto.{upto};
-ghost use Rattle.filter_window.specs.Window.{plane_of, window_at};
-ghost use Rattle.filter_window.specs.Spans.{SpanOf, InPlane, Inside};
+ghost use Rattle.cdef_spec.specs.Lent.{plane_in_full};
+ghost use Rattle.filter_window.specs.Window.{window_at};
+ghost use Rattle.filter_window.specs.Spans.{SpanOf, BeginsIn, Inside};
 
 use cdef_spec::Block;
+use cdef_spec::full::FullPlane;
+use std::array;
 
 // The window's rows or columns that are examined: from lo on, below hi.
 #[derive(Clone, Copy)]
@@ -26,12 +29,14 @@ fn looked_at(at: usize, n: usize, m: usize) -> Span
     Span { lo, hi }
 }
 
-// Entry (i, j) of the window of a block; h is the plane's height, r and c are the examined rows and columns.
-fn entry(src: &[u16], w: usize, h: usize, b: Block, r: Span, c: Span, i: usize, j: usize) -> u16
-    requires in_plane { InPlane src.now w h b }
-    requires span_of { SpanOf b.y b.height h r × SpanOf b.x b.width w c × (i < 12) × (j < 12) }
-    ensures { result ≡ window_at (plane_of src.now w h) b (i * 12 + j) }
+// Entry k of the window of a block, whose row is k / 12 and whose column is k % 12; r and c are the examined rows and columns.
+fn entry(src: &FullPlane<'_>, b: Block, r: Span, c: Span, k: usize) -> u16
+    requires begins { BeginsIn src.now b × (k < 144) }
+    requires examined { SpanOf b.y b.height src.now.height r × SpanOf b.x b.width src.now.width c }
+    ensures { result ≡ window_at (plane_in_full src.now) b k }
 {
+    let i = k / 12;
+    let j = k % 12;
     if i < r.lo {
         return arith_sample::MARK;
     }
@@ -44,69 +49,35 @@ fn entry(src: &[u16], w: usize, h: usize, b: Block, r: Span, c: Span, i: usize, 
     if c.hi <= j {
         return arith_sample::MARK;
     }
-    let at = (b.y + i - 2) * w + (b.x + j - 2);
-    src[at]
+    let at = (b.y + i - 2) * src.width + (b.x + j - 2);
+    src.samples[at]
 }
 
 // The window of any block.
-fn window_part(src: &[u16], w: usize, h: usize, b: Block) -> [u16; 144]
-    requires { InPlane src.now w h b }
-    ensures { result ≡ upto (window_at (plane_of src.now w h) b) 144 }
+fn window_part(src: &FullPlane<'_>, b: Block) -> [u16; 144]
+    requires { BeginsIn src.now b }
+    ensures { result ≡ upto (window_at (plane_in_full src.now) b) 144 }
 {
-    let rows = looked_at(b.y, b.height, h);
-    let cols = looked_at(b.x, b.width, w);
-    let mut out = [arith_sample::MARK; 144];
-    for i in 0..12usize {
-        let to = i * 12;
-        for j in 0..12usize {
-            out[to + j] = entry(src, w, h, b, rows, cols, i, j);
-        }
-    }
-    out
+    let rows = looked_at(b.y, b.height, src.height);
+    let cols = looked_at(b.x, b.width, src.width);
+    array::from_fn(|k| entry(src, b, rows, cols, k))
 }
 
 // The window of a block inside the plane: the rows that are examined, eight samples of each, and four more of a block eight wide.
-fn window_inside(src: &[u16], w: usize, h: usize, b: Block) -> [u16; 144]
-    requires { InPlane src.now w h b × Inside w h b }
-    ensures { result ≡ upto (window_at (plane_of src.now w h) b) 144 }
+fn window_inside(src: &FullPlane<'_>, b: Block) -> [u16; 144]
+    requires { BeginsIn src.now b × Inside src.now.width src.now.height b }
+    ensures { result ≡ upto (window_at (plane_in_full src.now) b) 144 }
 {
     let mut out = [arith_sample::MARK; 144];
     for i in 0..b.height + 4 {
         let to = i * 12;
-        let from = (b.y + i - 2) * w + (b.x - 2);
-        for j in 0..8usize {
-            out[to + j] = src[from + j];
-        }
+        let from = (b.y + i - 2) * src.width + (b.x - 2);
+        out[to..to + 8].copy_from_slice(&src.samples[from..from + 8]);
         if b.width == 8 {
-            for j in 8..12usize {
-                out[to + j] = src[from + j];
-            }
+            out[to + 8..to + 12].copy_from_slice(&src.samples[from + 8..from + 12]);
         }
     }
     out
-}
-
-// Whether an 8 by 8 block lies two samples or more inside the plane.
-fn inside(w: usize, h: usize, b: Block) -> bool
-    requires { (b.x ≤ 4096) × (b.y ≤ 4096) }
-    ensures { result ≡ true → (b.width ≡ 8) × (b.height ≡ 8) × (2 ≤ b.x) × (2 ≤ b.y) × (b.x + 10 ≤ w) × (b.y + 10 ≤ h) }
-{
-    if b.width != 8 {
-        return false;
-    }
-    if b.height != 8 {
-        return false;
-    }
-    if b.x < 2 {
-        return false;
-    }
-    if b.y < 2 {
-        return false;
-    }
-    if w < b.x + 10 {
-        return false;
-    }
-    b.y + 10 <= h
 }
 
 // Whether a block is four or eight wide and lies two samples or more inside the plane.
@@ -132,13 +103,13 @@ fn lies_inside(w: usize, h: usize, b: Block) -> bool
     b.y + b.height + 2 <= h
 }
 
-// The window of a block of a plane w by h.
-pub fn window(src: &[u16], w: usize, h: usize, b: Block) -> [u16; 144]
-    requires { InPlane src.now w h b }
-    ensures { result ≡ upto (window_at (plane_of src.now w h) b) 144 }
+// The window of a block of a plane.
+pub fn window(src: &FullPlane<'_>, b: Block) -> [u16; 144]
+    requires { BeginsIn src.now b }
+    ensures { result ≡ upto (window_at (plane_in_full src.now) b) 144 }
 {
-    if lies_inside(w, h, b) {
-        return window_inside(src, w, h, b);
+    if lies_inside(src.width, src.height, b) {
+        return window_inside(src, b);
     }
-    window_part(src, w, h, b)
+    window_part(src, b)
 }

@@ -1,18 +1,10 @@
 -- Blocks two samples or more inside a plane. Definitions only.
 use Rattle.std.specs.Prelude.{◌≡◌, ◌⊎◌, List, ℕ, ◌+◌, ◌-◌, ◌≤◌, ◌<◌}
-use Rattle.cdef_spec.specs.declared.Block.{Block}
+use Rattle.cdef_spec.specs.declared.full.FullPlane.{FullPlane}
 use Rattle.cdef_spec.specs.declared.FilterParams.{FilterParams}
 use Rattle.cdef_spec.specs.Document01.{filtered}
 use Rattle.cdef_spec.specs.LoopForm.{put_block}
-use Rattle.filter_window.specs.Window.{plane_of}
-
--- ---- a block and its parameters, as they are passed
-
-abbrev pub block_from : ℕ → ℕ → ℕ → ℕ → Block
-block_from x y bw bh = record { x = x; y = y; width = bw; height = bh }
-
-abbrev pub params_from : ℕ → ℕ → ℕ → ℕ → ℕ → FilterParams
-params_from pri sec dir damping depth = record { pri = pri; sec = sec; dir = dir; damping = record { 0 = damping }; depth = depth }
+use Rattle.cdef_spec.specs.Lent.{plane_in_full}
 
 -- a side of 4 or 8 samples
 pub record Sided (n : ℕ) : Type 0 where
@@ -36,5 +28,5 @@ pub record Bytes (depth s sh s2 sh2 : ℕ) : Type 0 where
   pub sec-shift : sh2 < 8
 
 -- the block of cols by rows samples of a plane at row y and column x, filtered and stored in d, whose first row is the plane's row y0 (at most y)
-abbrev pub stored_block : List ℕ → List ℕ → ℕ → ℕ → FilterParams → ℕ → ℕ → ℕ → ℕ → ℕ → List ℕ
-stored_block d l w h q y0 y x cols rows = put_block d w (λ r c. filtered (plane_of l w h) q (y0 + r) c) (y - y0) x cols rows
+abbrev pub stored_block : List ℕ → FullPlane → FilterParams → ℕ → ℕ → ℕ → ℕ → ℕ → List ℕ
+stored_block d p q y0 y x cols rows = put_block d p.width (λ r c. filtered (plane_in_full p) q (y0 + r) c) (y - y0) x cols rows

@@ -9,27 +9,23 @@ use Rattle.cdef_spec.specs.Document01.{Plane, filtered}
 use Rattle.cdef_spec.specs.LoopForm.{put_block}
 use Rattle.arith_sample.specs.Bounds.{Held}
 use Rattle.arith_sample.specs.Upto.{upto}
-use Rattle.filter_window.specs.Window.{plane_of, window_at}
+use Rattle.cdef_spec.specs.Lent.{plane_in_full}
+use Rattle.filter_window.specs.Window.{window_at}
 use Rattle.filter_block.specs.Store.{block_tap}
 use Rattle.filter_block.specs.StoreLaws.{stored-block}
-use borrow.Author.Rules.{rules}
 use Rattle.filter_block.proofs.cdef_filter_block.Goals as goal
 
 glue : (l last : List ℕ) (m : ℕ) (p : Plane) (b : Block) (q : FilterParams) (w : List ℕ) (y0 n k : ℕ) → w ≡ upto (window_at p b) 144 → y0 ≤ b.y → b.height ≤ 8 → b.width ≤ 8 → q.dir < 8 → Held (upto (window_at p b) 144) → last ≡ put_block l m (block_tap w q (b.y - y0) b.x) (b.y - y0) b.x (min b.width n) (min b.height k) → last ≡ put_block l m (λ r c. filtered p q (y0 + r) c) (b.y - y0) b.x (min b.width n) (min b.height k)
 glue l last m p b q w y0 n k e hy hh hw hd held z = z ∙ rw e (stored-block l m p b q y0 (min b.width n) (min b.height k) hy hh hw (omega arith) (omega arith) hd held)
 
-pub window-win-requires : goal.window-win-requires
-window-win-requires c = search rules
-
 pub filter_window-requires : goal.filter_window-requires
-filter_window-requires c = let s = c.before.before.before.before.before in let i = s.requires.in_plane.0 in record {
-  x_lt_w = (i.x-in, i.y-in, i.wide, i.high, i.bw, i.bh);
-  y0_le_y = s.requires.y0_le_y;
-  held = (rw c.before.before.window-win.ensures s.requires.in_plane.1, s.requires.in_plane.2);
-}
-
-pub shape_of-dst : goal.shape_of-dst
-shape_of-dst c = search rules
+filter_window-requires c =
+    let i = c.requires.begins.0 in
+    let p = c.args.src.now in record {
+      x_lt_w = (i.x-in, i.y-in, p.sides.0, p.sides.1, i.bw, i.bh);
+      y0_le_y = c.requires.rows_fit;
+      held = (rw c.window-win.ensures c.requires.begins.1, c.requires.begins.2);
+    }
 
 pub returns : goal.returns
-returns c = let s = c.before.before.before.before.before.before.before.before in let i = s.requires.in_plane.0 in glue _ _ _ (plane_of s.args.src.now s.args.w s.args.h) _ _ _ _ _ _ c.before.before.before.before.before.window-win.ensures s.requires.y0_le_y.0 i.bh i.bw s.requires.in_plane.2.dir s.requires.in_plane.1 c.before.before.filter_window.ensures
+returns c = let i = c.requires.begins.0 in glue _ _ _ (plane_in_full c.args.src.now) _ _ _ _ _ _ c.window-win.ensures c.requires.rows_fit.0 i.bh i.bw c.requires.begins.2.dir c.requires.begins.1 c.filter_window.ensures

@@ -18,47 +18,15 @@ glue : (l last : List ℕ) (m : ℕ) (w : List ℕ) (q : FilterParams) (t : Taps
 unfolding block_tap
 glue l last m w q t f g d y x cols rows n k a b c e h i z = z ∙ rw (b, c, e, a, h, i)
 
-pub from_one-d-requires : goal.from_one-d-requires
-from_one-d-requires c = search rules
-
-pub overflow_cast-q : goal.overflow_cast-q
-overflow_cast-q c = search rules
-
-pub taps-t-requires : goal.taps-t-requires
-taps-t-requires c = search rules
-
-pub overflow_cast-q-2 : goal.overflow_cast-q-2
-overflow_cast-q-2 c = search rules
-
-pub primary-f-requires : goal.primary-f-requires
-primary-f-requires c = search rules
-
-pub overflow_cast-q-3 : goal.overflow_cast-q-3
-overflow_cast-q-3 c = search rules
-
-pub secondary-g-requires : goal.secondary-g-requires
-secondary-g-requires c = search rules
-
-pub overflow_sub-w : goal.overflow_sub-w
-overflow_sub-w c = search rules
-
-pub lesser-cols-requires : goal.lesser-cols-requires
-lesser-cols-requires c = search rules
-
-pub overflow_sub-h : goal.overflow_sub-h
-overflow_sub-h c = omega (arith, c.before.before.before.before.before.before.before.before.before.before.before.requires.x_lt_w.1)
-
-pub lesser-rows-requires : goal.lesser-rows-requires
-lesser-rows-requires c = search rules
-
-pub overflow_sub-b : goal.overflow_sub-b
-overflow_sub-b c = omega (arith, c.before.before.before.before.before.before.before.before.before.before.before.before.before.before.requires.y0_le_y.0)
-
 pub filter_rows-requires : goal.filter_rows-requires
-filter_rows-requires c = let s = c.before.before.before.before.before.before.before.before.before.before.before.before.before.before in let q = s.requires.x_lt_w in let r = s.requires.y0_le_y in let u = s.requires.held.1 in let e = c.before.before.before.before.lesser-cols.ensures in let f = c.before.before.lesser-rows.ensures in record { cols_bound = (omega (arith, e, q.0), q.2, omega (arith, f, q.1, q.3), omega (arith, f, q.5), omega (arith, e, q.4), rw f r.1); held = (s.requires.held.0, rw c.before.before.before.before.before.before.before.before.before.before.taps-t.ensures (taps-near s.args.q.dir u.dir), rw c.before.before.before.before.before.before.before.before.primary-f.ensures (pri-in s.args.q.pri c.before.before.before.before.before.before.before.before.before.before.before.before.from_one-d.result s.args.q.depth u.pri), rw c.before.before.before.before.before.before.secondary-g.ensures (sec-in s.args.q.sec c.before.before.before.before.before.before.before.before.before.before.before.before.from_one-d.result u.sec)) }
-
-pub shape_of-dst : goal.shape_of-dst
-shape_of-dst c = search rules
+filter_rows-requires c =
+    let q = c.requires.x_lt_w in
+    let u = c.requires.held.1 in
+    let e = c.min-cols.ensures in
+    let f = c.min-rows.ensures in record {
+      cols_bound = (omega (arith, e, q.0), q.2, omega (arith, f, q.1, q.3), omega (arith, f, q.5), omega (arith, e, q.4), rw f c.requires.y0_le_y.1);
+      held = (c.requires.held.0, rw c.taps-t.ensures (taps-near c.args.q.dir u.dir), rw c.primary-f.ensures (pri-in c.args.q.pri c.from_one-d.result c.args.q.depth u.pri), rw c.secondary-g.ensures (sec-in c.args.q.sec c.from_one-d.result u.sec));
+    }
 
 pub returns : goal.returns
-returns c = glue _ _ _ _ _ _ _ _ _ _ _ _ _ _ _ c.before.before.before.before.before.before.before.before.before.before.before.before.before.before.before.from_one-d.ensures c.before.before.before.before.before.before.before.before.before.before.before.before.before.taps-t.ensures c.before.before.before.before.before.before.before.before.before.before.before.primary-f.ensures c.before.before.before.before.before.before.before.before.before.secondary-g.ensures c.before.before.before.before.before.before.before.lesser-cols.ensures c.before.before.before.before.before.lesser-rows.ensures c.before.before.filter_rows.ensures
+returns c = glue _ _ _ _ _ _ _ _ _ _ _ _ _ _ _ c.from_one-d.ensures c.taps-t.ensures c.primary-f.ensures c.secondary-g.ensures c.min-cols.ensures c.min-rows.ensures c.filter_rows.ensures

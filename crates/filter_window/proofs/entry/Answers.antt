@@ -1,57 +1,32 @@
 -- `filter_window::entry` meets its contract.
-use mathlib.Core.Path.{sym}
-use Prim.Native.Nat.{◌+◌, ◌-◌, ◌*◌, ◌≤◌, ◌<◌}
-use native.Mathlib.Nat.{mul-le-mul}
-use native.Mathlib.Omega.{arith}
-use lib.ListN.{length}
-use Rattle.filter_window.specs.WindowLaws.{row_before, row-after, col-before, col-after, looked, looked-in}
-use borrow.Author.Rules.{rules}
+use Rattle.std.proofs.Common.{arith, sym, ◌≡◌, ℕ, ◌+◌, ◌*◌, ◌/◌, ◌%◌}
+use Rattle.cdef_spec.specs.declared.Block.{Block}
+use Rattle.cdef_spec.specs.Document01.{Plane}
+use Rattle.cdef_spec.specs.Lent.{plane_in_full}
+use Rattle.filter_window.specs.Window.{window_at}
+use Rattle.filter_window.specs.WindowLaws.{row_before, row-after, col-before, col-after, looked}
 use Rattle.filter_window.proofs.entry.Goals as goal
-use Rattle.filter_window.proofs.entry.Lts as steps
-use Rattle.filter_window.proofs.entry.Tie as tie
-use Rattle.filter_window.proofs.entry.Reads as reads
 
-abbrev Upto-After-struct_known-6-1 : Type 0
-Upto-After-struct_known-6-1 = steps.After-struct_known6 reads.Pre reads.Post tie.handed_clauses
-
-place : (c : Upto-After-struct_known-6-1) → let a = c.before.before.before.before.before.before.before.before.before.before.args in (a.b.y + a.i - 2) * a.w + (a.b.x + a.j - 2) < length a.src.now
-place c = let s = c.before.before.before.before.before.before.before.before.before.before in looked-in s.args.src.now s.args.w s.args.h s.args.b s.args.i s.args.j s.requires.span_of.3 s.args.r s.args.c s.requires.span_of.0 s.requires.span_of.1 (omega arith) (omega arith) s.requires.in_plane.full (omega arith) (omega arith)
+-- an entry by its number
+at : (p : Plane) (b : Block) (k v : ℕ) → window_at p b (k / 12 * 12 + k % 12) ≡ v → v ≡ window_at p b k
+at p b k v e = let q : k / 12 * 12 + k % 12 ≡ k = omega arith in sym (rw q at e)
 
 pub returns-then-i-r : goal.returns-then-i-r
-returns-then-i-r c = let s = c.before.before in sym (row_before _ _ _ _ _ _ s.requires.span_of.3 _ _ s.requires.span_of.0 s.requires.span_of.1 (omega arith))
+unfolding plane_in_full
+returns-then-i-r c = let p = c.args.src.now in at _ _ _ _ (row_before p.samples.now p.width p.height _ _ _ (omega arith) _ _ c.requires.examined.0 c.requires.examined.1 c.if-i-r.true)
 
 pub returns-then-r-i : goal.returns-then-r-i
-returns-then-r-i c = let s = c.before.before.before.before in sym (row-after _ _ _ _ _ _ s.requires.span_of.3 _ _ s.requires.span_of.0 s.requires.span_of.1 (omega arith) (omega arith))
+unfolding plane_in_full
+returns-then-r-i c = let p = c.args.src.now in at _ _ _ _ (row-after p.samples.now p.width p.height _ _ _ (omega arith) _ _ c.requires.examined.0 c.requires.examined.1 c.if-i-r.false c.if-r-i.true)
 
 pub returns-then-j-c : goal.returns-then-j-c
-returns-then-j-c c = let s = c.before.before.before.before.before.before in sym (col-before _ _ _ _ _ _ s.requires.span_of.3 _ _ s.requires.span_of.0 s.requires.span_of.1 (omega arith) (omega arith) (omega arith))
+unfolding plane_in_full
+returns-then-j-c c = let p = c.args.src.now in at _ _ _ _ (col-before p.samples.now p.width p.height _ _ _ (omega arith) _ _ c.requires.examined.0 c.requires.examined.1 c.if-i-r.false c.if-r-i.false c.if-j-c.true)
 
 pub returns-then-c-j : goal.returns-then-c-j
-returns-then-c-j c = let s = c.before.before.before.before.before.before.before.before in sym (col-after _ _ _ _ _ _ s.requires.span_of.3 _ _ s.requires.span_of.0 s.requires.span_of.1 (omega arith) (omega arith) (omega arith) (omega arith))
-
-pub overflow_add-at : goal.overflow_add-at
-overflow_add-at c = search rules
-
-pub overflow_sub-at : goal.overflow_sub-at
-overflow_sub-at c = search rules
-
-pub overflow_mul-at : goal.overflow_mul-at
-overflow_mul-at c = let s = c.before.before.before.before.before.before.before.before.before in let h : s.args.b.y + s.args.i - 2 ≤ 5000 = omega (arith, s.requires.in_plane.y-in, s.requires.in_plane.high) in omega (arith, mul-le-mul h s.requires.in_plane.wide)
-
-pub overflow_add-at-2 : goal.overflow_add-at-2
-overflow_add-at-2 c = search rules
-
-pub overflow_sub-at-2 : goal.overflow_sub-at-2
-overflow_sub-at-2 c = search rules
-
-pub overflow_add-at-3 : goal.overflow_add-at-3
-overflow_add-at-3 c = omega (arith, place c.before)
-
-pub offset_bounds-src-at : goal.offset_bounds-src-at
-offset_bounds-src-at c = omega (arith, place c.before)
-
-pub bounds-src-at : goal.bounds-src-at
-bounds-src-at c = place c.before.before
+unfolding plane_in_full
+returns-then-c-j c = let p = c.args.src.now in at _ _ _ _ (col-after p.samples.now p.width p.height _ _ _ (omega arith) _ _ c.requires.examined.0 c.requires.examined.1 c.if-i-r.false c.if-r-i.false c.if-j-c.false c.if-c-j.true)
 
 pub returns : goal.returns
-returns c = let s = c.before.before.before.before.before.before.before.before.before.before.before in sym (looked _ _ _ _ _ _ s.requires.span_of.3 _ _ s.requires.span_of.0 s.requires.span_of.1 (omega arith) (omega arith) (omega arith) (omega arith))
+unfolding plane_in_full
+returns c = let p = c.args.src.now in at _ _ _ _ (looked p.samples.now p.width p.height _ _ _ (omega arith) _ _ c.requires.examined.0 c.requires.examined.1 c.if-i-r.false c.if-r-i.false c.if-j-c.false c.if-c-j.false)

@@ -1,46 +1,32 @@
 -- `plane_block::filter_block` meets its contract.
+use Rattle.std.proofs.Common.{◌≡◌, sym, ◌∙◌, arith, ℕ, ◌-◌}
+use Rattle.std.specs.Prelude.{min}
+use Rattle.cdef_spec.specs.Lent.{plane_in_full}
 use Rattle.filter_window.specs.WindowLaws.{window-held}
-use mathlib.Core.Path.{◌≡◌, sym, ◌∙◌}
-use Prim.Native.Nat.{◌-◌, min}
-use native.Mathlib.Omega.{arith}
 use Rattle.plane_block.specs.Inside.{Inner}
 use Rattle.plane_block.specs.PlaneLaws.{inner-is}
-use borrow.Author.Rules.{rules}
 use Rattle.plane_block.proofs.filter_block.Goals as goal
-use Rattle.plane_block.proofs.filter_block.Lts as steps
-use Rattle.plane_block.proofs.filter_block.Tie as tie
-use Rattle.plane_block.proofs.filter_block.Reads as reads
 
-abbrev Upto-Then-inside : Type 0
-Upto-Then-inside = steps.Then1 tie.the-claims reads.Pre reads.Post tie.handed_clauses
+-- a block inside a plane is not cropped
+cols-whole : {w h x y bw bh : ℕ} → Inner w h x y bw bh → min bw (w - x) ≡ bw
+cols-whole n = omega (arith, n.right)
 
-inner : (c : Upto-Then-inside) → let a = c.before.before.before.before.args in Inner a.w a.h a.x a.y a.bw a.bh
-inner c = inner-is _ _ _ _ _ _ (sym c.before.inside.ensures ∙ c.if-inside.true)
-
--- such a block is not cropped
-whole : (c : Upto-Then-inside) → let a = c.before.before.before.before.args in (min a.bw (a.w - a.x) ≡ a.bw) × (min a.bh (a.h - a.y) ≡ a.bh)
-whole c = (omega (arith, (inner c).right), omega (arith, (inner c).bottom))
-
-pub inside-requires : goal.inside-requires
-inside-requires c = search rules
+rows-whole : {w h x y bw bh : ℕ} → Inner w h x y bw bh → min bh (h - y) ≡ bh
+rows-whole n = omega (arith, n.bottom)
 
 pub filter_inside-requires : goal.filter_inside-requires
-filter_inside-requires c = let s = c.before.before.before.before.before in
-    record { in_plane = s.requires.in_plane; y0_le_y = (s.requires.y0_le_y.0, rw (whole c.before.before).1 at s.requires.y0_le_y.1, s.requires.y0_le_y.2, s.requires.y0_le_y.3, inner c.before.before) }
-
-pub shape_of-dst-then-inside : goal.shape_of-dst-then-inside
-shape_of-dst-then-inside c = search rules
+filter_inside-requires c =
+    let n = inner-is _ _ _ _ _ _ (sym c.inside.ensures ∙ c.if-inside.true) in
+    let r = c.requires.rows_fit in
+    record { begins = c.requires.begins; rows_fit = (r.0, rw (rows-whole n) at r.1, r.2, r.3, n) }
 
 pub returns-then-inside : goal.returns-then-inside
-returns-then-inside c = let w = whole c.before.before.before.before.before in
-    c.before.before.filter_inside.ensures ∙ rw (w.0, w.1)
+returns-then-inside c =
+    let n = inner-is _ _ _ _ _ _ (sym c.inside.ensures ∙ c.if-inside.true) in
+    c.filter_inside.ensures ∙ rw (cols-whole n, rows-whole n)
 
 pub cdef_filter_block-requires : goal.cdef_filter_block-requires
-cdef_filter_block-requires c = let s = c.before.before.before.before.before in
-    record { in_plane = (s.requires.in_plane.0, window-held _ (λ k. omega (arith, s.requires.in_plane.1.all k)) _, s.requires.in_plane.2); y0_le_y = (s.requires.y0_le_y.0, s.requires.y0_le_y.1) }
-
-pub shape_of-dst : goal.shape_of-dst
-shape_of-dst c = search rules
-
-pub returns : goal.returns
-returns c = search rules
+unfolding plane_in_full
+cdef_filter_block-requires c =
+    let r = c.requires.begins in
+    record { begins = (r.0, window-held _ (λ k. omega (arith, r.1.all k)) _, r.2); rows_fit = (c.requires.rows_fit.0, c.requires.rows_fit.1) }

@@ -1,31 +1,27 @@
 -- `plane_block::filter_inside` meets its contract.
-use mathlib.Core.Path.{◌≡◌, refl, ◌∙◌}
-use mathlib.Core.List.{List}
-use mathlib.Core.Logic.{⊎_elim}
-use Prim.Native.Nat.{ℕ, ◌+◌, ◌-◌, ◌*◌, ◌^◌, ◌≤◌, ◌<◌, max}
-use native.Mathlib.Nat.{mul-le-mul}
-use native.Mathlib.Omega.{arith}
+use Rattle.std.proofs.Common.{◌≡◌, refl, sym, ◌∙◌, arith, ⊎_elim, mul-le-mul, List, ℕ, ◌+◌, ◌-◌, ◌*◌, ◌^◌, ◌≤◌, ◌<◌}
+use Rattle.std.specs.Prelude.{max}
+use Rattle.cdef_spec.specs.declared.full.FullPlane.{FullPlane}
+use Rattle.cdef_spec.specs.declared.Block.{Block}
+use Rattle.cdef_spec.specs.declared.FilterParams.{FilterParams}
 use Rattle.cdef_spec.specs.Standard.{Tap}
 use Rattle.cdef_spec.specs.LoopForm.{put_block}
+use Rattle.cdef_spec.specs.Lent.{plane_in_full}
 use Rattle.arith_sample.specs.Bounds.{Held}
 use Rattle.arith_sample.specs.Upto.{upto}
-use Rattle.filter_window.specs.Window.{plane_of, window_at}
+use Rattle.filter_rows.specs.declared.Strength.{Strength}
+use Rattle.filter_window.specs.Spans.{BeginsIn}
+use Rattle.filter_window.specs.Window.{window_at}
 use Rattle.filter_window.specs.WindowLaws.{window-held}
 use Rattle.filter_kernel.specs.Kernel.{pri_of, sec_of}
-use Rattle.plane_rows.specs.Rows.{Strong, pri_in, sec_in}
-use Rattle.plane_block.specs.Inside.{block_from, params_from}
+use Rattle.filter_block.specs.Store.{Usable}
+use Rattle.plane_taps.specs.Plain.{AllLow}
+use Rattle.plane_rows.specs.Rows.{Strong, Stored, pri_in, sec_in}
+use Rattle.plane_taps.specs.Steps.{taps_in}
+use Rattle.plane_block.specs.Inside.{Sided, Inner, stored_block}
 use Rattle.plane_block.specs.PlaneLaws.{block-two, stored, pri-passed, sec-passed, strong-passed, around-row, around-four, room}
-use borrow.Author.Rules.{rules}
-use mathlib.Core.Logic.{inl, inr}
 use Rattle.plane_block.specs.RowLaws.{near-least}
 use Rattle.plane_block.proofs.filter_inside.Goals as goal
-use Rattle.plane_block.proofs.filter_inside.Goals.{Start}
-use Rattle.plane_block.proofs.filter_inside.Lts as steps
-use Rattle.plane_block.proofs.filter_inside.Tie as tie
-use Rattle.plane_block.proofs.filter_inside.Reads as reads
-
-abbrev Upto-After-secondary-g : Type 0
-Upto-After-secondary-g = steps.After-secondary tie.the-claims reads.Pre reads.Post tie.handed_clauses
 
 -- the lower half's place, and both halves
 two-parts : (y y0 w : ℕ) → y0 ≤ y → (y + 4 - y0) * w ≡ (y - y0) * w + 4 * w
@@ -35,156 +31,114 @@ two-halves : (d mid last : List ℕ) (w : ℕ) (F : ℕ → ℕ → Tap) (y z x 
 two-halves d mid last w F y z x a b e = b ∙ rw (e, a) (block-two d w F y x 4 4 4)
 
 -- the strengths
-strong : (c : Upto-After-secondary-g) → Strong c.before.primary-f.result.s c.before.primary-f.result.sh c.before.primary-f.result.w0 c.secondary-g.result.s c.secondary-g.result.sh
-strong c = let s = c.before.before.before.before.before in
-    rw (c.before.primary-f.ensures, c.secondary-g.ensures) (strong-passed s.args.pri s.args.sec _ s.args.depth s.requires.in_plane.2.pri s.requires.in_plane.2.sec)
+module _ (q : FilterParams) (d : ℕ) (f g : Strength) (ef : f ≡ pri_of q.pri d q.depth) (eg : g ≡ sec_of q.sec d) where
+  strong : Usable q → Strong f.s f.sh f.w0 g.s g.sh
+  strong u = rw (ef, eg) (strong-passed q.pri q.sec d q.depth u.pri u.sec)
 
-pri-is : (c : Upto-After-secondary-g) → let a = c.before.before.before.before.before.args in pri_in c.before.primary-f.result.s c.before.primary-f.result.sh c.before.primary-f.result.w0 ≡ pri_of a.pri (max 1 a.damping) a.depth
-pri-is c = let a = c.before.before.before.before.before.args in
-    rw (c.before.primary-f.ensures, c.before.before.from_one-d.ensures) (pri-passed a.pri a.sec _ a.depth)
+  least : 3 ≤ f.w0
+  least = rw ef (near-least _ _ _)
 
-sec-is : (c : Upto-After-secondary-g) → let a = c.before.before.before.before.before.args in sec_in c.secondary-g.result.s c.secondary-g.result.sh ≡ sec_of a.sec (max 1 a.damping)
-sec-is c = let a = c.before.before.before.before.before.args in
-    rw (c.secondary-g.ensures, c.before.before.from_one-d.ensures) (sec-passed a.pri a.sec _ a.depth)
+  pri-is : d ≡ max 1 q.damping.0 → pri_in f.s f.sh f.w0 ≡ pri_of q.pri (max 1 q.damping.0) q.depth
+  pri-is e = rw (ef, e) (pri-passed q.pri q.sec _ q.depth)
 
-held : (s : Start) → Held (upto (window_at (plane_of s.args.src.now s.args.w s.args.h) (block_from s.args.x s.args.y s.args.bw s.args.bh)) 144)
-held s = window-held _ (λ k. omega (arith, s.requires.in_plane.1.all k)) _
+  sec-is : d ≡ max 1 q.damping.0 → sec_in g.s g.sh ≡ sec_of q.sec (max 1 q.damping.0)
+  sec-is e = rw (eg, e) (sec-passed q.pri q.sec _ q.depth)
 
 -- a block's first sample
-first : (s : Start) → s.args.y * s.args.w + s.args.x < 2 ^ 25
-first s = let i = s.requires.in_plane.0 in
-    let y : s.args.y ≤ 4096 = omega (arith, i.y-in, i.high) in
-    let m : s.args.y * s.args.w ≤ 4096 * 4096 = mul-le-mul y i.wide in
-    omega (arith, i.x-in, i.wide)
+first : (p : FullPlane) (b : Block) → BeginsIn p b → b.y * p.width + b.x < 2 ^ 25
+first p b i =
+    let y : b.y ≤ 4096 = omega (arith, i.y-in, p.sides.1) in
+    let m : b.y * p.width ≤ 4096 * 4096 = mul-le-mul y p.sides.0 in
+    omega (arith, i.x-in, p.sides.0)
 
 -- sides of 4 or 8
-four-high : (s : Start) → 0 + 4 ≤ s.args.bh
-four-high s = ⊎_elim (λ e. omega arith) (λ e. omega arith) s.requires.y0_le_y.3.side
+four : {n : ℕ} → Sided n → 4 ≤ n
+four s = ⊎_elim (λ e. omega arith) (λ e. omega arith) s.side
 
-four-wide : (s : Start) → 4 ≤ s.args.bw
-four-wide s = ⊎_elim (λ e. omega arith) (λ e. omega arith) s.requires.y0_le_y.2.side
+whole : {n : ℕ} → Sided n → (n ≡ 4 → ⊥) → n ≡ 8
+whole s k = ⊎_elim (λ e. absurd (k e)) (λ e. e) s.side
 
-tall : (s : Start) → (s.args.bh ≡ 4 → ⊥) → s.args.bh ≡ 8
-tall s n = ⊎_elim (λ e. absurd (n e)) (λ e. e) s.requires.y0_le_y.3.side
+half : {n : ℕ} → Sided n → (n ≡ 8 → ⊥) → n ≡ 4
+half s k = ⊎_elim (λ e. e) (λ e. absurd (k e)) s.side
 
-short : (s : Start) → (s.args.bh ≡ 8 → ⊥) → s.args.bh ≡ 4
-short s n = ⊎_elim (λ e. e) (λ e. absurd (n e)) s.requires.y0_le_y.3.side
-
-narrow : (s : Start) → (s.args.bw ≡ 8 → ⊥) → s.args.bw ≡ 4
-narrow s n = ⊎_elim (λ e. e) (λ e. absurd (n e)) s.requires.y0_le_y.2.side
-
-pub from_one-d-requires : goal.from_one-d-requires
-from_one-d-requires c = search rules
-
-pub overflow_cast-pri : goal.overflow_cast-pri
-overflow_cast-pri c = search rules
-
-pub primary-f-requires : goal.primary-f-requires
-primary-f-requires c = search rules
-
-pub overflow_cast-sec : goal.overflow_cast-sec
-overflow_cast-sec c = search rules
-
-pub secondary-g-requires : goal.secondary-g-requires
-secondary-g-requires c = search rules
+-- what is stored of a block's rows from y1 on
+module _ (p : FullPlane) (b : Block) (q : FilterParams) (y0 : ℕ) (i : BeginsIn p b) (low : AllLow p.samples.now) (u : Usable q) (n : Inner p.width p.height b.x b.y b.width b.height) where
+  part : (y1 at to cols rows : ℕ) (f g : Strength) (d last : List ℕ) → y0 ≤ y1 → b.y ≤ y1 → cols ≤ b.width → y1 + rows ≤ b.y + b.height → to ≡ (y1 - y0) * p.width + b.x → at ≡ y1 * p.width + b.x
+      → f ≡ pri_of q.pri (max 1 q.damping.0) q.depth → g ≡ sec_of q.sec (max 1 q.damping.0) → Stored p.samples.now d last p.width at to (taps_in p.width q.dir) f g cols rows
+      → last ≡ stored_block d p q y0 y1 b.x cols rows
+  unfolding plane_in_full
+  part y1 at to cols rows f g d last l m hc hn et ea ef eg s =
+      stored p.samples.now p.width p.height b q y0 y1 p.sides.0 p.sides.1 i.bw i.bh n.left n.top n.right n.bottom l m u.dir (window-held _ (λ k. omega (arith, low.all k)) _) d last to at cols rows f g hc hn et ea ef eg s.block
 
 pub overflow_mul-at : goal.overflow_mul-at
-overflow_mul-at c = omega (arith, first c.before.before.before.before.before.before)
+overflow_mul-at c = omega (arith, first _ _ c.requires.begins.0)
 
 pub overflow_add-at : goal.overflow_add-at
-overflow_add-at c = omega (arith, first c.before.before.before.before.before.before)
-
-pub overflow_sub-to : goal.overflow_sub-to
-overflow_sub-to c = search rules
-
-pub overflow_mul-to : goal.overflow_mul-to
-overflow_mul-to c = search rules
-
-pub overflow_add-to : goal.overflow_add-to
-overflow_add-to c = search rules
+overflow_add-at c = omega (arith, first _ _ c.requires.begins.0)
 
 pub eight_wide-requires : goal.eight_wide-requires
-eight_wide-requires c = let s = c.before.before.before.before.before.before.before.before in
-    let a = s.args in
-    record { all_low = (s.requires.in_plane.1, s.requires.in_plane.0.wide, record { side = inr refl }, s.requires.in_plane.2.dir, strong c.before.before.before.before, rw c.before.before.before.before.primary-f.ensures (near-least _ _ _), s.requires.in_plane.3); by_index = λ i h. (around-row a.w a.h a.x a.y a.bw a.bh _ s.requires.in_plane.0.full s.requires.in_plane.0.wide s.requires.in_plane.0.high s.requires.y0_le_y.4 a.dir i s.requires.in_plane.2.dir (omega arith) (omega arith), room a.w a.x (a.y - a.y0) a.bh _ i 8 s.requires.y0_le_y.1 (omega arith) (omega (arith, s.requires.y0_le_y.4.right))) }
+eight_wide-requires c =
+    let p = c.args.src.now in
+    let r = c.requires.begins in
+    let s = c.requires.rows_fit in record {
+      all_low = (r.1, p.sides.0, s.3, r.2.dir, strong c.args.q _ _ _ c.primary-f.ensures c.secondary-g.ensures r.2, least c.args.q _ _ c.secondary-g.result c.primary-f.ensures c.secondary-g.ensures, r.3);
+      by_index = λ i h. (around-row _ _ _ _ _ _ _ p.full p.sides.0 p.sides.1 s.4 _ i r.2.dir h c.if-b-eq8.true, room _ _ _ _ _ i 8 s.1 h (omega (arith, s.4.right, c.if-b-eq8.true)));
+    }
 
-pub shape_of-dst-then-bh-eq8 : goal.shape_of-dst-then-bh-eq8
-shape_of-dst-then-bh-eq8 c = search rules
-
-pub returns-then-bh-eq8 : goal.returns-then-bh-eq8
-returns-then-bh-eq8 c = let s = c.before.before.before.before.before.before.before.before.before.before.before in
-    let a = s.args in
-    let i = s.requires.in_plane.0 in
-    let n = s.requires.y0_le_y.4 in
-    let k : a.bh ≡ 8 = omega arith in
-    let v : a.bw ≡ 8 = omega arith in
-    rw (k, v) (stored a.src.now a.w a.h (block_from a.x a.y a.bw a.bh) (params_from a.pri a.sec a.dir a.damping a.depth) a.y0 a.y i.wide i.high i.bw i.bh n.left n.top n.right n.bottom s.requires.y0_le_y.0 (omega arith) s.requires.in_plane.2.dir (held s.before) _ _ _ _ 8 8 _ _ (omega arith) (omega arith) refl refl (pri-is c.before.before.before.before.before.before.before) (sec-is c.before.before.before.before.before.before.before) c.before.before.eight_wide.ensures.block)
-
-pub eight_wide-requires-then-bw-eq8 : goal.eight_wide-requires-then-bw-eq8
-eight_wide-requires-then-bw-eq8 c = let s = c.before.before.before.before.before.before.before.before in
-    let a = s.args in
-    record { all_low = (s.requires.in_plane.1, s.requires.in_plane.0.wide, record { side = inl refl }, s.requires.in_plane.2.dir, strong c.before.before.before.before, rw c.before.before.before.before.primary-f.ensures (near-least _ _ _), s.requires.in_plane.3); by_index = λ i h. (around-row a.w a.h a.x a.y a.bw a.bh _ s.requires.in_plane.0.full s.requires.in_plane.0.wide s.requires.in_plane.0.high s.requires.y0_le_y.4 a.dir i s.requires.in_plane.2.dir (omega (arith, four-high s.before)) (omega arith), room a.w a.x (a.y - a.y0) a.bh _ i 8 s.requires.y0_le_y.1 (omega (arith, four-high s.before)) (omega (arith, s.requires.y0_le_y.4.right))) }
-
-pub shape_of-dst-then-bw-eq8 : goal.shape_of-dst-then-bw-eq8
-shape_of-dst-then-bw-eq8 c = search rules
-
-pub returns-then-bw-eq8 : goal.returns-then-bw-eq8
-returns-then-bw-eq8 c = let s = c.before.before.before.before.before.before.before.before.before.before.before in
-    let a = s.args in
-    let i = s.requires.in_plane.0 in
-    let n = s.requires.y0_le_y.4 in
-    let k : a.bh ≡ 4 = short s.before (λ e. omega arith) in
-    let v : a.bw ≡ 8 = omega arith in
-    rw (k, v) (stored a.src.now a.w a.h (block_from a.x a.y a.bw a.bh) (params_from a.pri a.sec a.dir a.damping a.depth) a.y0 a.y i.wide i.high i.bw i.bh n.left n.top n.right n.bottom s.requires.y0_le_y.0 (omega arith) s.requires.in_plane.2.dir (held s.before) _ _ _ _ 8 4 _ _ (omega arith) (omega arith) refl refl (pri-is c.before.before.before.before.before.before.before) (sec-is c.before.before.before.before.before.before.before) c.before.before.eight_wide-then-bw-eq8.ensures.block)
+pub returns-then-b-eq8 : goal.returns-then-b-eq8
+returns-then-b-eq8 c =
+    let r = c.requires.begins in
+    let v : c.args.b.width ≡ 8 = c.if-b-eq8.true in
+    let f = c.primary-f.result in
+    let g = c.secondary-g.result in
+    rw v (part _ c.args.b c.args.q c.args.y0 r.0 r.1 r.2 c.requires.rows_fit.4 _ _ _ _ _ _ _ _ _ c.requires.rows_fit.0 (omega arith) (omega arith) (omega arith) refl refl (pri-is c.args.q _ f g c.primary-f.ensures c.secondary-g.ensures c.from_one-d.ensures) (sec-is c.args.q _ f g c.primary-f.ensures c.secondary-g.ensures c.from_one-d.ensures) c.eight_wide.ensures)
 
 pub rows-requires : goal.rows-requires
-rows-requires c = let s = c.before.before.before.before.before.before.before in
-    let a = s.args in
-    let e : a.y * a.w + a.x + 0 * a.w ≡ a.y * a.w + a.x = omega arith in
-    record { all_low = (s.requires.in_plane.1, s.requires.in_plane.0.wide, s.requires.in_plane.2.dir, strong c.before.before.before); around = (rw e at (around-four a.w a.h a.x a.y a.bw a.bh _ s.requires.in_plane.0.full s.requires.in_plane.0.wide s.requires.in_plane.0.high s.requires.y0_le_y.4 a.dir 0 s.requires.in_plane.2.dir (four-high s.before) (four-wide s.before)), omega (arith, room a.w a.x (a.y - a.y0) a.bh _ 3 4 s.requires.y0_le_y.1 (omega (arith, four-high s.before)) (omega (arith, s.requires.y0_le_y.4.right, four-wide s.before)))) }
+rows-requires c =
+    let p = c.args.src.now in
+    let r = c.requires.begins in
+    let s = c.requires.rows_fit in
+    let a = c.args.b in
+    let e : a.y * p.width + a.x + 0 * p.width ≡ a.y * p.width + a.x = omega arith in record {
+      all_low = (r.1, p.sides.0, r.2.dir, strong c.args.q _ _ _ c.primary-f.ensures c.secondary-g.ensures r.2);
+      around = (rw e at (around-four _ _ a.x a.y _ _ _ p.full p.sides.0 p.sides.1 s.4 c.args.q.dir 0 r.2.dir (omega (arith, four s.3)) (four s.2)), omega (arith, room p.width a.x (a.y - c.args.y0) _ _ 3 4 s.1 (omega (arith, four s.3)) (omega (arith, s.4.right, four s.2))));
+    }
 
-pub shape_of-dst-then-bh-eq4 : goal.shape_of-dst-then-bh-eq4
-shape_of-dst-then-bh-eq4 c = search rules
-
-pub returns-then-bh-eq4 : goal.returns-then-bh-eq4
-returns-then-bh-eq4 c = let s = c.before.before.before.before.before.before.before.before.before.before.before in
-    let a = s.args in
-    let i = s.requires.in_plane.0 in
-    let n = s.requires.y0_le_y.4 in
-    let k : a.bh ≡ 4 = omega arith in
-    let v : a.bw ≡ 4 = narrow s.before (λ e. omega arith) in
-    rw (k, v) (stored a.src.now a.w a.h (block_from a.x a.y a.bw a.bh) (params_from a.pri a.sec a.dir a.damping a.depth) a.y0 a.y i.wide i.high i.bw i.bh n.left n.top n.right n.bottom s.requires.y0_le_y.0 (omega arith) s.requires.in_plane.2.dir (held s.before) _ _ _ _ 4 4 _ _ (omega arith) (omega arith) refl refl (pri-is c.before.before.before.before.before.before.before) (sec-is c.before.before.before.before.before.before.before) c.before.before.before.rows.ensures.block)
-
-pub overflow_mul-w : goal.overflow_mul-w
-overflow_mul-w c = search rules
-
-pub overflow_add-to-2 : goal.overflow_add-to-2
-overflow_add-to-2 c = search rules
-
-pub overflow_mul-w-2 : goal.overflow_mul-w-2
-overflow_mul-w-2 c = search rules
+pub returns-then-b-eq4 : goal.returns-then-b-eq4
+returns-then-b-eq4 c =
+    let r = c.requires.begins in
+    let k : c.args.b.height ≡ 4 = c.if-b-eq4.true in
+    let v : c.args.b.width ≡ 4 = half c.requires.rows_fit.2 c.if-b-eq8.false in
+    let f = c.primary-f.result in
+    let g = c.secondary-g.result in
+    rw (k, v) (part _ c.args.b c.args.q c.args.y0 r.0 r.1 r.2 c.requires.rows_fit.4 _ _ _ _ _ _ _ _ _ c.requires.rows_fit.0 (omega arith) (omega arith) (omega arith) refl refl (pri-is c.args.q _ f g c.primary-f.ensures c.secondary-g.ensures c.from_one-d.ensures) (sec-is c.args.q _ f g c.primary-f.ensures c.secondary-g.ensures c.from_one-d.ensures) c.rows.ensures)
 
 pub overflow_add-at-2 : goal.overflow_add-at-2
-overflow_add-at-2 c = let s = c.before.before.before.before.before.before.before.before.before.before.before.before in omega (arith, first s.before, s.requires.in_plane.0.wide)
+overflow_add-at-2 c = omega (arith, first _ _ c.requires.begins.0, c.args.src.now.sides.0)
 
 pub rows-requires-2 : goal.rows-requires-2
-rows-requires-2 c = let s = c.before.before.before.before.before.before.before.before.before.before.before.before in
-    let a = s.args in
-    let k : a.bh ≡ 8 = tall s.before (λ e. omega arith) in
-    record { all_low = (s.requires.in_plane.1, s.requires.in_plane.0.wide, s.requires.in_plane.2.dir, strong c.before.before.before.before.before.before.before.before); around = (around-four a.w a.h a.x a.y a.bw a.bh _ s.requires.in_plane.0.full s.requires.in_plane.0.wide s.requires.in_plane.0.high s.requires.y0_le_y.4 a.dir 4 s.requires.in_plane.2.dir (omega arith) (four-wide s.before), omega (arith, room a.w a.x (a.y - a.y0) a.bh _ 7 4 s.requires.y0_le_y.1 (omega arith) (omega (arith, s.requires.y0_le_y.4.right, four-wide s.before)), c.before.before.before.before.rows.auto.dst)) }
-
-pub shape_of-dst : goal.shape_of-dst
-shape_of-dst c = search rules
+rows-requires-2 c =
+    let p = c.args.src.now in
+    let r = c.requires.begins in
+    let s = c.requires.rows_fit in
+    let a = c.args.b in
+    let k : a.height ≡ 8 = whole s.3 c.if-b-eq4.false in record {
+      all_low = (r.1, p.sides.0, r.2.dir, strong c.args.q _ _ _ c.primary-f.ensures c.secondary-g.ensures r.2);
+      around = (around-four _ _ a.x a.y _ _ _ p.full p.sides.0 p.sides.1 s.4 c.args.q.dir 4 r.2.dir (omega arith) (four s.2), omega (arith, room p.width a.x (a.y - c.args.y0) _ _ 7 4 s.1 (omega arith) (omega (arith, s.4.right, four s.2)), c.rows.auto.dst));
+    }
 
 pub returns : goal.returns
-returns c = let s = c.before.before.before.before.before.before.before.before.before.before.before.before.before.before.before in
-    let a = s.args in
-    let i = s.requires.in_plane.0 in
-    let n = s.requires.y0_le_y.4 in
-    let k : a.bh ≡ 8 = tall s.before (λ e. omega arith) in
-    let v : a.bw ≡ 4 = narrow s.before (λ e. omega arith) in
-    let l : a.y0 ≤ a.y = s.requires.y0_le_y.0 in
-    let z : (a.y + 4 - a.y0) * a.w ≡ (a.y - a.y0) * a.w + 4 * a.w = two-parts a.y a.y0 a.w l in
-    let p = stored a.src.now a.w a.h (block_from a.x a.y a.bw a.bh) (params_from a.pri a.sec a.dir a.damping a.depth) a.y0 a.y i.wide i.high i.bw i.bh n.left n.top n.right n.bottom l (omega arith) s.requires.in_plane.2.dir (held s.before) _ _ _ _ 4 4 _ _ (omega arith) (omega arith) refl refl (pri-is c.before.before.before.before.before.before.before.before.before.before.before) (sec-is c.before.before.before.before.before.before.before.before.before.before.before) c.before.before.before.before.before.before.before.rows.ensures.block in
-    let q = stored a.src.now a.w a.h (block_from a.x a.y a.bw a.bh) (params_from a.pri a.sec a.dir a.damping a.depth) a.y0 (a.y + 4) i.wide i.high i.bw i.bh n.left n.top n.right n.bottom (omega arith) (omega arith) s.requires.in_plane.2.dir (held s.before) _ _ _ _ 4 4 _ _ (omega arith) (omega arith) (omega arith) (omega arith) (pri-is c.before.before.before.before.before.before.before.before.before.before.before) (sec-is c.before.before.before.before.before.before.before.before.before.before.before) c.before.before.rows-2.ensures.block in
-    rw (k, v) (two-halves _ _ _ _ _ _ _ _ p q (omega arith))
+returns c =
+    let r = c.requires.begins in
+    let s = c.requires.rows_fit in
+    let a = c.args.b in
+    let k : a.height ≡ 8 = whole s.3 c.if-b-eq4.false in
+    let v : a.width ≡ 4 = half s.2 c.if-b-eq8.false in
+    let f = c.primary-f.result in
+    let g = c.secondary-g.result in
+    let m = pri-is c.args.q _ f g c.primary-f.ensures c.secondary-g.ensures c.from_one-d.ensures in
+    let n = sec-is c.args.q _ f g c.primary-f.ensures c.secondary-g.ensures c.from_one-d.ensures in
+    let z : (a.y + 4 - c.args.y0) * c.args.src.now.width ≡ (a.y - c.args.y0) * c.args.src.now.width + 4 * c.args.src.now.width = two-parts a.y c.args.y0 _ s.0 in
+    let top = part _ a c.args.q c.args.y0 r.0 r.1 r.2 s.4 a.y _ _ _ _ _ _ _ _ s.0 (omega arith) (omega arith) (omega arith) refl refl m n c.rows.ensures in
+    let bottom = part _ a c.args.q c.args.y0 r.0 r.1 r.2 s.4 (a.y + 4) _ _ _ _ _ _ _ _ (omega arith) (omega arith) (omega arith) (omega arith) (omega arith) (omega arith) m n c.rows-2.ensures in
+    rw (k, v) (two-halves _ _ _ _ _ _ _ _ top bottom (omega arith))

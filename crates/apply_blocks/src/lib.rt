@@ -8,6 +8,7 @@ ghost use Rattle.frame_shape.specs.Frame.{Shaped, picture_of};
 ghost use Rattle.frame_shape.specs.Lent.{Listed, Sampled, Paired, InForce, blocks_of, samples_of};
 ghost use Rattle.apply_blocks.specs.Blocks.{block_filtered, block_applied};
 
+use cdef_spec::full::FullPlane;
 use cdef_spec::{SignalledDamping, UnitPair};
 use frame_shape::Frame;
 
@@ -46,22 +47,12 @@ fn filter_with(
 {
     let block = frame_shape::geometry::block_of(f, by, bx);
     let q = frame_shape::params::params_for(f, dirs, vars, by * (f.width / 8) + bx, p, d);
-    plane_block::filter_block(
-        dst,
-        0,
-        snapshot,
-        w,
-        h,
-        block.x,
-        block.y,
-        block.width,
-        block.height,
-        q.pri,
-        q.sec,
-        q.dir,
-        q.damping.0,
-        q.depth,
-    );
+    let plane = FullPlane {
+        samples: snapshot,
+        width: w,
+        height: h,
+    };
+    plane_block::filter_block(dst, 0, &plane, block, q);
 }
 
 // A skipped block is not written, nor is any block of a unit whose pair is 0, 0.

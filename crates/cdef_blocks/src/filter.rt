@@ -3,6 +3,7 @@ ghost use Rattle.std.specs.Prelude.{◌≡◌};
 ghost use Rattle.cdef_spec.specs.Answers.{read_answer};
 ghost use Rattle.cdef_spec.specs.BlockCalls.{filter_outcome};
 
+use cdef_spec::full::FullPlane;
 use cdef_spec::{Answer, Block, FilterParams};
 
 // Filters a block of a plane into a destination of whole rows, whose first is the plane's row y0.
@@ -23,7 +24,12 @@ pub fn filter_block(
     if no != 0 {
         return Answer::Refused(no);
     }
-    let win = filter_window::window(plane, width, height, block);
+    let full = FullPlane {
+        samples: plane,
+        width,
+        height,
+    };
+    let win = filter_window::window(&full, block);
     let no9 = check_samples::window_no(&win, params.depth);
     if no9 != 0 {
         return Answer::Refused(no9);

@@ -3,6 +3,7 @@ ghost use Rattle.std.specs.Prelude.{◌≡◌};
 ghost use Rattle.cdef_spec.specs.Answers.{read_answer};
 ghost use Rattle.cdef_spec.specs.BlockCalls.{trial_outcome};
 
+use cdef_spec::full::FullPlane;
 use cdef_spec::{Answer, Block, TrialWay, WorkingDamping};
 
 // Filters a block with the twelve pairs: trial block t lies in the 64 entries from t * 64 on, with the block's width as its row pitch.
@@ -27,7 +28,12 @@ pub fn trial(
     if no != 0 {
         return Answer::Refused(no);
     }
-    let win = filter_window::window(plane, width, height, block);
+    let full = FullPlane {
+        samples: plane,
+        width,
+        height,
+    };
+    let win = filter_window::window(&full, block);
     let no9 = check_samples::window_no(&win, depth);
     if no9 != 0 {
         return Answer::Refused(no9);

@@ -6,6 +6,7 @@ ghost use Rattle.frame_shape.specs.Frame.{Shaped, picture_of};
 ghost use Rattle.frame_shape.specs.Lent.{Listed, Sampled, Seen, InForce};
 ghost use Rattle.measure_plane.specs.Measure.{Lent, Begun, LowBlock, Filled, scratch_of, row_sample, measured_distance};
 
+use cdef_spec::full::FullPlane;
 use cdef_spec::{DistanceConstants, SignalledDamping, UnitPair, Visible};
 use frame_shape::Frame;
 
@@ -38,22 +39,12 @@ fn filter_block(
     let b = frame_shape::geometry::block_of(f, by, bx);
     let h = frame_shape::geometry::plane_height(f);
     let q = frame_shape::params::params_for(f, dirs, vars, by * (f.width / 8) + bx, p, d);
-    plane_block::filter_block(
-        scratch,
-        b.y,
-        plane,
-        w,
-        h,
-        b.x,
-        b.y,
-        b.width,
-        b.height,
-        q.pri,
-        q.sec,
-        q.dir,
-        q.damping.0,
-        q.depth,
-    );
+    let src = FullPlane {
+        samples: plane,
+        width: w,
+        height: h,
+    };
+    plane_block::filter_block(scratch, b.y, &src, b, q);
 }
 
 // The distance of the visible part of a block between the original and the selected rows.

@@ -52,6 +52,6 @@ pub fn cdef_block_candidates(
     requires dir_bound { (dir < 8) × (damping.0 ≤ 31) × (8 ≤ depth) × (depth ≤ 12) }
     ensures { out.new ≡ table 768 (trial_place (plane_in_full src.now) b way dir damping depth out.old) }
 {
-    let win = filter_window::window(src.samples, src.width, src.height, b);
+    let win = filter_window::window(src, b);
     trial_window(out, &win, b, way, dir, damping, depth);
 }

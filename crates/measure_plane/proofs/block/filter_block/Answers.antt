@@ -6,6 +6,8 @@ use mathlib.Core.List.{[]}
 use Rattle.frame_shape.specs.FrameLaws.{width_is}
 use Rattle.frame_shape.specs.BlockLaws.{counts-low, number-low, block-sides, sample-low, sample-byte}
 use Rattle.frame_shape.specs.UsableLaws.{usable, depth-kept}
+use Rattle.cdef_spec.specs.Lent.{plane_in_full}
+use Rattle.filter_window.specs.FilledLaws.{begins-in}
 use Rattle.measure_plane.specs.FilledLaws.{number_small, fits-plane, has_room, stored_is, filled}
 use borrow.Author.Rules.{rules}
 use Rattle.measure_plane.proofs.block.filter_block.Goals as goal
@@ -29,30 +31,39 @@ params_for-q-requires c = let s = c.before.before.before.before.before.before.be
     let n = number-low a.f k.0 [] [] [] a.by a.bx s.requires.w_value.1 s.requires.w_value.2 in
     record { shaped = (k.0, omega (arith, n, l.dirs-long), l.dirs-low _, λ e. omega (arith, n, l.vars-long e)); primary_bound = (k.3, k.4, k.2.least, k.2.most) }
 
+pub invariant_of-src : goal.invariant_of-src
+invariant_of-src c =
+    let a = c.args in
+    let r = c.requires in
+    let k = r.shaped in
+    let i = fits-plane a.f k.0 [] a.dirs.now a.vars.now a.plane.now k.1 a.d a.p a.by a.bx r.w_value.1 r.w_value.2 _ _ _ (r.w_value.0 ∙ sym (width_is a.f k.0 [] a.dirs.now a.vars.now)) (c.plane_height-h.ensures [] a.dirs.now a.vars.now) (c.block_of-b.ensures [] a.dirs.now a.vars.now) in
+    record { full = i.full; sides = (i.wide, i.high) }
+
 pub filter_block-requires : goal.filter_block-requires
-filter_block-requires c = let s = c.before.before.before.before.before.before.before.before.before in let a = s.args in
-    let k = s.requires.shaped in
+filter_block-requires c =
+    let a = c.args in
+    let r = c.requires in
+    let k = r.shaped in
     let l = k.5.1 in
-    let ew = s.requires.w_value.0 ∙ sym (width_is a.f k.0 [] a.dirs.now a.vars.now) in
-    let em = c.before.before.before.plane_height-h.ensures [] a.dirs.now a.vars.now in
-    let eb = c.before.before.before.before.block_of-b.ensures [] a.dirs.now a.vars.now in
-    let z = block-sides a.f k.0 [] a.dirs.now a.vars.now a.by a.bx _ eb in record {
-      in_plane = (
-        fits-plane a.f k.0 [] a.dirs.now a.vars.now a.plane.now k.1 a.d a.p a.by a.bx s.requires.w_value.1 s.requires.w_value.2 _ _ _ ew em eb,
+    let ew = r.w_value.0 ∙ sym (width_is a.f k.0 [] a.dirs.now a.vars.now) in
+    let em = c.plane_height-h.ensures [] a.dirs.now a.vars.now in
+    let eb = c.block_of-b.ensures [] a.dirs.now a.vars.now in
+    let z = block-sides a.f k.0 [] a.dirs.now a.vars.now a.by a.bx _ eb in
+    let i = fits-plane a.f k.0 [] a.dirs.now a.vars.now a.plane.now k.1 a.d a.p a.by a.bx r.w_value.1 r.w_value.2 _ _ _ ew em eb in record {
+      begins = (
+        begins-in _ _ i,
         record { all = sample-low a.f k.0 a.plane.now k.1 },
-        rw c.before.params_for-q.ensures (usable _ _ _ _ _ _ k.0.deep k.0.flat k.3 k.4 k.2 (l.dirs-low _)),
-        λ z. record { all = sample-byte a.f k.0 a.plane.now k.1 (sym (depth-kept _ _ _ _ _ _ _ c.before.params_for-q.ensures) ∙ z) },
+        rw c.params_for-q.ensures (usable _ _ _ _ _ _ k.0.deep k.0.flat k.3 k.4 k.2 (l.dirs-low _)),
+        λ z. record { all = sample-byte a.f k.0 a.plane.now k.1 (sym (depth-kept _ _ _ _ _ _ _ c.params_for-q.ensures) ∙ z) },
       );
-      y0_le_y = (omega arith, has_room a.f k.0 [] a.dirs.now a.vars.now a.plane.now k.1 a.d a.p a.by a.bx s.requires.w_value.1 s.requires.w_value.2 _ _ _ ew em eb _ s.requires.w_value.3, record { side = z.0 }, record { side = z.1 });
+      rows_fit = (omega arith, has_room a.f k.0 [] a.dirs.now a.vars.now a.plane.now k.1 a.d a.p a.by a.bx r.w_value.1 r.w_value.2 _ _ _ ew em eb _ r.w_value.3, record { side = z.0 }, record { side = z.1 });
     }
 
-pub shape_of-scratch : goal.shape_of-scratch
-shape_of-scratch c = search rules
-
 pub returns : goal.returns
+unfolding plane_in_full
 returns c = λ t.
-    let s = c.before.before.before.before.before.before.before.before.before.before.before.before in
-    let a = s.args in
-    let k = s.requires.shaped in
-    filled a.f k.0 t a.dirs.now a.vars.now a.plane.now k.1 a.d a.p a.by a.bx s.requires.w_value.1 s.requires.w_value.2 _ _ s.requires.w_value.3
-    (stored_is a.f k.0 t a.dirs.now a.vars.now a.plane.now k.1 a.d a.p a.by a.bx s.requires.w_value.1 s.requires.w_value.2 _ _ _ _ _ _ (s.requires.w_value.0 ∙ sym (width_is a.f k.0 t a.dirs.now a.vars.now)) (c.before.before.before.before.before.before.plane_height-h.ensures t a.dirs.now a.vars.now) (c.before.before.before.before.before.before.before.block_of-b.ensures t a.dirs.now a.vars.now) c.before.before.before.before.params_for-q.ensures c.before.before.filter_block.ensures)
+    let a = c.args in
+    let r = c.requires in
+    let k = r.shaped in
+    filled a.f k.0 t a.dirs.now a.vars.now a.plane.now k.1 a.d a.p a.by a.bx r.w_value.1 r.w_value.2 _ _ r.w_value.3
+    (stored_is a.f k.0 t a.dirs.now a.vars.now a.plane.now k.1 a.d a.p a.by a.bx r.w_value.1 r.w_value.2 _ _ _ _ _ _ (r.w_value.0 ∙ sym (width_is a.f k.0 t a.dirs.now a.vars.now)) (c.plane_height-h.ensures t a.dirs.now a.vars.now) (c.block_of-b.ensures t a.dirs.now a.vars.now) c.params_for-q.ensures c.filter_block.ensures)

@@ -1,6 +1,10 @@
 -- `trial_block::block::cdef_block_candidates` meets its contract.
 use Rattle.cdef_spec.specs.Lent.{plane_in_full}
+use Rattle.filter_window.specs.FilledLaws.{begins-in}
 use Rattle.trial_block.proofs.block.cdef_block_candidates.Goals as goal
+
+pub window-win-requires : goal.window-win-requires
+window-win-requires c = begins-in _ _ c.requires.on_plane.0
 
 pub trial_window-requires : goal.trial_window-requires
 unfolding plane_in_full

@@ -1,4 +1,5 @@
 -- What applying leaves of one block, and its laws.
 pub mod Blocks
 pub mod BlockLaws
+pub mod PictureLaws
 pub mod FilterLaws

@@ -1,6 +1,8 @@
 // One block: left as it is, or filtered with its unit's pair.
 #![tactic(auto)]
 
+pub mod new;
+
 ghost use Rattle.std.specs.Prelude.{◌≡◌, true, List, ℕ, ◌/◌, ◌+◌, ◌*◌, ◌≤◌, ◌<◌, get_or, length};
 ghost use Rattle.cdef_spec.specs.FrameCalls.{pairs_of};
 ghost use Rattle.cdef_spec.specs.Picture.{pair_at};

@@ -1,6 +1,8 @@
 // Applying: a plane filtered from its snapshot, each unit with its own pair. It validates nothing and is given the figure in force.
 #![tactic(auto)]
 
+pub mod new;
+
 ghost use Rattle.std.specs.Prelude.{◌≡◌, ◌/◌, ◌+◌, ◌<◌, length};
 ghost use Rattle.cdef_spec.specs.FrameCalls.{pairs_of};
 ghost use Rattle.cdef_spec.specs.Picture.{applied_plane};

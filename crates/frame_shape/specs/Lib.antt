@@ -4,6 +4,7 @@ pub mod Shape
 pub mod Checked
 pub mod ShapeLaws
 pub mod CountLaws
+pub mod SampledLaws
 -- What the cores require.
 pub mod Lent
 -- Laws of its picture.

@@ -1,6 +1,6 @@
 // Blocks, units and the visible part of a plane.
 ghost use Rattle.std.specs.Prelude.{◌≡◌, ◌+◌, ◌*◌, ◌/◌, ◌≤◌, ◌<◌, ◌^◌, length};
-ghost use Rattle.cdef_spec.specs.Picture.{sub_x, sub_y, plane_width, plane_height, visible_rows, visible_cols, unit_at, units, counted};
+ghost use Rattle.cdef_spec.specs.Picture.{sub_x, sub_y, plane_width, plane_height, visible_rows, visible_cols, block_at, unit_at, units, counted};
 ghost use Rattle.frame_shape.specs.Frame.{block_of};
 ghost use Rattle.frame_shape.specs.Checked.{shaped_in, listed_in};
 
@@ -79,6 +79,14 @@ impl<'a> ShapedPicture<'a> {
         }
     }
 
+    // The index of a block.
+    pub fn block_at(&self, by: usize, bx: usize) -> usize
+        requires { (by ≤ 512) × (bx ≤ 512) }
+        ensures { result ≡ block_at (shaped_in self.now) by bx }
+    {
+        by * (self.picture.width / 8) + bx
+    }
+
     // The number of units.
     pub fn units(&self) -> usize
         ensures { (result ≡ units (shaped_in self.now)) × (result ≤ 4096) }
@@ -99,11 +107,10 @@ impl<'a> ListedPicture<'a> {
     // Whether a block counts: it is not skipped and begins inside the visible part.
     pub fn counted(&self, v: Visible, by: usize, bx: usize) -> bool
         requires seen { (v.width ≤ 4096) × (v.height ≤ 4096) }
-        requires inside { (by ≤ 512) × (bx ≤ 512) × (by * (self.now.shaped.picture.width / 8) + bx < length self.now.shaped.picture.skip.now) }
+        requires inside { (by ≤ 512) × (bx ≤ 512) × (block_at (listed_in self.now) by bx < length self.now.shaped.picture.skip.now) }
         ensures { result ≡ counted (listed_in self.now) v by bx }
     {
-        let q = self.shaped.picture;
-        if q.skip[by * (q.width / 8) + bx] != 0 {
+        if self.shaped.picture.skip[self.shaped.block_at(by, bx)] != 0 {
             return false;
         }
         let b = self.shaped.block_of(by, bx);

@@ -19,22 +19,7 @@ fn filter_with(dst: &mut [u16], i: &FilterInput<'_>, p: UnitPair, by: usize, bx:
     let b = i.listed.shaped.block_of(by, bx);
     let k = i.listed.shaped.block_at(by, bx);
     let q = i.listed.shaped.params_for(k, p, i.damping);
-    plane_block::filter_block(
-        dst,
-        0,
-        i.plane.samples,
-        i.plane.width,
-        i.plane.height,
-        b.x,
-        b.y,
-        b.width,
-        b.height,
-        q.pri,
-        q.sec,
-        q.dir,
-        q.damping.0,
-        q.depth,
-    );
+    plane_block::filter_block(dst, 0, &i.plane, b, q);
 }
 
 // A skipped block is not written, nor is any block of a unit whose pair is 0, 0.

@@ -1,14 +1,15 @@
 -- What the cores of the frame calls receive, as a picture of Picture. Definitions only.
-use Rattle.std.specs.Prelude.{◌≡◌, true, cond, List, ℕ, ◌-◌, ◌*◌, ◌≤◌, ◌<◌, get_or}
+use Rattle.std.specs.Prelude.{◌≡◌, true, cond, List, ℕ, ◌-◌, ◌*◌, ◌≤◌, ◌<◌, min, get_or}
 use Rattle.cdef_spec.specs.Words.{◌<<◌}
 use Rattle.cdef_spec.specs.Standard.{adjust_pri, chroma_direction}
 use Rattle.cdef_spec.specs.declared.Block.{Block}
+use Rattle.cdef_spec.specs.declared.Visible.{Visible}
 use Rattle.cdef_spec.specs.declared.SignalledDamping.{SignalledDamping}
 use Rattle.cdef_spec.specs.declared.WorkingDamping.{WorkingDamping}
 use Rattle.cdef_spec.specs.declared.TrialWay.{TrialWay}
 use Rattle.cdef_spec.specs.declared.TrialWay.TheVariants.{Luma, Chroma}
 use Rattle.cdef_spec.specs.Document01.{luma_damping, chroma_damping}
-use Rattle.cdef_spec.specs.Picture.{PlaneKind, luma, chroma, Picture, block_width, block_height}
+use Rattle.cdef_spec.specs.Picture.{PlaneKind, luma, chroma, Picture, block_width, block_height, visible_rows, visible_cols}
 use Rattle.cdef_spec.specs.Questions.{luma_side_taken}
 use Rattle.frame_shape.specs.declared.Frame.{Frame}
 
@@ -32,6 +33,15 @@ pub record Shaped (f : Frame) : Type 0 where
 -- the block in row by and column bx of the blocks
 unfoldable pub block_of : Picture → ℕ → ℕ → Block
 block_of q by bx = record { x = bx * block_width q; y = by * block_height q; width = block_width q; height = block_height q }
+
+-- the visible part of a block
+unfoldable pub visible_part : Picture → Visible → ℕ → ℕ → Block
+visible_part q v by bx = record {
+  x = bx * block_width q;
+  y = by * block_height q;
+  width = min (block_width q) (visible_cols q v - bx * block_width q);
+  height = min (block_height q) (visible_rows q v - by * block_height q);
+}
 
 -- how block b is tried: the kind of trial, its direction in the plane, the working damping
 unfoldable pub way_of : PlaneKind → ℕ → TrialWay

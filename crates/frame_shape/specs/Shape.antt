@@ -1,5 +1,5 @@
 -- What a picture that passed the checks satisfies. Definitions only.
-use Rattle.std.specs.Prelude.{◌≡◌, true, ℕ, ◌*◌, ◌^◌, ◌≤◌, ◌<◌, get_or, length}
+use Rattle.std.specs.Prelude.{◌≡◌, Bool, true, false, ℕ, ◌*◌, ◌^◌, ◌≤◌, ◌<◌, get_or, length}
 use Rattle.cdef_spec.specs.declared.SignalledDamping.{SignalledDamping}
 use Rattle.cdef_spec.specs.declared.Visible.{Visible}
 use Rattle.cdef_spec.specs.Document01.{Plane}
@@ -52,3 +52,8 @@ pub record Seen (q : Picture) (v : Visible) : Type 0 where
 pub record InForce (d : SignalledDamping) : Type 0 where
   pub least : 3 ≤ d.0
   pub most : d.0 ≤ 6
+
+-- whether a plane is luma
+unfoldable pub is_luma : PlaneKind → Bool
+is_luma (luma vars) = true
+is_luma (chroma sx sy) = false

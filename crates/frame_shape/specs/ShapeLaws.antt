@@ -1,15 +1,16 @@
 -- Laws of the geometry of a picture that passed the checks.
-use Rattle.std.specs.Prelude.{◌≡◌, refl, true, ◌&&◌, List, ◌⊎◌, ℕ, zero, suc, ◌+◌, ◌-◌, ◌*◌, ◌/◌, ◌%◌, ◌^◌, ◌≤◌, ◌<◌, leb, eqb, length}
-use Rattle.std.proofs.Common.{inl, inr, div-le_self, arith, ltb-true, leb-true, eqb-true}
+use Rattle.std.specs.Prelude.{◌≡◌, refl, true, ◌&&◌, List, ◌⊎◌, ℕ, zero, suc, ◌+◌, ◌-◌, ◌*◌, ◌/◌, ◌%◌, ◌^◌, ◌≤◌, ◌<◌, min, leb, eqb, length}
+use Rattle.std.proofs.Common.{ap, inl, inr, div-le_self, arith, ltb-true, leb-true, eqb-true}
 use Rattle.std.proofs.Math.Nat.{mul-le-mul, mul-le-mul_right}
 use Rattle.std.proofs.Math.Arith.{digits_lt}
 use Rattle.cdef_spec.specs.declared.Block.{Block}
+use Rattle.cdef_spec.specs.declared.Visible.{Visible}
 use Rattle.cdef_spec.specs.Words.{◌>>◌}
 use Rattle.cdef_spec.specs.WordsLaws.{and_both}
-use Rattle.cdef_spec.specs.Picture.{PlaneKind, luma, chroma, Picture, sub_x, sub_y, plane_width, plane_height, block_width, block_height, block_rows, block_cols, unit_rows, unit_cols, units, block_at}
+use Rattle.cdef_spec.specs.Picture.{PlaneKind, luma, chroma, Picture, sub_x, sub_y, plane_width, plane_height, block_width, block_height, block_rows, block_cols, unit_rows, unit_cols, units, block_at, visible_rows, visible_cols}
 use Rattle.cdef_spec.specs.Questions.{side_taken, luma_side_taken, flags_taken, variances_listed}
 use Rattle.cdef_spec.specs.GeometryLaws.{Tiled, tiled, sides-on}
-use Rattle.frame_shape.specs.Frame.{block_of}
+use Rattle.frame_shape.specs.Frame.{block_of, visible_part}
 use Rattle.frame_shape.specs.Shape.{Shaped, Listed, blocks}
 
 -- a luma side
@@ -99,3 +100,13 @@ module _ (q : Picture) (h : Shaped q) where
 pub vars-long : (q : Picture) (h : Listed q) (vars : List ℕ) → q.kind ≡ luma vars → length vars ≡ blocks q
 unfolding variances_listed
 vars-long q h vars e = eqb-true _ _ (rw e at h.vars-long)
+
+-- a block's corner, and its visible part as the code computes it
+pub corner-is : (q : Picture) (by bx : ℕ) (b : Block) → b ≡ block_of q by bx → (b.x ≡ bx * block_width q) × (b.y ≡ by * block_height q) × (b.width ≡ block_width q) × (b.height ≡ block_height q)
+unfolding block_of
+corner-is q by bx b e = (ap (λ (z : Block). z.x) e, ap (λ (z : Block). z.y) e, ap (λ (z : Block). z.width) e, ap (λ (z : Block). z.height) e)
+
+pub part-is : (q : Picture) (v : Visible) (by bx : ℕ) (b : Block) (rows cols : ℕ) → b ≡ block_of q by bx → rows ≡ visible_rows q v → cols ≡ visible_cols q v
+    → record { x = b.x; y = b.y; width = min b.width (cols - b.x); height = min b.height (rows - b.y) } ≡ visible_part q v by bx
+unfolding visible_part block_of
+part-is q v by bx b rows cols e er ec = rw (er, ec, e)

@@ -1,7 +1,8 @@
 // Blocks, units and the visible part of a plane.
 ghost use Rattle.std.specs.Prelude.{◌≡◌, ◌+◌, ◌*◌, ◌/◌, ◌≤◌, ◌<◌, ◌^◌, length};
-ghost use Rattle.cdef_spec.specs.Picture.{sub_x, sub_y, plane_width, plane_height, visible_rows, visible_cols, block_at, unit_at, units, counted};
-ghost use Rattle.frame_shape.specs.Frame.{block_of};
+ghost use Rattle.cdef_spec.specs.Picture.{sub_x, sub_y, plane_width, plane_height, block_width, block_height, visible_rows, visible_cols, block_at, unit_at, units, counted};
+ghost use Rattle.frame_shape.specs.Frame.{block_of, visible_part};
+ghost use Rattle.frame_shape.specs.Shape.{is_luma};
 ghost use Rattle.frame_shape.specs.Checked.{shaped_in, listed_in};
 
 use crate::checked::{ListedPicture, ShapedPicture};
@@ -32,6 +33,16 @@ impl<'a> ShapedPicture<'a> {
         match self.picture.kind {
             PlaneKind::Luma { vars: _ } => (0, 0),
             PlaneKind::Chroma { sx, sy } => (sx, sy),
+        }
+    }
+
+    // Whether the plane is luma.
+    pub fn is_luma(&self) -> bool
+        ensures { result ≡ is_luma (shaped_in self.now).kind }
+    {
+        match self.picture.kind {
+            PlaneKind::Luma { vars: _ } => true,
+            PlaneKind::Chroma { sx: _, sy: _ } => false,
         }
     }
 
@@ -76,6 +87,24 @@ impl<'a> ShapedPicture<'a> {
             y: by * height,
             width,
             height,
+        }
+    }
+
+    // The visible part of a block that begins inside the visible area.
+    pub fn visible_part(&self, v: Visible, by: usize, bx: usize) -> Block
+        requires seen { (v.width ≤ 4096) × (v.height ≤ 4096) }
+        requires few { (by ≤ 512) × (bx ≤ 512) }
+        requires begun { (by * block_height (shaped_in self.now) ≤ visible_rows (shaped_in self.now) v) × (bx * block_width (shaped_in self.now) ≤ visible_cols (shaped_in self.now) v) }
+        ensures { result ≡ visible_part (shaped_in self.now) v by bx }
+    {
+        let b = self.block_of(by, bx);
+        let rows = self.visible_rows(v) - b.y;
+        let cols = self.visible_cols(v) - b.x;
+        Block {
+            x: b.x,
+            y: b.y,
+            width: b.width.min(cols),
+            height: b.height.min(rows),
         }
     }
 

@@ -1,6 +1,7 @@
 -- `apply_blocks::filter_with` meets its contract.
 use Rattle.std.proofs.Common.{sym, ◌∙◌, arith}
 use Rattle.cdef_spec.specs.Lent.{picture_in, plane_in_full}
+use Rattle.filter_window.specs.FilledLaws.{begins-in}
 use Rattle.frame_shape.specs.ShapeLaws.{counts-low, number-low, block-sides}
 use Rattle.frame_shape.specs.SampledLaws.{has-params, sample-low, sample-byte, block_in}
 use Rattle.frame_shape.specs.UsableLaws.{usable, depth-kept}
@@ -26,13 +27,13 @@ filter_block-requires c =
     let h = i.listed.shaped.shaped in
     let r = c.requires in
     let k = block-sides _ h _ _ _ c.block_of-b.ensures in record {
-      in_plane = (
-        rw c.block_of-b.ensures (block_in _ h _ i.sampled _ _ r.inside.0 r.inside.1),
+      begins = (
+        rw c.block_of-b.ensures (begins-in _ _ (block_in _ h _ i.sampled _ _ r.inside.0 r.inside.1)),
         record { all = sample-low _ h _ i.sampled },
         rw c.params_for-q.ensures (usable _ _ _ _ _ _ h.deep h.flat r.strengths.0 r.strengths.1 i.in_force (i.listed.listed.dirs-low _)),
         λ z. record { all = sample-byte _ h _ i.sampled (sym (depth-kept _ _ _ _ _ _ _ c.params_for-q.ensures) ∙ z) },
       );
-      y0_le_y = (omega arith, room _ h _ _ r.inside.0 r.inside.1 _ i.sampled _ c.block_of-b.ensures _ r.full, record { side = k.0 }, record { side = k.1 });
+      rows_fit = (omega arith, room _ h _ _ r.inside.0 r.inside.1 _ i.sampled _ c.block_of-b.ensures _ r.full, record { side = k.0 }, record { side = k.1 });
     }
 
 pub returns : goal.returns

@@ -8,6 +8,8 @@ ghost use Rattle.cdef_spec.specs.Questions.{visible_taken, all_taken, primary_ta
 ghost use Rattle.cdef_spec.specs.FrameCalls.{trying_no, measuring_no, applying_lists_no, scratch_length};
 ghost use Rattle.frame_shape.specs.Frame.{Shaped, picture_of};
 
+pub mod checks; // checks.rt: each call's checks, as what its core is given or a refusal
+
 use cdef_spec::{DampingChoice, UnitPair, Visible};
 use frame_shape::Frame;
 

@@ -3,3 +3,4 @@ pub mod Parts
 pub mod PartLaws
 pub mod RefusalLaws
 pub mod ShapeLaws
+pub mod StepLaws

@@ -9,13 +9,13 @@ use Rattle.cdef_spec.specs.FrameCalls.{questions}
 use Rattle.check_picture.specs.Parts.{sides_first, shape_first, lists_next, values_next, samples_last}
 
 -- one, two and three questions, none with the number 0
-one : (x : Question) → (x.number ≡ 0 → ⊥) → Numbered (x ∷ [])
+pub one : (x : Question) → (x.number ≡ 0 → ⊥) → Numbered (x ∷ [])
 one x h = more h none
 
-two : (x y : Question) → (x.number ≡ 0 → ⊥) → (y.number ≡ 0 → ⊥) → Numbered (x ∷ y ∷ [])
+pub two : (x y : Question) → (x.number ≡ 0 → ⊥) → (y.number ≡ 0 → ⊥) → Numbered (x ∷ y ∷ [])
 two x y h k = more h (more k none)
 
-three : (x y z : Question) → (x.number ≡ 0 → ⊥) → (y.number ≡ 0 → ⊥) → (z.number ≡ 0 → ⊥) → Numbered (x ∷ y ∷ z ∷ [])
+pub three : (x y z : Question) → (x.number ≡ 0 → ⊥) → (y.number ≡ 0 → ⊥) → (z.number ≡ 0 → ⊥) → Numbered (x ∷ y ∷ z ∷ [])
 three x y z h k l = more h (more k (more l none))
 
 -- a part and the rest

@@ -1,5 +1,5 @@
 -- The questions of the frame calls in the parts that the code checks them in. Definitions only.
-use Rattle.std.specs.Prelude.{Bool, ◌&&◌, List, [], ◌∷◌, ℕ, ◌^◌}
+use Rattle.std.specs.Prelude.{Bool, ◌&&◌, List, [], ◌∷◌, ◌++◌, ℕ, ◌^◌}
 use Rattle.cdef_spec.specs.declared.SignalledDamping.{SignalledDamping}
 use Rattle.cdef_spec.specs.Picture.{Picture}
 use Rattle.cdef_spec.specs.Questions.{Question, ask, depth_taken, luma_side_taken, flags_taken, full_planes, picture_listed, picture_taken, all_samples_below}
@@ -23,3 +23,7 @@ values_next q signalled values = ask 8 (picture_taken q signalled && values) ∷
 -- 9
 abbrev pub samples_last : ℕ → List (List ℕ) → List Question
 samples_last depth looked = ask 9 (all_samples_below (2 ^ depth) looked) ∷ []
+
+-- 4 to 9
+unfoldable pub after_shape : Picture → SignalledDamping → List (List ℕ) → Bool → Bool → List (List ℕ) → List Question
+after_shape q signalled planes lists values looked = lists_next q planes lists ++ (values_next q signalled values ++ samples_last q.depth looked)

@@ -1,6 +1,5 @@
 -- `check_frame::checks::applying` meets its contract.
 use Rattle.std.proofs.Common.{rules, sym, ◌∙◌}
-use Rattle.cdef_spec.specs.Lent.{picture_in}
 use Rattle.cdef_pairs.specs.Applying.{applying_by_no}
 use Rattle.check_picture.specs.RefusalLaws.{refused-by, passed}
 use Rattle.check_picture.specs.StepLaws.{shape-stops, shape-passes}

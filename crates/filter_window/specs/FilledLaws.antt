@@ -10,11 +10,12 @@ use Rattle.std.specs.List.{between}
 use borrow.Rule.Slice.PartMut.{put_mid}
 use Rattle.cdef_spec.specs.declared.Block.{Block}
 use Rattle.cdef_spec.specs.Document01.{Plane}
+use Rattle.filter_window.specs.declared.Span.{Span}
 use Rattle.arith_sample.specs.Upto.{upto, length-upto, get_or-upto}
 use Rattle.filter_window.specs.Window.{plane_of, window_at}
 use Rattle.cdef_spec.specs.declared.full.FullPlane.{FullPlane}
-use Rattle.filter_window.specs.Spans.{InPlane, BeginsIn, Inside, Filled}
-use Rattle.filter_window.specs.WindowLaws.{window-in, window-right, window-below, sample_in}
+use Rattle.filter_window.specs.Spans.{InPlane, BeginsIn, Inside, SpanOf, Filled}
+use Rattle.filter_window.specs.WindowLaws.{window-in, window-right, window-below, sample_in, row_before, row-after, col-before, col-after, looked, looked-in}
 
 module _ (p : Plane) (b : Block) where
   pub filled_none : Filled p b 0 (replicate 144 16384)
@@ -78,10 +79,6 @@ module _ (p : Plane) (b : Block) where
       let q : k / 12 * 12 + k % 12 ≡ k = omega arith in
       ap (window_at p b) (sym q) ∙ window-below p b (k / 12) (k % 12) (omega arith) (omega arith)))
 
--- all entries computed one by one
-pub filled_each : (p : Plane) (b : Block) (out : List ℕ) → length out ≡ 144 → ((k : ℕ) → k < 144 → get_or out k 0 ≡ window_at p b k) → out ≡ upto (window_at p b) 144
-filled_each p b out e f = filled-all p b out (record { long = e; done = f; rest = λ k l g. absurd (omega arith) })
-
 -- a block that begins in a plane
 pub in-plane : (p : FullPlane) (b : Block) → BeginsIn p b → InPlane p.samples.now p.width p.height b
 in-plane p b s = record { full = p.full; wide = p.sides.0; high = p.sides.1; x-in = s.x-in; y-in = s.y-in; bw = s.bw; bh = s.bh }
@@ -127,3 +124,42 @@ module _ (s : List ℕ) (w h : ℕ) (b : Block) (q : InPlane s w h b) (r : Insid
 -- a block that begins in a full plane
 pub begins-in : (p : FullPlane) (b : Block) → InPlane p.samples.now p.width p.height b → BeginsIn p b
 begins-in p b i = record { x-in = i.x-in; y-in = i.y-in; bw = i.bw; bh = i.bh }
+
+-- ---- the window of any block, filled row by row with the columns that are examined
+module _ (s : List ℕ) (w h : ℕ) (b : Block) (q : InPlane s w h b) (r c : Span) (hr : SpanOf b.y b.height h r) (hc : SpanOf b.x b.width w c) where
+  abbrev p : Plane
+  p = plane_of s w h
+
+  -- entry n, by its row and column
+  by-place : (n v : ℕ) → window_at p b (n / 12 * 12 + n % 12) ≡ v → window_at p b n ≡ v
+  by-place n v e = let m : n / 12 * 12 + n % 12 ≡ n = omega arith in rw m at e
+
+  pub edge-first : Filled p b (r.lo * 12) (replicate 144 16384)
+  edge-first = filled-skip p b 0 (r.lo * 12) _ (filled_none p b) (omega arith) (omega (arith, hr.from)) (λ n a l. by-place n _ (row_before s w h b _ _ (omega arith) r c hr hc (omega arith)))
+
+  pub edge-last : (out : List ℕ) → Filled p b (r.hi * 12) out → out ≡ upto (window_at p b) 144
+  edge-last out f = filled-all p b out (filled-skip p b (r.hi * 12) 144 out f (omega (arith, hr.to, q.bh)) (omega arith) (λ n a l. by-place n _ (row-after s w h b _ _ (omega arith) r c hr hc (omega (arith, hr.from, hr.to, q.y-in)) (omega arith))))
+
+  module _ (i : ℕ) (lo : r.lo ≤ i) (hi : i < r.hi) where
+    -- row i lies in the plane
+    pub edge-in : (b.y + i - 2) * w + (b.x + c.lo - 2) + (c.hi - c.lo) ≤ length s
+    edge-in =
+        let d = looked-in s w h b i (c.hi - 1) (omega (arith, hc.to, q.bw)) r c hr hc lo hi q.full (omega (arith, hc.from, hc.to, q.x-in)) (omega (arith, hc.from, hc.to, q.x-in)) in
+        omega (arith, d, hc.from, hc.to, q.x-in)
+
+    pub edge-row : (a e n k : ℕ) (out ys : List ℕ) → Filled p b (i * 12) out → a ≡ (b.y + i - 2) * w + (b.x + c.lo - 2) → e ≡ a + (c.hi - c.lo) → n ≡ i * 12 + c.lo → k ≡ c.hi - c.lo → ys ≡ between a e s → Filled p b ((i + 1) * 12) (put_mid n k out ys)
+    edge-row a e n k out ys f ea ee en ek ey =
+        let l : e ≤ length s = omega (arith, edge-in) in
+        let m : length ys ≡ k = rw ey (length-between s a e l ∙ omega arith) in
+        let before = filled-skip p b (i * 12) n out f (omega arith) (omega (arith, hr.to, hc.from, q.bh)) (λ v x y. by-place v _ (
+            let t : v / 12 ≡ i = omega (arith, hc.from) in
+            let u : v % 12 ≡ v - i * 12 = omega (arith, hc.from) in
+            rw (t, u) (col-before s w h b i (v - i * 12) (omega (arith, hc.from)) r c hr hc lo hi (omega arith)))) in
+        let there = filled_run p b n k out ys before (omega (arith, hr.to, hc.to, hc.from, q.bh, q.bw, q.x-in)) m (λ j g.
+            let z : a + j ≡ (b.y + i - 2) * w + (b.x + (c.lo + j) - 2) = omega (arith, hc.from) in
+            let u : n + j ≡ i * 12 + (c.lo + j) = omega arith in
+            rw ey (get_or-between s a e j 0 (omega arith) ∙ rw (z, u) (sym (looked s w h b i (c.lo + j) (omega (arith, hc.to, q.bw)) r c hr hc lo hi (omega arith) (omega arith))))) in
+        filled-skip p b (n + k) ((i + 1) * 12) _ there (omega (arith, hc.to, hc.from, q.bw, q.x-in)) (omega (arith, hr.to, q.bh)) (λ v x y. by-place v _ (
+            let t : v / 12 ≡ i = omega (arith, hc.from) in
+            let u : v % 12 ≡ v - i * 12 = omega (arith, hc.from) in
+            rw (t, u) (col-after s w h b i (v - i * 12) (omega arith) r c hr hc lo hi (omega (arith, hc.from, hc.to, q.x-in)) (omega (arith, hc.from, hc.to, q.x-in)))))

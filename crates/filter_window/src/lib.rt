@@ -9,8 +9,6 @@ ghost use Rattle.filter_window.specs.Spans.{SpanOf, BeginsIn, Inside};
 
 use cdef_spec::Block;
 use cdef_spec::full::FullPlane;
-use std::array;
-
 // The window's rows or columns that are examined: from lo on, below hi.
 #[derive(Clone, Copy)]
 pub struct Span {
@@ -29,38 +27,21 @@ fn looked_at(at: usize, n: usize, m: usize) -> Span
     Span { lo, hi }
 }
 
-// Entry k of the window of a block, whose row is k / 12 and whose column is k % 12; r and c are the examined rows and columns.
-fn entry(src: &FullPlane<'_>, b: Block, r: Span, c: Span, k: usize) -> u16
-    requires begins { BeginsIn src.now b × (k < 144) }
-    requires examined { SpanOf b.y b.height src.now.height r × SpanOf b.x b.width src.now.width c }
-    ensures { result ≡ window_at (plane_in_full src.now) b k }
-{
-    let i = k / 12;
-    let j = k % 12;
-    if i < r.lo {
-        return arith_sample::MARK;
-    }
-    if r.hi <= i {
-        return arith_sample::MARK;
-    }
-    if j < c.lo {
-        return arith_sample::MARK;
-    }
-    if c.hi <= j {
-        return arith_sample::MARK;
-    }
-    let at = (b.y + i - 2) * src.width + (b.x + j - 2);
-    src.samples[at]
-}
-
-// The window of any block.
+// The window of any block: in each row that is examined, the columns that are.
 fn window_part(src: &FullPlane<'_>, b: Block) -> [u16; 144]
     requires { BeginsIn src.now b }
     ensures { result ≡ upto (window_at (plane_in_full src.now) b) 144 }
 {
     let rows = looked_at(b.y, b.height, src.height);
     let cols = looked_at(b.x, b.width, src.width);
-    array::from_fn(|k| entry(src, b, rows, cols, k))
+    let mut out = [arith_sample::MARK; 144];
+    for i in rows.lo..rows.hi {
+        let to = i * 12;
+        let from = (b.y + i - 2) * src.width + (b.x + cols.lo - 2);
+        out[to + cols.lo..to + cols.hi]
+            .copy_from_slice(&src.samples[from..from + (cols.hi - cols.lo)]);
+    }
+    out
 }
 
 // The window of a block inside the plane: the rows that are examined, eight samples of each, and four more of a block eight wide.

@@ -1,10 +1,19 @@
 -- Blocks two samples or more inside a plane. Definitions only.
 use Rattle.std.specs.Prelude.{◌≡◌, ◌⊎◌, List, ℕ, ◌+◌, ◌-◌, ◌≤◌, ◌<◌}
+use Rattle.cdef_spec.specs.declared.Block.{Block}
 use Rattle.cdef_spec.specs.declared.full.FullPlane.{FullPlane}
 use Rattle.cdef_spec.specs.declared.FilterParams.{FilterParams}
 use Rattle.cdef_spec.specs.Document01.{filtered}
 use Rattle.cdef_spec.specs.LoopForm.{put_block}
 use Rattle.cdef_spec.specs.Lent.{plane_in_full}
+
+-- ---- a block and its parameters, as they are passed
+
+abbrev pub block_from : ℕ → ℕ → ℕ → ℕ → Block
+block_from x y bw bh = record { x = x; y = y; width = bw; height = bh }
+
+abbrev pub params_from : ℕ → ℕ → ℕ → ℕ → ℕ → FilterParams
+params_from pri sec dir damping depth = record { pri = pri; sec = sec; dir = dir; damping = record { 0 = damping }; depth = depth }
 
 -- a side of 4 or 8 samples
 pub record Sided (n : ℕ) : Type 0 where

@@ -18,7 +18,7 @@ use Rattle.filter_block.specs.Store.{Usable}
 use Rattle.plane_taps.specs.Plain.{AllLow}
 use Rattle.plane_rows.specs.Rows.{Strong, Stored, pri_in, sec_in}
 use Rattle.plane_taps.specs.Steps.{taps_in}
-use Rattle.plane_block.specs.Inside.{Sided, Inner, stored_block}
+use Rattle.plane_block.specs.Inside.{Sided, Inner, block_from, params_from, stored_block}
 use Rattle.plane_block.specs.PlaneLaws.{block-two, stored, pri-passed, sec-passed, strong-passed, around-row, around-four, room}
 use Rattle.plane_block.specs.RowLaws.{near-least}
 use Rattle.plane_block.proofs.filter_inside.Goals as goal
@@ -81,37 +81,37 @@ eight_wide-requires c =
     let p = c.args.src.now in
     let r = c.requires.begins in
     let s = c.requires.rows_fit in record {
-      all_low = (r.1, p.sides.0, s.3, r.2.dir, strong c.args.q _ _ _ c.primary-f.ensures c.secondary-g.ensures r.2, least c.args.q _ _ c.secondary-g.result c.primary-f.ensures c.secondary-g.ensures, r.3);
-      by_index = λ i h. (around-row _ _ _ _ _ _ _ p.full p.sides.0 p.sides.1 s.4 _ i r.2.dir h c.if-b-eq8.true, room _ _ _ _ _ i 8 s.1 h (omega (arith, s.4.right, c.if-b-eq8.true)));
+      all_low = (r.1, p.sides.0, s.3, r.2.dir, strong (params_from c.args.pri c.args.sec c.args.dir c.args.damping c.args.depth) _ _ _ c.primary-f.ensures c.secondary-g.ensures r.2, least (params_from c.args.pri c.args.sec c.args.dir c.args.damping c.args.depth) _ _ c.secondary-g.result c.primary-f.ensures c.secondary-g.ensures, r.3);
+      by_index = λ i h. (around-row _ _ _ _ _ _ _ p.full p.sides.0 p.sides.1 s.4 _ i r.2.dir h c.if-bw-eq8.true, room _ _ _ _ _ i 8 s.1 h (omega (arith, s.4.right, c.if-bw-eq8.true)));
     }
 
-pub returns-then-b-eq8 : goal.returns-then-b-eq8
-returns-then-b-eq8 c =
+pub returns-then-bw-eq8 : goal.returns-then-bw-eq8
+returns-then-bw-eq8 c =
     let r = c.requires.begins in
-    let v : c.args.b.width ≡ 8 = c.if-b-eq8.true in
+    let v : c.args.bw ≡ 8 = c.if-bw-eq8.true in
     let f = c.primary-f.result in
     let g = c.secondary-g.result in
-    rw v (part _ c.args.b c.args.q c.args.y0 r.0 r.1 r.2 c.requires.rows_fit.4 _ _ _ _ _ _ _ _ _ c.requires.rows_fit.0 (omega arith) (omega arith) (omega arith) refl refl (pri-is c.args.q _ f g c.primary-f.ensures c.secondary-g.ensures c.from_one-d.ensures) (sec-is c.args.q _ f g c.primary-f.ensures c.secondary-g.ensures c.from_one-d.ensures) c.eight_wide.ensures)
+    rw v (part _ (block_from c.args.x c.args.y c.args.bw c.args.bh) (params_from c.args.pri c.args.sec c.args.dir c.args.damping c.args.depth) c.args.y0 r.0 r.1 r.2 c.requires.rows_fit.4 _ _ _ _ _ _ _ _ _ c.requires.rows_fit.0 (omega arith) (omega arith) (omega arith) refl refl (pri-is (params_from c.args.pri c.args.sec c.args.dir c.args.damping c.args.depth) _ f g c.primary-f.ensures c.secondary-g.ensures c.from_one-d.ensures) (sec-is (params_from c.args.pri c.args.sec c.args.dir c.args.damping c.args.depth) _ f g c.primary-f.ensures c.secondary-g.ensures c.from_one-d.ensures) c.eight_wide.ensures)
 
 pub rows-requires : goal.rows-requires
 rows-requires c =
     let p = c.args.src.now in
     let r = c.requires.begins in
     let s = c.requires.rows_fit in
-    let a = c.args.b in
+    let a = c.args in
     let e : a.y * p.width + a.x + 0 * p.width ≡ a.y * p.width + a.x = omega arith in record {
-      all_low = (r.1, p.sides.0, r.2.dir, strong c.args.q _ _ _ c.primary-f.ensures c.secondary-g.ensures r.2);
-      around = (rw e at (around-four _ _ a.x a.y _ _ _ p.full p.sides.0 p.sides.1 s.4 c.args.q.dir 0 r.2.dir (omega (arith, four s.3)) (four s.2)), omega (arith, room p.width a.x (a.y - c.args.y0) _ _ 3 4 s.1 (omega (arith, four s.3)) (omega (arith, s.4.right, four s.2))));
+      all_low = (r.1, p.sides.0, r.2.dir, strong (params_from c.args.pri c.args.sec c.args.dir c.args.damping c.args.depth) _ _ _ c.primary-f.ensures c.secondary-g.ensures r.2);
+      around = (rw e at (around-four _ _ a.x a.y _ _ _ p.full p.sides.0 p.sides.1 s.4 c.args.dir 0 r.2.dir (omega (arith, four s.3)) (four s.2)), omega (arith, room p.width a.x (a.y - c.args.y0) _ _ 3 4 s.1 (omega (arith, four s.3)) (omega (arith, s.4.right, four s.2))));
     }
 
-pub returns-then-b-eq4 : goal.returns-then-b-eq4
-returns-then-b-eq4 c =
+pub returns-then-bh-eq4 : goal.returns-then-bh-eq4
+returns-then-bh-eq4 c =
     let r = c.requires.begins in
-    let k : c.args.b.height ≡ 4 = c.if-b-eq4.true in
-    let v : c.args.b.width ≡ 4 = half c.requires.rows_fit.2 c.if-b-eq8.false in
+    let k : c.args.bh ≡ 4 = c.if-bh-eq4.true in
+    let v : c.args.bw ≡ 4 = half c.requires.rows_fit.2 c.if-bw-eq8.false in
     let f = c.primary-f.result in
     let g = c.secondary-g.result in
-    rw (k, v) (part _ c.args.b c.args.q c.args.y0 r.0 r.1 r.2 c.requires.rows_fit.4 _ _ _ _ _ _ _ _ _ c.requires.rows_fit.0 (omega arith) (omega arith) (omega arith) refl refl (pri-is c.args.q _ f g c.primary-f.ensures c.secondary-g.ensures c.from_one-d.ensures) (sec-is c.args.q _ f g c.primary-f.ensures c.secondary-g.ensures c.from_one-d.ensures) c.rows.ensures)
+    rw (k, v) (part _ (block_from c.args.x c.args.y c.args.bw c.args.bh) (params_from c.args.pri c.args.sec c.args.dir c.args.damping c.args.depth) c.args.y0 r.0 r.1 r.2 c.requires.rows_fit.4 _ _ _ _ _ _ _ _ _ c.requires.rows_fit.0 (omega arith) (omega arith) (omega arith) refl refl (pri-is (params_from c.args.pri c.args.sec c.args.dir c.args.damping c.args.depth) _ f g c.primary-f.ensures c.secondary-g.ensures c.from_one-d.ensures) (sec-is (params_from c.args.pri c.args.sec c.args.dir c.args.damping c.args.depth) _ f g c.primary-f.ensures c.secondary-g.ensures c.from_one-d.ensures) c.rows.ensures)
 
 pub overflow_add-at-2 : goal.overflow_add-at-2
 overflow_add-at-2 c = omega (arith, first _ _ c.requires.begins.0, c.args.src.now.sides.0)
@@ -121,24 +121,24 @@ rows-requires-2 c =
     let p = c.args.src.now in
     let r = c.requires.begins in
     let s = c.requires.rows_fit in
-    let a = c.args.b in
-    let k : a.height ≡ 8 = whole s.3 c.if-b-eq4.false in record {
-      all_low = (r.1, p.sides.0, r.2.dir, strong c.args.q _ _ _ c.primary-f.ensures c.secondary-g.ensures r.2);
-      around = (around-four _ _ a.x a.y _ _ _ p.full p.sides.0 p.sides.1 s.4 c.args.q.dir 4 r.2.dir (omega arith) (four s.2), omega (arith, room p.width a.x (a.y - c.args.y0) _ _ 7 4 s.1 (omega arith) (omega (arith, s.4.right, four s.2)), c.rows.auto.dst));
+    let a = c.args in
+    let k : a.bh ≡ 8 = whole s.3 c.if-bh-eq4.false in record {
+      all_low = (r.1, p.sides.0, r.2.dir, strong (params_from c.args.pri c.args.sec c.args.dir c.args.damping c.args.depth) _ _ _ c.primary-f.ensures c.secondary-g.ensures r.2);
+      around = (around-four _ _ a.x a.y _ _ _ p.full p.sides.0 p.sides.1 s.4 c.args.dir 4 r.2.dir (omega arith) (four s.2), omega (arith, room p.width a.x (a.y - c.args.y0) _ _ 7 4 s.1 (omega arith) (omega (arith, s.4.right, four s.2)), c.rows.auto.dst));
     }
 
 pub returns : goal.returns
 returns c =
     let r = c.requires.begins in
     let s = c.requires.rows_fit in
-    let a = c.args.b in
-    let k : a.height ≡ 8 = whole s.3 c.if-b-eq4.false in
-    let v : a.width ≡ 4 = half s.2 c.if-b-eq8.false in
+    let a = c.args in
+    let k : a.bh ≡ 8 = whole s.3 c.if-bh-eq4.false in
+    let v : a.bw ≡ 4 = half s.2 c.if-bw-eq8.false in
     let f = c.primary-f.result in
     let g = c.secondary-g.result in
-    let m = pri-is c.args.q _ f g c.primary-f.ensures c.secondary-g.ensures c.from_one-d.ensures in
-    let n = sec-is c.args.q _ f g c.primary-f.ensures c.secondary-g.ensures c.from_one-d.ensures in
+    let m = pri-is (params_from c.args.pri c.args.sec c.args.dir c.args.damping c.args.depth) _ f g c.primary-f.ensures c.secondary-g.ensures c.from_one-d.ensures in
+    let n = sec-is (params_from c.args.pri c.args.sec c.args.dir c.args.damping c.args.depth) _ f g c.primary-f.ensures c.secondary-g.ensures c.from_one-d.ensures in
     let z : (a.y + 4 - c.args.y0) * c.args.src.now.width ≡ (a.y - c.args.y0) * c.args.src.now.width + 4 * c.args.src.now.width = two-parts a.y c.args.y0 _ s.0 in
-    let top = part _ a c.args.q c.args.y0 r.0 r.1 r.2 s.4 a.y _ _ _ _ _ _ _ _ s.0 (omega arith) (omega arith) (omega arith) refl refl m n c.rows.ensures in
-    let bottom = part _ a c.args.q c.args.y0 r.0 r.1 r.2 s.4 (a.y + 4) _ _ _ _ _ _ _ _ (omega arith) (omega arith) (omega arith) (omega arith) (omega arith) (omega arith) m n c.rows-2.ensures in
+    let top = part _ (block_from c.args.x c.args.y c.args.bw c.args.bh) (params_from c.args.pri c.args.sec c.args.dir c.args.damping c.args.depth) c.args.y0 r.0 r.1 r.2 s.4 a.y _ _ _ _ _ _ _ _ s.0 (omega arith) (omega arith) (omega arith) refl refl m n c.rows.ensures in
+    let bottom = part _ (block_from c.args.x c.args.y c.args.bw c.args.bh) (params_from c.args.pri c.args.sec c.args.dir c.args.damping c.args.depth) c.args.y0 r.0 r.1 r.2 s.4 (a.y + 4) _ _ _ _ _ _ _ _ (omega arith) (omega arith) (omega arith) (omega arith) (omega arith) (omega arith) m n c.rows-2.ensures in
     rw (k, v) (two-halves _ _ _ _ _ _ _ _ top bottom (omega arith))

@@ -6,12 +6,12 @@ use Rattle.cdef_spec.specs.declared.SignalledDamping.{SignalledDamping}
 use Rattle.cdef_spec.specs.declared.Visible.{Visible}
 use Rattle.cdef_spec.specs.Words.{table}
 use Rattle.cdef_spec.specs.ChromaLaws.{chroma-low}
-use Rattle.cdef_spec.specs.Document01.{luma_damping, chroma_damping}
+use Rattle.cdef_spec.specs.Document01.{Plane, luma_damping, chroma_damping}
 use Rattle.cdef_spec.specs.declared.TrialWay.{TrialWay}
 use Rattle.cdef_spec.specs.declared.WorkingDamping.{WorkingDamping}
 use Rattle.cdef_spec.specs.BlockCalls.{trial_place}
 use Rattle.filter_window.specs.Window.{plane_of as sized}
-use Rattle.cdef_spec.specs.Picture.{PlaneKind, luma, chroma, Picture, plane_width, plane_height, block_width, block_height, visible_rows, visible_cols}
+use Rattle.cdef_spec.specs.Picture.{PlaneKind, luma, chroma, Picture, plane_width, plane_height, block_width, block_height, visible_rows, visible_cols, block_at, plane_of}
 use Rattle.frame_shape.specs.declared.Frame.{Frame}
 use Rattle.frame_shape.specs.Frame.{kind_of, picture_of, block_of, way_of, dir_of, damping_of}
 use Rattle.frame_shape.specs.Lent.{InForce}
@@ -46,3 +46,9 @@ pub trials-are : (f : Frame) (skip dirs vars : List ℕ) (d : SignalledDamping) 
     → table 768 (trial_place (sized snapshot w h) b way dir damping f.depth out) ≡ trial_blocks (picture_of f skip dirs vars) d snapshot by bx out
 unfolding trial_blocks picture_of
 trials-are f skip dirs vars d snapshot by bx out w h b way dir damping ew eh eb ey ed ep = rw (ew, eh, eb, ey, ed, ep)
+
+pub trials-of : (q : Picture) (d : SignalledDamping) (p : Plane) → p ≡ plane_of q p.samples → (by bx : ℕ) (out : List ℕ) (b : Block) (k : ℕ) (way : TrialWay) (dir : ℕ) (damping : WorkingDamping)
+    → b ≡ block_of q by bx → k ≡ block_at q by bx → way ≡ way_of q.kind k → dir ≡ dir_of q.kind q.dirs k → damping ≡ damping_of q.kind d q.depth
+    → table 768 (trial_place p b way dir damping q.depth out) ≡ trial_blocks q d p.samples by bx out
+unfolding trial_blocks
+trials-of q d p ep by bx out b k way dir damping eb ek ey ed eg = rw (ey, ed, eg, ek, eb) (ap (λ (z : Plane). table 768 (trial_place z (block_of q by bx) (way_of q.kind (block_at q by bx)) (dir_of q.kind q.dirs (block_at q by bx)) (damping_of q.kind d q.depth) q.depth out)) ep)

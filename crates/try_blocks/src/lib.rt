@@ -1,6 +1,8 @@
 // The trial blocks of a block of a plane, and its visible part.
 #![tactic(auto)]
 
+pub mod new;
+
 ghost use Rattle.std.specs.Prelude.{◌≡◌, List, ℕ, ◌*◌, ◌/◌, ◌≤◌, ◌<◌, length};
 ghost use Rattle.cdef_spec.specs.Picture.{block_width, block_height, visible_rows, visible_cols};
 ghost use Rattle.frame_shape.specs.Frame.{Shaped, picture_of};

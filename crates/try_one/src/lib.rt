@@ -1,6 +1,8 @@
 // Trying: one block of a plane.
 #![tactic(auto)]
 
+pub mod new;
+
 ghost use Rattle.std.specs.Prelude.{◌≡◌, ◌+◌, ◌*◌, ◌/◌, ◌<◌, length};
 ghost use Rattle.cdef_spec.specs.Distance.{constants_of};
 ghost use Rattle.cdef_spec.specs.LoopForm.{signed};

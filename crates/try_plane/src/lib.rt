@@ -1,6 +1,8 @@
 // Trying: per unit of a plane, the twelve totals of distances between the original and the trial blocks of the snapshot.
 #![tactic(auto)]
 
+pub mod new;
+
 ghost use Rattle.std.specs.Prelude.{◌≡◌, ◌+◌, ◌*◌, ◌/◌, ◌%◌, ◌<◌, pos, length};
 ghost use Rattle.cdef_spec.specs.Words.{table};
 ghost use Rattle.cdef_spec.specs.Distance.{constants_of};

@@ -1,0 +1,39 @@
+// Trying: per unit of a plane, the twelve totals of distances between the original and the trial blocks of the snapshot.
+ghost use Rattle.std.specs.Prelude.{◌≡◌, ◌+◌, ◌*◌, ◌/◌, ◌%◌, ◌<◌, pos, length};
+ghost use Rattle.cdef_spec.specs.Words.{table};
+ghost use Rattle.cdef_spec.specs.Distance.{constants_of};
+ghost use Rattle.cdef_spec.specs.Picture.{block_rows, units, tried_total};
+ghost use Rattle.cdef_spec.specs.LoopForm.{signed};
+ghost use Rattle.frame_shape.specs.Checked.{compare_in};
+ghost use Rattle.try_one.specs.Tried.{rows_tried};
+
+use cdef_spec::DistanceConstants;
+use frame_shape::inputs::CompareInput;
+
+// Tries a row of blocks. The loop goes over numbers, since a block's place is computed from its column.
+fn try_row(totals: &mut [i64], blocks: &mut [u16], i: &CompareInput<'_>, by: usize, c: DistanceConstants)
+    requires inside { by < block_rows (compare_in i.now) }
+    requires constants { c ≡ constants_of (compare_in i.now).depth }
+    requires room { length blocks.old ≡ 768 }
+    requires totals_so_far { totals.old ≡ signed (rows_tried i.now by) }
+    ensures { totals.new ≡ signed (rows_tried i.now (by + 1)) }
+{
+    for bx in 0..i.filter.listed.shaped.picture.width / 8 {
+        try_one::new::try_block(totals, blocks, i, by, bx, c);
+    }
+}
+
+// The twelve totals of every unit.
+pub fn try_plane(totals: &mut [i64], i: &CompareInput<'_>)
+    requires { length totals.old ≡ 12 * units (compare_in i.now) }
+    ensures { totals.new ≡ table (12 * units (compare_in i.now)) (λ k. pos (tried_total (compare_in i.now) i.now.filter.damping i.now.visible i.now.filter.plane.samples.now
+        i.now.original.samples.now (k / 12) (k % 12))) }
+{
+    let q = i.filter.listed.shaped.picture;
+    let mut blocks = try_blocks::room();
+    let c = distance_weight::constants_of(q.depth);
+    arith_totals::clear_totals(totals);
+    for by in 0..q.height / 8 {
+        try_row(totals, &mut blocks, i, by, c);
+    }
+}

@@ -1,12 +1,14 @@
 // The calls for applying: the snapshot filtered into a destination, each unit with its own pair of the caller's slice.
 // A function that borrows the pairs only gathers them for the function next to it.
 ghost use Rattle.std.specs.Prelude.{◌≡◌};
-ghost use Rattle.cdef_spec.specs.Answers.{read_answer};
+ghost use Rattle.cdef_spec.specs.Answers.{read_answer, read_done};
+ghost use Rattle.cdef_spec.specs.Lent.{picture_in};
 ghost use Rattle.cdef_spec.specs.Picture.{luma_picture, chroma_picture};
 ghost use Rattle.cdef_spec.specs.FrameCalls.{applying_outcome};
 ghost use Rattle.cdef_pairs.specs.Gather.{listed};
 
-use cdef_spec::{Answer, DampingChoice, UnitPair};
+use cdef_pairs::PairSlice;
+use cdef_spec::{Answer, DampingChoice, Picture, Refusal, UnitPair};
 
 // Applying in luma with the first n pairs of an array. More than 4,096 are rejected, since no picture has so many units.
 fn apply_luma_of(
@@ -146,4 +148,18 @@ pub fn apply_chroma(
         cdef_pairs::gather(pairs),
         damping,
     )
+}
+
+// Applying in a plane of a picture, one pair per unit. The destination's length is checked; its old contents are not examined.
+pub fn apply_units(
+    dst: &mut [u16],
+    snapshot: &[u16],
+    picture: &Picture<'_>,
+    pairs: &[UnitPair],
+    damping: DampingChoice,
+) -> Result<(), Refusal>
+    ensures { applying_outcome (picture_in picture.now) damping snapshot.now pairs.now dst.old
+        ≡ record { answer = read_done result; plane = dst.new } }
+{
+    frame_calls::calls::applying(dst, snapshot, picture, &PairSlice { units: pairs }, damping)
 }

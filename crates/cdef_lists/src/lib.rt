@@ -2,11 +2,13 @@
 #![tactic(auto)]
 
 ghost use Rattle.std.specs.Prelude.{◌≡◌};
-ghost use Rattle.cdef_spec.specs.Answers.{read_answer};
+ghost use Rattle.cdef_spec.specs.Answers.{read_answer, read_done};
+ghost use Rattle.cdef_spec.specs.Lent.{picture_in};
 ghost use Rattle.cdef_spec.specs.Picture.{luma_picture, chroma_picture};
 ghost use Rattle.cdef_spec.specs.FrameCalls.{applying_lists_outcome};
 
-use cdef_spec::{Answer, DampingChoice};
+use cdef_pairs::StrengthLists;
+use cdef_spec::{Answer, DampingChoice, Picture, Refusal};
 use frame_shape::Frame;
 
 // Applying in luma, a primary and a secondary strength per unit. The destination's length is checked; its old contents are not examined.
@@ -69,4 +71,19 @@ pub fn apply_chroma(
     let none = [0u32; 1];
     let no = frame_calls::apply_frame(dst, snapshot, f, skip, dirs, &none, pris, secs, damping);
     cdef_answer::answer_of(no)
+}
+
+// Applying in a plane of a picture, a primary and a secondary strength per unit. The destination's length is checked; its old contents are not examined.
+pub fn apply_units(
+    dst: &mut [u16],
+    snapshot: &[u16],
+    picture: &Picture<'_>,
+    pris: &[u8],
+    secs: &[u8],
+    damping: DampingChoice,
+) -> Result<(), Refusal>
+    ensures { applying_lists_outcome (picture_in picture.now) damping snapshot.now pris.now secs.now dst.old
+        ≡ record { answer = read_done result; plane = dst.new } }
+{
+    frame_calls::calls::applying(dst, snapshot, picture, &StrengthLists { pris, secs }, damping)
 }

@@ -5,6 +5,8 @@ ghost use Rattle.std.specs.Prelude.{◌≡◌, true};
 ghost use Rattle.cdef_spec.specs.FrameCalls.{trying_no, trying_outcome, measuring_no, measuring_outcome, applying_lists_no, applying_lists_outcome};
 ghost use Rattle.frame_shape.specs.Frame.{picture_of};
 
+pub mod calls; // calls.rt: each call on a picture
+
 use cdef_spec::{DampingChoice, UnitPair, Visible};
 use frame_shape::Frame;
 

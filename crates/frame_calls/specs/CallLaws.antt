@@ -1,0 +1,59 @@
+-- A frame call from its checks: what its core requires where they pass, and the outcome either way.
+use Rattle.std.specs.Prelude.{◌≡◌, refl, Bool, true, ◌&&◌, List, [], ◌∷◌, ℕ, ◌*◌, ℤ, length, eqb, Ok, Err, Result as RustResult}
+use Rattle.std.proofs.Common.{sym, ◌∙◌, ne_eqb, eqb-true, eq-eqb}
+use Rattle.cdef_spec.specs.declared.DampingChoice.{DampingChoice}
+use Rattle.cdef_spec.specs.declared.SignalledDamping.{SignalledDamping}
+use Rattle.cdef_spec.specs.declared.Refusal.{Refusal}
+use Rattle.cdef_spec.specs.declared.UnitPair.{UnitPair}
+use Rattle.cdef_spec.specs.WordsLaws.{and_both}
+use Rattle.cdef_spec.specs.Document01.{in_force}
+use Rattle.cdef_spec.specs.Picture.{Picture, plane_width, plane_height, units, applied_plane}
+use Rattle.cdef_spec.specs.Answers.{nothing, result_of, read_done, code_of}
+use Rattle.cdef_spec.specs.AnswerLaws.{not-zero, read_done-err, zero-so, read_done-ok}
+use Rattle.cdef_spec.specs.Questions.{full_planes, picture_listed, picture_taken}
+use Rattle.cdef_spec.specs.QuestionLaws.{Taken, questions-yes}
+use Rattle.cdef_pairs.specs.Applying.{applying_by_no, applying_by_outcome}
+
+-- ---- what passing says
+
+module _ {q : Picture} {d : SignalledDamping} {planes : List (List ℕ)} {lists values : Bool} {looked : List (List ℕ)} (t : Taken q d planes lists values looked) where
+  own-lists : lists ≡ true
+  own-lists = (and_both (picture_listed q) lists t.seven).1
+
+  own-values : values ≡ true
+  own-values = (and_both (picture_taken q d) values t.eight).1
+
+second-long : (q : Picture) (a b : List ℕ) → full_planes q (a ∷ b ∷ []) ≡ true → length b ≡ plane_width q * plane_height q
+unfolding full_planes
+second-long q a b e = eqb-true _ _ (and_both _ _ (and_both _ _ e).1).0
+
+-- the outcome of a call that is done
+done-is : (done : Unit {0}) (n : ℕ) → n ≡ 0 → read_done (Ok done) ≡ result_of n nothing
+unfolding code_of
+done-is done n z = read_done-ok {B = Unit {0}} done n (sym z) done
+
+-- ---- applying
+
+module _ (q : Picture) (d : DampingChoice) (snapshot : List ℕ) (listed : ℕ → Bool) (values : Bool) (ps : List UnitPair) (dst : List ℕ) where
+  pub applying-refuses : (B : Type 0) (r : Refusal) (x : RustResult (Unit {0}) Refusal) → x ≡ Err r → code_of {A = B} (Err r) ≡ applying_by_no q d snapshot listed values dst
+      → applying_by_outcome q d snapshot listed values ps dst ≡ record { answer = read_done x; plane = dst }
+  unfolding applying_by_outcome
+  applying-refuses B r x e h = rw (e, read_done-err B r _ h, ne_eqb _ 0 (not-zero B r _ h)) refl
+
+  module _ (z : applying_by_no q d snapshot listed values dst ≡ 0) where
+    yes : Taken q (in_force d) (snapshot ∷ dst ∷ []) (listed (units q)) values (snapshot ∷ [])
+    unfolding applying_by_no
+    yes = questions-yes _ _ _ _ _ _ z
+
+    pub applying-listed : listed (units q) ≡ true
+    applying-listed = own-lists yes
+
+    pub applying-taken : values ≡ true
+    applying-taken = own-values yes
+
+    pub applying-long : length dst ≡ plane_width q * plane_height q
+    applying-long = second-long q snapshot dst yes.four
+
+    pub applying-does : (done : Unit {0}) (p : List ℕ) → p ≡ applied_plane q (in_force d) snapshot ps dst → applying_by_outcome q d snapshot listed values ps dst ≡ record { answer = read_done (Ok done); plane = p }
+    unfolding applying_by_outcome
+    applying-does done p e = rw (e, done-is done _ z, eq-eqb _ 0 z) refl

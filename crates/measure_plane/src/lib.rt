@@ -1,6 +1,9 @@
 // Measuring: per unit, the distance between an original and a plane, filtered with one pair or unfiltered.
 #![tactic(auto)]
 
+pub mod new;
+pub mod newtotals;
+pub mod newblock;
 pub mod block; // block.rt: one block
 pub mod totals; // totals.rt: a row of blocks
 

@@ -22,10 +22,7 @@ pub fn taps(dir: usize) -> Taps
 pub fn from_one(damping: WorkingDamping) -> u32
     ensures { result ≡ max 1 damping.0 }
 {
-    if damping.0 == 0 {
-        return 1;
-    }
-    damping.0 as u32
+    (damping.0 as u32).max(1)
 }
 
 // The shift of a strength, capped at 15.
@@ -33,12 +30,9 @@ fn shift_of(s: u16, damping: u32) -> u32
     requires { damping ≤ 31 }
     ensures { result ≡ shift_of s damping }
 {
-    let l = arith_strength::log2_floor(s as u32);
-    if damping <= l {
-        return 0;
-    }
-    let d = damping - l;
-    if d < 15 { d } else { 15 }
+    damping
+        .saturating_sub(arith_strength::log2_floor(s as u32))
+        .min(15)
 }
 
 // A primary strength with its shift and its weights, 4, 2 or 3, 3.

@@ -5,6 +5,8 @@ ghost use Rattle.arith_sample.specs.Upto.{upto};
 ghost use Rattle.arith_sample.specs.Bounds.{Held};
 ghost use Rattle.filter_rows.specs.Sums.{Near6, InRange, pri_at, sec_at};
 
+use std::array;
+
 use crate::{Strength, Taps, both};
 
 // The sample at k, filtered with the primary strength.
@@ -32,20 +34,12 @@ pub fn pri_row(w: &[u16; 144], row: usize, t: Taps, f: Strength) -> [u16; 8]
     requires { (26 ≤ row) × (row ≤ 110) × Held w.now × Near6 t × InRange f }
     ensures { result ≡ upto (λ j. free_of (slice_index w.now (row + j)) (pri_at w.now (row + j) t f)) 8 }
 {
-    let mut out = [0u16; 8];
-    for j in 0..8usize {
-        out[j] = pri_at(w, row + j, t, f);
-    }
-    out
+    array::from_fn(|j| pri_at(w, row + j, t, f))
 }
 
 pub fn sec_row(w: &[u16; 144], row: usize, t: Taps, f: Strength) -> [u16; 8]
     requires { (26 ≤ row) × (row ≤ 110) × Held w.now × Near6 t × InRange f }
     ensures { result ≡ upto (λ j. free_of (slice_index w.now (row + j)) (sec_at w.now (row + j) t f)) 8 }
 {
-    let mut out = [0u16; 8];
-    for j in 0..8usize {
-        out[j] = sec_at(w, row + j, t, f);
-    }
-    out
+    array::from_fn(|j| sec_at(w, row + j, t, f))
 }

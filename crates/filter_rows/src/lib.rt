@@ -9,6 +9,8 @@ ghost use Rattle.arith_sample.specs.Upto.{upto};
 ghost use Rattle.arith_sample.specs.Bounds.{Held};
 ghost use Rattle.filter_rows.specs.Sums.{Near6, InRange, filtered_at};
 
+use std::array;
+
 // offsets of the taps in a window of pitch 12, wrapped; the opposite tap lies as far the other way
 #[derive(Clone, Copy)]
 pub struct Taps {
@@ -34,11 +36,7 @@ pub fn filtered_row(w: &[u16; 144], row: usize, t: Taps, f: Strength, g: Strengt
     requires { (26 ≤ row) × (row ≤ 110) × Held w.now × Near6 t × InRange f × InRange g }
     ensures { result ≡ upto (λ j. filtered_at w.now (row + j) t f g) 8 }
 {
-    let mut out = [0u16; 8];
-    for j in 0..8usize {
-        out[j] = both::both_at(w, row + j, t, f, g);
-    }
-    out
+    array::from_fn(|j| both::both_at(w, row + j, t, f, g))
 }
 
 // A row of the window, unfiltered.
@@ -46,10 +44,5 @@ pub fn centre_row(w: &[u16; 144], row: usize) -> [u16; 8]
     requires { (26 ≤ row) × (row ≤ 110) }
     ensures { result ≡ upto (λ j. slice_index w.now (row + j)) 8 }
 {
-    let mut out = [0u16; 8];
-    for j in 0..8usize {
-        let at = row + j;
-        out[j] = w[at];
-    }
-    out
+    array::from_fn(|j| w[row + j])
 }

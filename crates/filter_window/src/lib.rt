@@ -21,10 +21,10 @@ fn looked_at(at: usize, n: usize, m: usize) -> Span
     requires { (at < m) × (m ≤ 4096) × (n ≤ 8) }
     ensures { SpanOf at n m result }
 {
-    let lo = if at < 2 { 2 - at } else { 0 };
-    let end = m + 2 - at;
-    let hi = if n + 4 < end { n + 4 } else { end };
-    Span { lo, hi }
+    Span {
+        lo: 2usize.saturating_sub(at),
+        hi: (n + 4).min(m + 2 - at),
+    }
 }
 
 // The window of any block: in each row that is examined, the columns that are.
@@ -66,22 +66,12 @@ fn lies_inside(w: usize, h: usize, b: Block) -> bool
     requires { (b.x ≤ 4096) × (b.y ≤ 4096) × (b.width ≤ 8) × (b.height ≤ 8) }
     ensures { result ≡ true → Inside w h b }
 {
-    if b.width % 4 != 0 {
-        return false;
-    }
-    if b.width == 0 {
-        return false;
-    }
-    if b.x < 2 {
-        return false;
-    }
-    if b.y < 2 {
-        return false;
-    }
-    if w < b.x + b.width + 2 {
-        return false;
-    }
-    b.y + b.height + 2 <= h
+    b.width % 4 == 0
+        && b.width != 0
+        && 2 <= b.x
+        && 2 <= b.y
+        && b.x + b.width + 2 <= w
+        && b.y + b.height + 2 <= h
 }
 
 // The window of a block of a plane.

@@ -34,18 +34,6 @@ pub fn less(a: u8, b: u8) -> u8
     if a < b { 0 } else { a - b }
 }
 
-pub fn least(a: u8, b: u8) -> u8
-    ensures { result ≡ min a b }
-{
-    if a < b { a } else { b }
-}
-
-pub fn most(a: u8, b: u8) -> u8
-    ensures { result ≡ max a b }
-{
-    if a < b { b } else { a }
-}
-
 // How far a is above b, constrained.
 pub fn above(a: u8, b: u8, s: u8, sh: u32) -> u8
     requires { sh < 8 }
@@ -53,7 +41,7 @@ pub fn above(a: u8, b: u8, s: u8, sh: u32) -> u8
 {
     let d = less(a, b);
     let size = d + less(b, a);
-    least(d, less(s, size >> sh))
+    d.min(less(s, size >> sh))
 }
 
 // What is left of a sum over the opposite one, rounded.

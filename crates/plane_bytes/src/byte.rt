@@ -23,7 +23,7 @@ fn weigh(n: u8, f: u8, odd: u8) -> u8
     ensures { (result ≡ weigh_pri n f odd) × (result ≤ 180) }
 {
     let t = n + f;
-    t + t + n + (plane_byte::least(f, odd) + plane_byte::least(n, 255 - odd))
+    t + t + n + (f.min(odd) + n.min(255 - odd))
 }
 
 // 2 n + f.
@@ -118,19 +118,15 @@ fn sec_down(
 fn high_four(a0: u8, b0: u8, a1: u8, b1: u8, c: u8) -> u8
     ensures { (result ≡ high_four a0 b0 a1 b1 c) × (result + c ≤ 255) }
 {
-    plane_byte::most(
-        plane_byte::most(plane_byte::less(a0, c), plane_byte::less(b0, c)),
-        plane_byte::most(plane_byte::less(a1, c), plane_byte::less(b1, c)),
-    )
+    (plane_byte::less(a0, c).max(plane_byte::less(b0, c)))
+        .max(plane_byte::less(a1, c).max(plane_byte::less(b1, c)))
 }
 
 fn low_four(a0: u8, b0: u8, a1: u8, b1: u8, c: u8) -> u8
     ensures { (result ≡ low_four a0 b0 a1 b1 c) × (result ≤ c) }
 {
-    plane_byte::most(
-        plane_byte::most(plane_byte::less(c, a0), plane_byte::less(c, b0)),
-        plane_byte::most(plane_byte::less(c, a1), plane_byte::less(c, b1)),
-    )
+    (plane_byte::less(c, a0).max(plane_byte::less(c, b0)))
+        .max(plane_byte::less(c, a1).max(plane_byte::less(c, b1)))
 }
 
 // The sample from its sums, clipped.
@@ -138,8 +134,7 @@ fn clipped(c: u8, up: u8, down: u8, high: u8, low: u8) -> u8
     requires { (up ≤ 228) × (down ≤ 228) × (high + c ≤ 255) × (low ≤ c) }
     ensures { result ≡ clipped_of c up down high low }
 {
-    c + plane_byte::least(plane_byte::left(up, down), high)
-        - plane_byte::least(plane_byte::left(down, up), low)
+    c + plane_byte::left(up, down).min(high) - plane_byte::left(down, up).min(low)
 }
 
 // The sample filtered with both strengths.
@@ -170,13 +165,9 @@ pub fn both(
         + sec_up(a2, b2, a3, b3, a4, b4, a5, b5, c, s2, sh2);
     let down = pri_down(a0, b0, a1, b1, c, s, sh, odd)
         + sec_down(a2, b2, a3, b3, a4, b4, a5, b5, c, s2, sh2);
-    let high = plane_byte::most(
-        high_four(a0, b0, a1, b1, c),
-        plane_byte::most(high_four(a2, b2, a3, b3, c), high_four(a4, b4, a5, b5, c)),
-    );
-    let low = plane_byte::most(
-        low_four(a0, b0, a1, b1, c),
-        plane_byte::most(low_four(a2, b2, a3, b3, c), low_four(a4, b4, a5, b5, c)),
-    );
+    let high = high_four(a0, b0, a1, b1, c)
+        .max(high_four(a2, b2, a3, b3, c).max(high_four(a4, b4, a5, b5, c)));
+    let low = low_four(a0, b0, a1, b1, c)
+        .max(low_four(a2, b2, a3, b3, c).max(low_four(a4, b4, a5, b5, c)));
     clipped(c, up, down, high, low)
 }

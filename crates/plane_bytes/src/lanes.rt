@@ -3,6 +3,8 @@ ghost use Rattle.std.specs.Prelude.{◌≡◌, ◌<◌, ◌≤◌, slice_index};
 ghost use Rattle.arith_sample.specs.Upto.{upto};
 ghost use Rattle.plane_bytes.specs.Byte.{Mask, both_of};
 
+use std::array;
+
 use crate::byte;
 
 // The samples filtered with both strengths.
@@ -31,12 +33,10 @@ pub fn both(
         (slice_index a2.now n) (slice_index b2.now n) (slice_index a3.now n) (slice_index b3.now n) (slice_index a4.now n) (slice_index b4.now n)
         (slice_index a5.now n) (slice_index b5.now n) (slice_index c.now n) s sh odd s2 sh2) 16 }
 {
-    let mut out = [0u8; 16];
-    for j in 0..16usize {
-        out[j] = byte::both(
+    array::from_fn(|j| {
+        byte::both(
             a0[j], b0[j], a1[j], b1[j], a2[j], b2[j], a3[j], b3[j], a4[j], b4[j], a5[j], b5[j],
             c[j], s, sh, odd, s2, sh2,
-        );
-    }
-    out
+        )
+    })
 }

@@ -25,7 +25,7 @@ fn far(dir: usize, w: usize, p: usize) -> usize
     requires { (dir < 8) × (w ≤ 4096) × (p ≤ 4096) }
     ensures { result ≡ step_by w p dir 1 }
 {
-    let row = arith_numbers::lesser(dir, 4);
+    let row = dir.min(4);
     std::num::wrapping_sub_usize(row * w + (4 + row - dir) * p, 2 * w + 2 * p)
 }
 

@@ -1,31 +1,7 @@
 -- `filter_rows::filtered_row` meets its contract.
-use Rattle.std.proofs.Common.{sym, refl, arith, length-set}
-use Rattle.arith_sample.specs.Upto.{upto-none, upto-more, upto_all}
+use Rattle.std.proofs.Common.{rules}
+use Rattle.arith_sample.specs.FromFn.{from-each}
 use Rattle.filter_rows.proofs.filtered_row.Goals as goal
 
-pub loop-j-init : goal.loop-j-init
-loop-j-init c = (sym (upto-none _), refl, omega arith)
-
-pub overflow_add-row : goal.overflow_add-row
-overflow_add-row c = let s = c.before.before in omega (arith, s.requires.1)
-
-pub both_at-requires : goal.both_at-requires
-both_at-requires c = let s = c.before.before in (omega (arith, s.requires.0), omega (arith, s.requires.1), s.requires.2, s.requires.3, s.requires.4, s.requires.5)
-
-pub offset_bounds-out-j : goal.offset_bounds-out-j
-offset_bounds-out-j c = omega arith
-
-pub bounds-out-j : goal.bounds-out-j
-bounds-out-j c = omega arith
-
-pub overflow_step-j : goal.overflow_step-j
-overflow_step-j c = omega arith
-
-pub loop-j-smaller : goal.loop-j-smaller
-loop-j-smaller c = omega arith
-
-pub loop-j-preserved : goal.loop-j-preserved
-loop-j-preserved c = let p = c.before.before in (upto-more _ _ _ _ p.loop-j.invariant.0 (omega arith) c.both_at.ensures, simp length-set p.loop-j.invariant.1, omega arith)
-
 pub returns : goal.returns
-returns c = let p = c.before in upto_all _ _ 8 _ p.loop-j.invariant.0 p.loop-j.invariant.1 (omega arith)
+returns c = from-each _ _ (λ i y q e. search rules) _ 8 c.from_fn.ensures.items

@@ -2,16 +2,13 @@
 use Rattle.std.proofs.Common.{◌+◌, ◌-◌, ◌*◌, ◌≤◌, mul-le-mul_right, arith, rules}
 use Rattle.plane_taps.specs.StepLaws.{far-is}
 use Rattle.plane_taps.proofs.steps.far.Goals as goal
-use Rattle.plane_taps.proofs.steps.far.Goals.{After-lesser-row}
+use Rattle.plane_taps.proofs.steps.far.Goals.{After-min-row}
 
-row_low : (c : After-lesser-row) → c.lesser-row.result * c.before.args.w ≤ 4 * c.before.args.w
-row_low c = let h : c.lesser-row.result ≤ 4 = omega (arith, c.lesser-row.ensures) in mul-le-mul_right c.before.args.w h
+row_low : (c : After-min-row) → c.min-row.result * c.before.args.w ≤ 4 * c.before.args.w
+row_low c = let h : c.min-row.result ≤ 4 = omega (arith, c.min-row.ensures) in mul-le-mul_right c.before.args.w h
 
-col-low : (c : After-lesser-row) → (4 + c.lesser-row.result - c.before.args.dir) * c.before.args.p ≤ 4 * c.before.args.p
-col-low c = let h : 4 + c.lesser-row.result - c.before.args.dir ≤ 4 = omega (arith, c.lesser-row.ensures) in mul-le-mul_right c.before.args.p h
-
-pub lesser-row-requires : goal.lesser-row-requires
-lesser-row-requires c = search rules
+col-low : (c : After-min-row) → (4 + c.min-row.result - c.before.args.dir) * c.before.args.p ≤ 4 * c.before.args.p
+col-low c = let h : 4 + c.min-row.result - c.before.args.dir ≤ 4 = omega (arith, c.min-row.ensures) in mul-le-mul_right c.before.args.p h
 
 pub overflow_mul-row : goal.overflow_mul-row
 overflow_mul-row c = omega (arith, row_low c)
@@ -41,4 +38,4 @@ pub wrapping_sub_usize-requires : goal.wrapping_sub_usize-requires
 wrapping_sub_usize-requires c = search rules
 
 pub returns : goal.returns
-returns c = let s = c.before.before in far-is s.args.w s.args.p _ s.requires.1 s.requires.2 (omega arith) s.args.dir c.before.lesser-row.result s.requires.0 c.before.lesser-row.ensures c.wrapping_sub_usize.ensures.value
+returns c = let s = c.before.before in far-is s.args.w s.args.p _ s.requires.1 s.requires.2 (omega arith) s.args.dir c.before.min-row.result s.requires.0 c.before.min-row.ensures c.wrapping_sub_usize.ensures.value

@@ -7,16 +7,14 @@ ghost use Rattle.arith_sample.specs.Bounds.{Held, Within};
 ghost use Rattle.arith_sample.specs.Upto.{upto};
 ghost use Rattle.trial_runs.specs.Runs.{raised_at, clipped_at, run_tap, raised_tap, clipped_tap};
 
+use std::array;
+
 // Centres with one sum, which needs no clip.
 pub fn free_run(c: &[u16; 16], s: &[i16; 16]) -> [u16; 16]
     requires { Held c.now × Within s.now 7680 }
     ensures { result ≡ upto (raised_at c.now s.now) 16 }
 {
-    let mut v = [0u16; 16];
-    for j in 0..16usize {
-        v[j] = arith_sample::raised(c[j], s[j]);
-    }
-    v
+    array::from_fn(|j| arith_sample::raised(c[j], s[j]))
 }
 
 // Centres with both sums, clipped.
@@ -30,14 +28,10 @@ pub fn both_run(
     requires { Held c.now × Within p.now 3840 × Within s.now 7680 × Held lo.now × Held hi.now }
     ensures { result ≡ upto (clipped_at c.now p.now s.now lo.now hi.now) 16 }
 {
-    let mut v = [0u16; 16];
-    for j in 0..16usize {
-        v[j] = arith_sample::clipped(c[j], arith_sample::add(p[j], s[j]), lo[j], hi[j]);
-    }
-    v
+    array::from_fn(|j| { arith_sample::clipped(c[j], arith_sample::add(p[j], s[j]), lo[j], hi[j]) })
 }
 
-// A run stored in trial block t, from its entry k on.
+// A run stored in trial block t, from its entry k on. By index: `copy_from_slice` is 5 % slower in the whole trial, and `zip` four times as slow.
 pub fn put_run(out: &mut [u16], t: usize, k: usize, v: [u16; 16])
     requires { (length out.old ≡ 768) × (t < 12) × (k + 16 ≤ 64) }
     ensures { out.new ≡ put_row out.old 64 (run_tap v k) t k 16 }

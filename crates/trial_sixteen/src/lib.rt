@@ -5,10 +5,11 @@ ghost use Rattle.std.specs.Prelude.{◌≡◌, true, ℕ, ◌+◌, ◌≤◌, le
 ghost use Rattle.cdef_spec.specs.LoopForm.{put_block};
 ghost use Rattle.arith_sample.specs.Bounds.{Held, Within};
 ghost use Rattle.plane_taps.specs.Reach.{Around};
+ghost use Rattle.filter_rows.specs.Sums.{InRange};
 ghost use Rattle.trial_sums.specs.Raw.{sec_raw, SecKnown};
 ghost use Rattle.trial_sixteen.specs.Sixteen.{raw_tap, Strong, PriWithin, first_runs, four_runs};
 
-use filter_rows::Taps;
+use filter_rows::{Strength, Taps};
 use trial_strengths::Twelve;
 use trial_sums::{PriSums, SecSums};
 
@@ -19,19 +20,17 @@ fn zero_sums(
     zero: Taps,
     own: SecSums,
     same: bool,
-    s: u16,
-    sh: u32,
-    z: u16,
-    zh: u32,
+    f: Strength,
+    g: Strength,
 ) -> SecSums
-    requires around { Around (length l.now) at 16 zero × Held l.now × (s ≤ 240) × (sh ≤ 15) × (z ≤ 240) × (zh ≤ 15) }
-    requires sec_known { same ≡ true → SecKnown l.now at zero s sh z zh own }
-    ensures { SecKnown l.now at zero s sh z zh result }
+    requires around { Around (length l.now) at 16 zero × Held l.now × InRange f × InRange g }
+    requires sec_known { same ≡ true → SecKnown l.now at zero f.s f.sh g.s g.sh own }
+    ensures { SecKnown l.now at zero f.s f.sh g.s g.sh result }
 {
     if same {
         return own;
     }
-    trial_sums::sec_sums(l, at, zero, s, sh, z, zh)
+    trial_sums::sec_sums(l, at, zero, f, g)
 }
 
 // The four trials without a secondary strength: the samples unfiltered, then by each of the three primary sums.
@@ -88,8 +87,8 @@ pub fn sixteen(
     let at = from + k;
     let c = trial_sums::centre(l, at);
     let p = trial_sums::pri_sums(l, at, own, u.p1, u.p2, u.p3);
-    let s = trial_sums::sec_sums(l, at, own, u.s1.s, u.s1.sh, u.s2.s, u.s2.sh);
-    let z = zero_sums(l, at, zero, s, same, u.s1.s, u.s1.sh, u.s2.s, u.s2.sh);
+    let s = trial_sums::sec_sums(l, at, own, u.s1, u.s2);
+    let z = zero_sums(l, at, zero, s, same, u.s1, u.s2);
     let e = trial_sums::limits::limits_of(l, at, own);
     let lo = e.lo;
     let hi = e.hi;

@@ -54,7 +54,7 @@ pub sec_sums-s-requires : goal.sec_sums-s-requires
 sec_sums-s-requires c = search rules
 
 pub zero_sums-z-requires : goal.zero_sums-z-requires
-zero_sums-z-requires c = let r = c.requires.out_len.3 in record { around = (c.requires.out_len.5, c.requires.out_len.2, r.s1.s, r.s1.sh, r.s2.s, r.s2.sh); sec_known = λ e. same-sums _ _ c.args.own c.args.zero _ _ _ _ _ c.sec_sums-s.ensures (c.requires.sh_value e) }
+zero_sums-z-requires c = let r = c.requires.out_len.3 in record { around = (c.requires.out_len.5, c.requires.out_len.2, r.s1, r.s2); sec_known = λ e. same-sums _ _ c.args.own c.args.zero _ _ _ _ _ c.sec_sums-s.ensures (c.requires.sh_value e) }
 
 pub limits_of-e-requires : goal.limits_of-e-requires
 limits_of-e-requires c = search rules

@@ -7,7 +7,7 @@ use Rattle.trial_sums.specs.Raw.{sec_raw}
 use Rattle.trial_sums.proofs.sec_sums.Given as goal
 
 abbrev pub invariant-loop-j : goal.invariant-loop-j
-invariant-loop-j l = (take l.j l.s1 ≡ upto (λ (j' : ℕ). sec_raw l.t (l.at + j') l.o l.s l.sh) l.j) × (take l.j l.s2 ≡ upto (λ (j' : ℕ). sec_raw l.t (l.at + j') l.o l.z l.zh) l.j) × (length l.s1 ≡ 16) × (length l.s2 ≡ 16) × (l.j ≤ 16)
+invariant-loop-j l = (take l.j l.s1 ≡ upto (λ (j' : ℕ). sec_raw l.t (l.at + j') l.o l.f.s l.f.sh) l.j) × (take l.j l.s2 ≡ upto (λ (j' : ℕ). sec_raw l.t (l.at + j') l.o l.g.s l.g.sh) l.j) × (length l.s1 ≡ 16) × (length l.s2 ≡ 16) × (l.j ≤ 16)
 
 abbrev pub decreases-loop-j : goal.decreases-loop-j
 decreases-loop-j l = 16 - l.j

@@ -56,17 +56,6 @@ fn secondary_of(u: Twelve, t: usize) -> Strength
     if j == 1 { u.s1 } else { u.s2 }
 }
 
-// The first n samples of a row, stored in trial block t from its entry k on.
-fn put_row(out: &mut [u16], t: usize, k: usize, n: usize, v: [u16; 8])
-    requires { (length out.old ≡ 768) × (t < 12) × (n ≤ 8) × (k + n ≤ 64) }
-    ensures { out.new ≡ put_row out.old 64 (run_tap v k) t k n }
-{
-    let at = t * 64 + k;
-    for j in 0..n {
-        out[at + j] = v[j];
-    }
-}
-
 // The first n entries of trial block t.
 fn put_block(out: &mut [u16], t: usize, n: usize, v: [u16; 64])
     requires { (length out.old ≡ 768) × (t < 12) × (n ≤ 64) }

@@ -15,14 +15,6 @@ ghost use Rattle.arith_numbers.specs.Packed.{Packed};
 use filter_rows::Taps;
 use trial_strengths::Twelve;
 
-// Whether a block's samples fill runs of sixteen, in rows of four or of eight.
-fn packs(w: usize, h: usize) -> bool
-    requires { (w ≤ 8) × (h ≤ 8) }
-    ensures { result ≡ true → Packed w h }
-{
-    arith_numbers::packs(w, h)
-}
-
 // The first n runs of sixteen entries of the twelve trial blocks.
 fn runs(
     out: &mut [u16],

@@ -26,19 +26,3 @@ pub fn strips(win: &[u16; 144], w: usize, n: usize) -> [u16; 480]
     }
     out
 }
-
-// The same with rows of eight.
-fn strips_eight(win: &[u16; 144], n: usize) -> [u16; 480]
-    requires { n ≤ 12 }
-    ensures { Strips win.now 8 n result }
-{
-    strips(win, 8, n)
-}
-
-// The same with rows of four.
-fn strips_four(win: &[u16; 144], n: usize) -> [u16; 480]
-    requires { n ≤ 12 }
-    ensures { Strips win.now 4 n result }
-{
-    strips(win, 4, n)
-}

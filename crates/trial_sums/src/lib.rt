@@ -61,16 +61,9 @@ pub fn pri_sums(t: &[u16], at: usize, o: Taps, f: Strength, g: Strength, h: Stre
     requires { Around (length t.now) at 16 o × Held t.now × InRange f × InRange g × InRange h × (g.s ≡ h.s → g ≡ h) }
     ensures { PriKnown t.now at o f g h result }
 {
-    if f.s != 0 {
-        return PriSums {
-            p1: pri_one(t, at, o, f),
-            p2: pri_one(t, at, o, g),
-            p3: pri_one(t, at, o, h),
-        };
-    }
     let p2 = pri_one(t, at, o, g);
     PriSums {
-        p1: [0i16; 16],
+        p1: if f.s == 0 { [0i16; 16] } else { pri_one(t, at, o, f) },
         p2,
         p3: if g.s == h.s { p2 } else { pri_one(t, at, o, h) },
     }

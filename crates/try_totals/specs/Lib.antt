@@ -1,5 +1,3 @@
 -- The distances that trying adds up, and their laws.
 pub mod Totals
 pub mod SameLaws
-pub mod WholeLaws
-pub mod FourLaws

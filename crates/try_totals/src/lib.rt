@@ -11,9 +11,6 @@ ghost use Rattle.try_totals.specs.Totals.{trial_distances};
 
 use cdef_spec::DistanceConstants;
 
-mod four; // four.rt: the same for a whole chroma block of 4 by 4 samples
-mod whole; // whole.rt: the same for a whole luma block
-
 // The distances between a block of the original and the trial blocks, one by one.
 fn cut_distances(
     original: &[u16],
@@ -47,31 +44,6 @@ fn cut_distances(
         );
     }
     d
-}
-
-// Adds to twelve totals, from `base` on, the distances between a block of the original and the trial blocks, one by one.
-fn add_cut(
-    totals: &mut [i64],
-    base: usize,
-    original: &[u16],
-    at: usize,
-    pitch: usize,
-    blocks: &[u16],
-    step: usize,
-    rows: usize,
-    cols: usize,
-    luma: bool,
-    c: DistanceConstants,
-)
-    requires base_in_bounds { (base + 12 ≤ length totals.old) × Low totals.old × (rows ≤ 8) × (cols ≤ 8) }
-    requires by_index { (depth : ℕ) × OfDepth c depth × Within original.now at pitch rows cols (2 ^ depth)
-        × ((t : ℕ) → t < 12 → Within blocks.now (t * 64) step rows cols (2 ^ depth)) }
-    ensures { totals.new ≡ signed
-        (add_turns (plain_of totals.old) base (trial_distances luma c rows cols original.now at pitch blocks.now step)
-        12) }
-{
-    let d = cut_distances(original, at, pitch, blocks, step, rows, cols, luma, c);
-    arith_totals::add_twelve(totals, base, d);
 }
 
 // The same distances: whole luma blocks, and chroma blocks whose samples fill runs of sixteen, in loops of their own.

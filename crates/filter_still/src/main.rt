@@ -4,31 +4,19 @@
 // Errors are reported on stderr, and then no file is written. The README of this crate says more.
 #![tactic(auto)]
 
+mod problem; // problem.rt: why the still is not filtered
 mod report; // report.rt: what is printed
 mod request; // request.rt: the arguments
-mod room; // room.rt: room for the file, the planes and the totals
+mod still; // still.rt: the still read, filtered and written
 
-use request::{Asked, Names};
+use problem::Problem;
 use std::{env, io};
-use still_files::say;
 
 fn main(rt: HostRuntime) -> io::Result<()> {
     let given: Vec<String> = env::args(&rt)?.collect(rt.alloc())?;
-    let [_, still, original, damping, primary, secondary, output] = given.as_slice() else {
-        return say::usage(&rt);
-    };
-    let names = Names {
-        still: still.as_str(),
-        original: original.as_str(),
-        output: output.as_str(),
-    };
-    match request::request_of_arguments(
-        &rt,
-        damping.as_str(),
-        primary.as_str(),
-        secondary.as_str(),
-    )? {
-        Asked::Request(r) => room::filter(&rt, rt.alloc(), names, r),
-        Asked::Wrong => Ok(()),
+    match still::filter(&rt, rt.alloc(), given.as_slice()) {
+        Ok(()) => Ok(()),
+        Err(Problem::Stopped(error)) => Err(error),
+        Err(problem) => rt.eprintln(problem),
     }
 }

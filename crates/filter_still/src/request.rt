@@ -1,79 +1,49 @@
-// The damping and the pair out of the arguments.
-use cdef_spec::{DampingChoice, UnitPair};
-use std::io;
-use still_files::say;
-use still_steps::damping;
-use still_steps::damping::DampingText;
-use still_text::numbers;
-use still_text::numbers::Number;
+// The files, the damping and the pair out of the arguments.
+use crate::problem::Problem;
+use cdef_spec::{SignalledDamping, UnitPair};
+use still_steps::damping::{DampingError, damping_of, small};
+use still_text::numbers::number_of;
 
-// The files that the arguments name.
+// The files that the arguments name, and what the still is filtered with.
 #[derive(Clone, Copy)]
-pub struct Names<'a> {
+pub struct Request<'a> {
     pub still: &'a str,
     pub original: &'a str,
     pub output: &'a str,
-}
-
-// What the still is filtered with.
-#[derive(Clone, Copy)]
-pub struct Request {
-    pub damping: DampingChoice,
+    pub damping: SignalledDamping,
     pub pair: UnitPair,
 }
 
-#[derive(Clone, Copy)]
-pub enum Asked {
-    Request(Request),
-    Wrong,
-}
-
-// The damping given by argument 3.
-fn damping_argument(rt: &impl Eprint, given: &str) -> io::Result<DampingText> {
-    let answer = damping::damping_of(given.as_bytes());
-    match answer {
-        DampingText::Signalled(_) => {}
-        DampingText::Rejected(no) => say::index(rt, no)?,
-        DampingText::NotDamping => say::argument(
-            rt,
-            "DAMPING is q and a quality index, or d and a signalled damping, not ",
-            given,
-        )?,
+fn damping_argument(given: &str) -> Result<SignalledDamping, Problem<'_>> {
+    match damping_of(given.as_bytes()) {
+        Ok(damping) => Ok(damping),
+        Err(DampingError::Rejected(code)) => Err(Problem::Index(code)),
+        Err(DampingError::NotDamping) => Err(Problem::Damping(given)),
     }
-    Ok(answer)
 }
 
-// The number given by an argument.
-fn strength_argument(rt: &impl Eprint, given: &str, no: &str) -> io::Result<Number> {
-    let answer = numbers::number_of(given.as_bytes());
-    if let Number::NoNumber = answer {
-        say::argument(rt, no, given)?;
-    }
-    Ok(answer)
+// The number given by an argument, which no call accepts where it is not a strength.
+fn strength_argument(given: &str) -> Option<u8> {
+    number_of(given.as_bytes()).map(|n| small(n))
 }
 
-// The request of arguments 3 to 5; Wrong, once the error is reported.
-pub fn request_of_arguments(
-    rt: &impl Eprint,
-    damping: &str,
-    primary: &str,
-    secondary: &str,
-) -> io::Result<Asked> {
-    let DampingText::Signalled(damping) = damping_argument(rt, damping)? else {
-        return Ok(Asked::Wrong);
+// The request of the program's name and six arguments.
+pub fn request_of(given: &[String]) -> Result<Request<'_>, Problem<'_>> {
+    let [_, still, original, damping, primary, secondary, output] = given else {
+        return Err(Problem::Usage);
     };
-    let Number::Value(primary) = strength_argument(rt, primary, "PRIMARY is a number, not ")? else {
-        return Ok(Asked::Wrong);
+    let primary = primary.as_str();
+    let secondary = secondary.as_str();
+    let damping = damping_argument(damping.as_str())?;
+    let pair = UnitPair {
+        primary: strength_argument(primary).ok_or(Problem::Primary(primary))?,
+        secondary: strength_argument(secondary).ok_or(Problem::Secondary(secondary))?,
     };
-    let Number::Value(secondary) = strength_argument(rt, secondary, "SECONDARY is a number, not ")?
-    else {
-        return Ok(Asked::Wrong);
-    };
-    Ok(Asked::Request(Request {
-        damping: DampingChoice::Given(damping),
-        pair: UnitPair {
-            primary: damping::small(primary),
-            secondary: damping::small(secondary),
-        },
-    }))
+    Ok(Request {
+        still: still.as_str(),
+        original: original.as_str(),
+        output: output.as_str(),
+        damping,
+        pair,
+    })
 }

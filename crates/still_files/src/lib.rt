@@ -1,5 +1,75 @@
-// Pictures out of files and into files, and what is printed on stderr.
+// Pictures out of files and into files.
 #![tactic(auto)]
 
-pub mod files; // files.rt: pictures read and written
-pub mod say; // say.rt: what is printed
+use std::alloc::{AllocError, Global};
+use std::io::{Read, Write};
+use std::rt::Files;
+use std::{fs, io};
+use still_pgm::format::{Fault, Format};
+use still_pgm::{decode, encode};
+use thiserror::Error;
+
+// No file of so many bytes, or of more, is read.
+const LIMIT: usize = 1_580_000;
+
+// A picture that was read: its format, and its padded plane.
+#[derive(Drop)]
+pub struct Picture {
+    pub format: Format,
+    pub plane: Vec<u16>,
+}
+
+// Why a file is not read or written: what the system says, what is wrong with it, or that memory ran out.
+#[derive(Debug, Drop, Error)]
+pub enum FileError {
+    #[error(transparent)]
+    System(#[from] io::Error),
+    #[error("1580000 bytes long or longer")]
+    TooLong,
+    #[error(transparent)]
+    Fault(#[from] Fault),
+    #[error(transparent)]
+    Memory(#[from(alloc)] AllocError),
+}
+
+// The bytes of the file of a name.
+fn read_file(rt: &impl Files, alloc: Global, path: &str) -> Result<Vec<u8>, FileError> {
+    let mut bytes = Vec::with_capacity(alloc, LIMIT)?;
+    let file = fs::open(rt, path)?;
+    file.take(LIMIT as u64).read_to_end(&mut bytes)?;
+    if bytes.len() == LIMIT {
+        return Err(FileError::TooLong);
+    }
+    Ok(bytes)
+}
+
+// The picture in the file of a name.
+pub fn read_picture(rt: &impl Files, alloc: Global, path: &str) -> Result<Picture, FileError> {
+    let file = read_file(rt, alloc, path)?;
+    let (format, samples) = Format::read(file.as_slice())?;
+    let plane = decode::decode(alloc, format, samples)?;
+    Ok(Picture { format, plane })
+}
+
+// Writes the visible part of a plane to the file of a name.
+pub fn write_picture(
+    rt: &impl Files,
+    alloc: Global,
+    path: &str,
+    format: Format,
+    plane: &[u16],
+) -> Result<(), FileError> {
+    let mut samples = vec![in alloc; 0; format.bytes()]?;
+    encode::encode(
+        samples.as_mut_slice(),
+        plane,
+        format.header.width,
+        format.pitch(),
+        format.step(),
+    );
+    let header = format.header;
+    let mut file = fs::create(rt, path)?;
+    write!(file, "{header}")?;
+    file.write_all(samples.as_slice())?;
+    Ok(())
+}

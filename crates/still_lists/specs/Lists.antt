@@ -7,18 +7,34 @@ use Rattle.still_lists.specs.declared.Counts.{Counts}
 abbrev pub along : ℕ → ℕ
 along side = (side + 63) / 64
 
+-- how many samples, blocks, units and totals a picture of these padded sides has, and the samples of the scratch
+abbrev pub sample_count : Counts → ℕ
+sample_count n = n.width * n.height
+
+abbrev pub block_count : Counts → ℕ
+block_count n = (n.width / 8) * (n.height / 8)
+
+abbrev pub unit_count : Counts → ℕ
+unit_count n = along n.width * along n.height
+
+abbrev pub total_count : Counts → ℕ
+total_count n = 12 * unit_count n
+
+abbrev pub scratch_count : Counts → ℕ
+scratch_count n = n.width * 8
+
 -- the counts of a picture of this visible size, and the room that they need at most
 pub record Counted (w h : ℕ) (n : Counts) : Type 0 where
   pub width : n.width ≡ padded w
   pub height : n.height ≡ padded h
-  pub samples : n.samples ≡ padded w * padded h
-  pub blocks : n.blocks ≡ (padded w / 8) * (padded h / 8)
-  pub units : n.units ≡ along (padded w) * along (padded h)
-  pub totals : n.totals ≡ 12 * n.units
-  pub scratch : n.scratch ≡ padded w * 8
-  pub samples-room : n.samples ≤ 786432
-  pub blocks-room : n.blocks ≤ 12288
-  pub units-room : n.units ≤ 320
+  pub samples : sample_count n ≡ padded w * padded h
+  pub blocks : block_count n ≡ (padded w / 8) * (padded h / 8)
+  pub units : unit_count n ≡ along (padded w) * along (padded h)
+  pub totals : total_count n ≡ 12 * unit_count n
+  pub scratch : scratch_count n ≡ padded w * 8
+  pub samples-room : sample_count n ≤ 786432
+  pub blocks-room : block_count n ≤ 12288
+  pub units-room : unit_count n ≤ 320
   pub width_room : n.width ≤ 4096
 
 -- two totals are the same

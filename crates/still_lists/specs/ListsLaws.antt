@@ -3,6 +3,7 @@ use Rattle.std.specs.Prelude.{◌≡◌, refl, List, ℕ, ◌+◌, ◌-◌, ◌*
 use Rattle.std.proofs.Common.{mul-le-mul, le_trans, arith, length-take}
 use Rattle.still_pgm.specs.Sizes.{padded}
 use Rattle.still_pgm.specs.SizesLaws.{Taken}
+use Rattle.still_lists.specs.declared.Counts.{Counts}
 use Rattle.still_lists.specs.Lists.{along, Counted}
 
 -- the first elements of a list are as many as requested
@@ -33,19 +34,18 @@ module _ (w h : ℕ) (t : Taken w h) where
           let d : a * 64 * (b * 64) ≤ 786432 = le_trans c t.room in
           rw (e, f) (omega arith)
 
-  -- the counts, from what the functions return
-  pub counted : (a b x y : ℕ) → a ≡ padded w → b ≡ padded h → x ≡ along a → y ≡ along b
-      → Counted w h (record { width = a; height = b; samples = a * b; blocks = (a / 8) * (b / 8); units = x * y; totals = 12 * (x * y); scratch = a * 8 })
-  counted a b x y e f g i = record {
+  -- the counts, from the padded sides
+  pub counted : (n : Counts) → n.width ≡ padded w → n.height ≡ padded h → Counted w h n
+  counted n e f = record {
     width = e;
     height = f;
-    samples = rw (e, f);
-    blocks = rw (e, f);
-    units = rw (g, i, e, f);
+    samples = rw (e, f) refl;
+    blocks = rw (e, f) refl;
+    units = rw (e, f) refl;
     totals = refl;
-    scratch = rw e;
+    scratch = rw e refl;
     samples-room = rw (e, f) t.room;
     blocks-room = rw (e, f) blocks-room;
-    units-room = rw (g, i, e, f) units-room;
+    units-room = rw (e, f) units-room;
     width_room = rw e width-high;
   }

@@ -1,40 +1,28 @@
 -- The header of a binary PGM. Definitions only.
-use Rattle.std.specs.Prelude.{ℕ, ◌+◌, min, Bool, false, ◌&&◌, List, ltb, eqb, get_or, drop}
-use Rattle.still_pgm.specs.declared.header.Word.{Word}
+use Rattle.std.specs.Prelude.{ℕ, min, Bool, false, cond, ◌&&◌, List, [], ◌∷◌, eqb, get_or, drop, Option, Some, None, option_and_then}
 use Rattle.still_pgm.specs.declared.header.Header.{Header}
 use Rattle.still_text.specs.Text.{digit_count, decimal, most, is_blank, blanks}
 
--- the position after the blanks and comments, and the position after the digits, from a position on
-unfoldable pub after_blanks : List ℕ → ℕ → ℕ
-after_blanks s from = from + blanks false (drop from s)
+-- the number that a text begins with, and what is left behind its digits
+unfoldable pub digits_of : List ℕ → Option (ℕ × List ℕ)
+digits_of s = cond (eqb (digit_count s) 0) None (Some (min most (decimal 0 s), drop (digit_count s) s))
 
-unfoldable pub after_digits : List ℕ → ℕ → ℕ
-after_digits s from = from + digit_count (drop from s)
-
--- a number behind one blank or more
-unfoldable pub word_at : List ℕ → ℕ → Word
-word_at s from =
-    let start = after_blanks s from in
-    record {
-      value = min most (decimal 0 (drop start s));
-      next = after_digits s start;
-      found = ltb from start && ltb start (after_digits s start);
-    }
+-- a number behind one blank or more, and what is left behind it
+unfoldable pub word_of : List ℕ → Option (ℕ × List ℕ)
+word_of s = cond (eqb (blanks false s) 0) None (digits_of (drop (blanks false s) s))
 
 -- P (80) and 5 (53)
 unfoldable pub is_p5 : List ℕ → Bool
 is_p5 s = eqb (get_or s 0 0) 80 && eqb (get_or s 1 0) 53
 
--- P5, width, height, maximum, one blank; the samples start behind it
-unfoldable pub header_of : List ℕ → Header
+-- the header, where one blank follows its numbers, and the samples behind it
+unfoldable pub before_samples : Header → List ℕ → Option (Header × List ℕ)
+before_samples h [] = None
+before_samples h (b ∷ samples) = cond (is_blank b) (Some (h, samples)) None
+
+-- P5, width, height, maximum, one blank; the samples are behind it
+unfoldable pub header_of : List ℕ → Option (Header × List ℕ)
 header_of s =
-    let w = word_at s 2 in
-    let h = word_at s w.next in
-    let m = word_at s h.next in
-    record {
-      found = is_p5 s && ((w.found && (h.found && m.found)) && is_blank (get_or s m.next 0));
-      width = w.value;
-      height = h.value;
-      maximum = m.value;
-      start = m.next + 1;
-    }
+    cond (is_p5 s)
+    (option_and_then (λ w. option_and_then (λ h. option_and_then (λ m. before_samples (record { width = w.0; height = h.0; maximum = m.0 }) m.1) (word_of h.1)) (word_of w.1)) (word_of (drop 2 s)))
+    None

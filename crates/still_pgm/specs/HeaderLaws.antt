@@ -1,41 +1,87 @@
 -- The parts of a header put together.
-use Rattle.std.specs.Prelude.{◌≡◌, Bool, false, ◌&&◌, List, ℕ, ◌+◌, ◌≤◌, ◌<◌, min, max, ltb, get_or, length, drop}
-use Rattle.std.proofs.Common.{arith, length-drop}
-use borrow.Author.Tests.{lt-ltb, le-ltb}
-use Rattle.still_pgm.specs.declared.header.Word.{Word}
+use lib.Pointwise.{pointwise}
+use Rattle.std.specs.Prelude.{◌≡◌, refl, Bool, true, false, ◌&&◌, eqb, take, cond, List, [], ◌∷◌, ℕ, ◌+◌, ◌<◌, min, length, drop, get_or, Option, Some, None, option_and_then}
+use Rattle.std.proofs.Common.{arith, length-drop, ne_eqb, eq-eqb}
+use Rattle.still_pgm.specs.declared.header.Header.{Header}
 use Rattle.still_text.specs.Text.{digit_count, decimal, most, is_blank, blanks}
-use Rattle.still_text.specs.TextLaws.{blanks-within, digits-within}
-use Rattle.still_pgm.specs.Header.{after_blanks, after_digits, word_at, is_p5, header_of}
+use Rattle.still_text.specs.TextLaws.{blanks-within}
+use Rattle.still_pgm.specs.Header.{digits_of, word_of, is_p5, before_samples, header_of}
 
 -- ---- a number behind blanks
 
-module _ (s : List ℕ) (from start value next : ℕ) (e : start ≡ from + blanks false (drop from s)) (v : value ≡ min most (decimal 0 (drop start s))) (n : next ≡ start + digit_count (drop start s)) where
-  pub word-behind : from < start → record { value = value; next = next; found = ltb start next } ≡ word_at s from
-  unfolding word_at after_blanks after_digits
-  word-behind h = rw (← e, ← v, ← n, lt-ltb from start h)
+module _ (s : List ℕ) where
+  pub word_at_once : length (drop (blanks false s) s) ≡ length s → None ≡ word_of s
+  unfolding word_of
+  word_at_once h =
+      let none : blanks false s ≡ 0 = omega (arith, length-drop (blanks false s) s, blanks-within false s) in
+      rw (eq-eqb (blanks false s) 0 none) refl
 
-  pub word-at-once : start ≤ from → record { value = value; next = next; found = ltb from start } ≡ word_at s from
-  unfolding word_at after_blanks after_digits
-  word-at-once h = rw (← e, ← v, ← n, le-ltb from start h)
+  module _ (some : length (drop (blanks false s) s) ≡ length s → ⊥) where
+    behind : word_of s ≡ digits_of (drop (blanks false s) s)
+    unfolding word_of
+    behind = let one : blanks false s ≡ 0 → ⊥ = (λ e. some (rw e refl)) in rw (ne_eqb (blanks false s) 0 one) refl
 
--- a number ends in the text
-pub word-within : (s : List ℕ) (from : ℕ) → (word_at s from).next ≤ max from (length s)
-unfolding word_at after_blanks after_digits
-word-within s from =
-    let start : ℕ = from + blanks false (drop from s) in
-    omega (arith, blanks-within false (drop from s), length-drop from s, digits-within (drop start s), length-drop start s)
+    pub word_none : digit_count (drop (blanks false s) s) ≡ 0 → None ≡ word_of s
+    unfolding digits_of
+    word_none h = rw (behind, eq-eqb (digit_count (drop (blanks false s) s)) 0 h) refl
+
+    pub word_some : (value : ℕ) (rest : List ℕ) → 0 < digit_count (drop (blanks false s) s) → value ≡ min most (decimal 0 (drop (blanks false s) s)) → rest ≡ drop (digit_count (drop (blanks false s) s)) (drop (blanks false s) s)
+        → Some (value, rest) ≡ word_of s
+    unfolding digits_of
+    word_some value rest h v r =
+        let one : digit_count (drop (blanks false s) s) ≡ 0 → ⊥ = (λ e. omega arith) in
+        rw (behind, ne_eqb (digit_count (drop (blanks false s) s)) 0 one, v, r) refl
 
 -- ---- the header
 
-module _ (s : List ℕ) (w h m : Word) (ew : w ≡ word_at s 2) (eh : h ≡ word_at s w.next) (em : m ≡ word_at s h.next) where
-  pub header_is : (b : ℕ) (blank numbers p5 all : Bool) → b ≡ get_or s m.next 0 → blank ≡ is_blank b → numbers ≡ w.found && (h.found && m.found) → p5 ≡ is_p5 s → all ≡ p5 && (numbers && blank)
-      → record { found = all; width = w.value; height = h.value; maximum = m.value; start = m.next + 1 } ≡ header_of s
-  unfolding header_of
-  header_is b blank numbers p5 all eb ek en ep ea = rw (ea, ep, en, ek, eb, em, eh, ew)
+-- P5, as a prefix
+pub p5_is : (s : List ℕ) → pointwise eqb (take 2 s) (80 ∷ 53 ∷ []) ≡ is_p5 s
+unfolding is_p5
+p5_is [] = refl
+p5_is (a ∷ []) = refl
+p5_is (a ∷ b ∷ s) = go (eqb b 53)
+  where
+    go : (t : Bool) → eqb a 80 && (t && true) ≡ eqb a 80 && t
+    go true = refl
+    go false = refl
 
-  pub start-within : m.next ≤ max 2 (length s)
-  start-within =
-      let a : w.next ≤ max 2 (length s) = rw ew (word-within s 2) in
-      let b : h.next ≤ max w.next (length s) = rw eh (word-within s w.next) in
-      let c : m.next ≤ max h.next (length s) = rw em (word-within s h.next) in
-      omega arith
+ended : (h : Header) (s : List ℕ) → length s ≡ 0 → before_samples h s ≡ None
+unfolding before_samples
+ended h [] e = refl
+ended h (x ∷ s) e = absurd (omega arith)
+
+module _ (s : List ℕ) where
+  pub header_other : is_p5 s ≡ false → None ≡ header_of s
+  unfolding header_of
+  header_other p = rw p refl
+
+  module _ (p : is_p5 s ≡ true) where
+    pub header_no_width : None ≡ word_of (drop 2 s) → None ≡ header_of s
+    unfolding header_of
+    header_no_width e = rw (p, ← e) refl
+
+    module _ (w : ℕ) (a : List ℕ) (ew : Some (w, a) ≡ word_of (drop 2 s)) where
+      pub header_no_height : None ≡ word_of a → None ≡ header_of s
+      unfolding header_of
+      header_no_height e = rw (p, ← ew, ← e) refl
+
+      module _ (h : ℕ) (b : List ℕ) (eh : Some (h, b) ≡ word_of a) where
+        pub header_no_maximum : None ≡ word_of b → None ≡ header_of s
+        unfolding header_of
+        header_no_maximum e = rw (p, ← ew, ← eh, ← e) refl
+
+        module _ (m : ℕ) (c : List ℕ) (em : Some (m, c) ≡ word_of b) where
+          numbers : header_of s ≡ before_samples (record { width = w; height = h; maximum = m }) c
+          unfolding header_of
+          numbers = rw (p, ← ew, ← eh, ← em) refl
+
+          pub header_ends : length c ≡ 0 → None ≡ header_of s
+          header_ends e = rw (numbers, ended _ c e) refl
+
+          pub header_no_blank : (x : ℕ) (samples : List ℕ) → c ≡ x ∷ samples → is_blank x ≡ false → None ≡ header_of s
+          unfolding before_samples
+          header_no_blank x samples e f = rw (numbers, e, f) refl
+
+          pub header_is : (x : ℕ) (samples : List ℕ) → c ≡ x ∷ samples → is_blank x ≡ true → Some (record { width = w; height = h; maximum = m }, samples) ≡ header_of s
+          unfolding before_samples
+          header_is x samples e f = rw (numbers, e, f) refl

@@ -1,5 +1,6 @@
 pub mod Header
 pub mod Sizes
+pub mod Faults
 pub mod Planes
 pub mod HeaderLaws
 pub mod SizesLaws

@@ -48,49 +48,49 @@ module _ (w h pitch q : ℕ) (low : 0 < w) (wide : w ≤ pitch) (inside : q < h 
 
 -- ---- the bytes of a sample
 
-module _ (file : List ℕ) (start k : ℕ) (bytes : (i : ℕ) → get_or file i 0 < 256) where
-  one_byte : byte_of (sample_at file start 1 (k / 1)) (eqb (k % 1 + 1) 1) ≡ get_or file (start + k) 0
+module _ (samples : List ℕ) (k : ℕ) (bytes : (i : ℕ) → get_or samples i 0 < 256) where
+  one_byte : byte_of (sample_at samples 1 (k / 1)) (eqb (k % 1 + 1) 1) ≡ get_or samples k 0
   unfolding byte_of sample_at
   one_byte =
       let a : k / 1 ≡ k = omega arith in
       let b : k % 1 + 1 ≡ 1 = omega arith in
-      rw (a, b) (omega (arith, bytes (start + k)))
+      rw (a, b) (omega (arith, bytes k))
 
-  two_bytes : byte_of (sample_at file start 2 (k / 2)) (eqb (k % 2 + 1) 2) ≡ get_or file (start + k) 0
+  two_bytes : byte_of (sample_at samples 2 (k / 2)) (eqb (k % 2 + 1) 2) ≡ get_or samples k 0
   unfolding byte_of sample_at
   two_bytes = go (ℕ_discrete (k % 2) 1)
     where
-      go : Dec (k % 2 ≡ 1) → cond (eqb (k % 2 + 1) 2) ((get_or file (start + 2 * (k / 2)) 0 * 256 + get_or file (start + 2 * (k / 2) + 1) 0) % 256) ((get_or file (start + 2 * (k / 2)) 0 * 256 + get_or file (start + 2 * (k / 2) + 1) 0) / 256) ≡ get_or file (start + k) 0
+      go : Dec (k % 2 ≡ 1) → cond (eqb (k % 2 + 1) 2) ((get_or samples (2 * (k / 2)) 0 * 256 + get_or samples (2 * (k / 2) + 1) 0) % 256) ((get_or samples (2 * (k / 2)) 0 * 256 + get_or samples (2 * (k / 2) + 1) 0) / 256) ≡ get_or samples k 0
       go (yes e) =
-          let a : start + 2 * (k / 2) + 1 ≡ start + k = omega arith in
-          rw (e, a) (omega (arith, bytes (start + k)))
+          let a : 2 * (k / 2) + 1 ≡ k = omega arith in
+          rw (e, a) (omega (arith, bytes k))
       go (no f) =
-          let a : start + 2 * (k / 2) ≡ start + k = omega arith in
+          let a : 2 * (k / 2) ≡ k = omega arith in
           let b : k % 2 + 1 ≡ 1 = omega arith in
-          rw (b, a) (omega (arith, bytes (start + k + 1)))
+          rw (b, a) (omega (arith, bytes (k + 1)))
 
 -- ---- the picture
 
-module _ (file : List ℕ) (h : Header) (l : List ℕ) (t : Taken h.width h.height) (fits : padded h.width * padded h.height ≤ length l) where
+module _ (samples : List ℕ) (h : Header) (l : List ℕ) (t : Taken h.width h.height) (fits : padded h.width * padded h.height ≤ length l) where
   abbrev decoded : List ℕ
-  decoded = stored (padded_sample file h (padded h.width)) (padded h.width * padded h.height) l
+  decoded = stored (padded_sample samples h (padded h.width)) (padded h.width * padded h.height) l
 
   by-sample : (step k : ℕ) → 0 < step → k < h.height * h.width * step
-      → file_byte decoded h.width (padded h.width) step k ≡ byte_of (sample_at file h.start (step_of h.maximum) (k / step)) (eqb (k % step + 1) step)
+      → file_byte decoded h.width (padded h.width) step k ≡ byte_of (sample_at samples (step_of h.maximum) (k / step)) (eqb (k % step + 1) step)
   unfolding file_byte padded_sample
   by-sample step k low inside =
       let q : ℕ = k / step in
       let a : q < h.height * h.width = (div-lt_iff_lt-mul low).1 inside in
       let wide : h.width ≤ padded h.width = omega arith in
       let tall : h.height ≤ padded h.height = omega arith in
-      let b = get_or-stored (padded_sample file h (padded h.width)) l (padded h.width * padded h.height) (q / h.width * padded h.width + q % h.width) (place-low h.width h.height (padded h.width) q t.width_low wide a (padded h.height) tall) fits in
+      let b = get_or-stored (padded_sample samples h (padded h.width)) l (padded h.width * padded h.height) (q / h.width * padded h.width + q % h.width) (place-low h.width h.height (padded h.width) q t.width_low wide a (padded h.height) tall) fits in
       rw (b, place-back h.width h.height (padded h.width) q t.width_low wide a)
 
   -- each byte of the samples comes back
-  pub round : ((i : ℕ) → get_or file i 0 < 256) → (k : ℕ) → k < h.height * h.width * step_of h.maximum → file_byte decoded h.width (padded h.width) (step_of h.maximum) k ≡ get_or file (h.start + k) 0
+  pub round : ((i : ℕ) → get_or samples i 0 < 256) → (k : ℕ) → k < h.height * h.width * step_of h.maximum → file_byte decoded h.width (padded h.width) (step_of h.maximum) k ≡ get_or samples k 0
   unfolding step_of
   round bytes k inside = go (leb h.maximum 255) refl inside
     where
-      go : (b : Bool) → leb h.maximum 255 ≡ b → k < h.height * h.width * cond b 1 2 → file_byte decoded h.width (padded h.width) (cond b 1 2) k ≡ get_or file (h.start + k) 0
-      go true e i = by-sample 1 k (omega arith) i ∙ rw e (one_byte file h.start k bytes)
-      go false e i = by-sample 2 k (omega arith) i ∙ rw e (two_bytes file h.start k bytes)
+      go : (b : Bool) → leb h.maximum 255 ≡ b → k < h.height * h.width * cond b 1 2 → file_byte decoded h.width (padded h.width) (cond b 1 2) k ≡ get_or samples k 0
+      go true e i = by-sample 1 k (omega arith) i ∙ rw e (one_byte samples k bytes)
+      go false e i = by-sample 2 k (omega arith) i ∙ rw e (two_bytes samples k bytes)

@@ -1,17 +1,19 @@
 -- Laws of the sizes that are accepted, and of what is wrong with a file.
-use Rattle.std.specs.Prelude.{◌≡◌, refl, Bool, cond, leb, eqb}
+use Rattle.std.specs.Prelude.{◌≡◌, refl, Bool, cond, leb, eqb, Option, Some, None, is_none}
 use Rattle.std.proofs.Math.Bool.{true, false}
 use Prim.Native.Nat.{ℕ, ◌+◌, ◌*◌, ◌≤◌, ◌<◌}
 use Rattle.std.proofs.Common.{mul-le-mul, le_trans, arith}
 use borrow.Author.Tests.{eq-eqb, ne_eqb, eqb-true, leb-true}
 use Rattle.still_pgm.specs.declared.header.Header.{Header}
-use Rattle.still_pgm.specs.declared.sizes.Fault.TheVariants.{Sound, NoHeader, Maximum, Size, Length}
+use Rattle.still_pgm.specs.declared.format.Fault.{Fault}
+use Rattle.still_pgm.specs.declared.format.Fault.TheVariants.{NoHeader, Maximum, Size, Length}
 use Rattle.still_text.specs.TextLaws.{and_both}
-use Rattle.still_pgm.specs.Sizes.{depth_of, step_of, padded, is_side, is_taken, fault_of, is_sound}
+use Rattle.still_pgm.specs.Sizes.{depth_of, step_of, padded, is_side, is_taken}
+use Rattle.still_pgm.specs.Faults.{fault_in}
 
-pub depth-none : (m : ℕ) → (m ≡ 255 → ⊥) → (m ≡ 511 → ⊥) → (m ≡ 1023 → ⊥) → (m ≡ 2047 → ⊥) → (m ≡ 4095 → ⊥) → 0 ≡ depth_of m
+pub depth_none : (m : ℕ) → (m ≡ 255 → ⊥) → (m ≡ 511 → ⊥) → (m ≡ 1023 → ⊥) → (m ≡ 2047 → ⊥) → (m ≡ 4095 → ⊥) → None ≡ depth_of m
 unfolding depth_of
-depth-none m a b c d e = rw (ne_eqb m 255 a, ne_eqb m 511 b, ne_eqb m 1023 c, ne_eqb m 2047 d, ne_eqb m 4095 e)
+depth_none m a b c d e = rw (ne_eqb m 255 a, ne_eqb m 511 b, ne_eqb m 1023 c, ne_eqb m 2047 d, ne_eqb m 4095 e) refl
 
 pub step_range : (m : ℕ) → (1 ≤ step_of m) × (step_of m ≤ 2)
 unfolding step_of
@@ -52,47 +54,36 @@ taken w h e =
 -- ---- what is wrong with a file
 
 module _ (n : ℕ) (h : Header) where
-  pub fault-header : h.found ≡ false → NoHeader ≡ fault_of n h
-  unfolding fault_of
-  fault-header f = rw f
+  pub fault_maximum : depth_of h.maximum ≡ None → Some Maximum ≡ fault_in n h
+  unfolding fault_in
+  fault_maximum d = rw d refl
 
-  pub fault-maximum : h.found ≡ true → depth_of h.maximum ≡ 0 → Maximum ≡ fault_of n h
-  unfolding fault_of
-  fault-maximum f d = rw (f, d)
+  module _ (depth : ℕ) (d : depth_of h.maximum ≡ Some depth) where
+    pub fault_size : is_taken h.width h.height ≡ false → Some Size ≡ fault_in n h
+    unfolding fault_in
+    fault_size t = rw (d, t) refl
 
-  pub fault-size : h.found ≡ true → (depth_of h.maximum ≡ 0 → ⊥) → is_taken h.width h.height ≡ false → Size ≡ fault_of n h
-  unfolding fault_of
-  fault-size f d t = rw (f, ne_eqb (depth_of h.maximum) 0 d, t)
+    pub fault_length : is_taken h.width h.height ≡ true → (n ≡ h.width * h.height * step_of h.maximum → ⊥) → Some Length ≡ fault_in n h
+    unfolding fault_in
+    fault_length t l = rw (d, t, ne_eqb n (h.width * h.height * step_of h.maximum) l) refl
 
-  pub fault-length : h.found ≡ true → (depth_of h.maximum ≡ 0 → ⊥) → is_taken h.width h.height ≡ true → (n ≡ h.start + h.width * h.height * step_of h.maximum → ⊥) → Length ≡ fault_of n h
-  unfolding fault_of
-  fault-length f d t l = rw (f, ne_eqb (depth_of h.maximum) 0 d, t, ne_eqb n (h.start + h.width * h.height * step_of h.maximum) l)
-
-  pub fault-none : h.found ≡ true → (depth_of h.maximum ≡ 0 → ⊥) → is_taken h.width h.height ≡ true → n ≡ h.start + h.width * h.height * step_of h.maximum → Sound ≡ fault_of n h
-  unfolding fault_of
-  fault-none f d t l = rw (f, ne_eqb (depth_of h.maximum) 0 d, t, eq-eqb n (h.start + h.width * h.height * step_of h.maximum) l)
+    pub fault_none : is_taken h.width h.height ≡ true → n ≡ h.width * h.height * step_of h.maximum → None ≡ fault_in n h
+    unfolding fault_in
+    fault_none t l = rw (d, t, eq-eqb n (h.width * h.height * step_of h.maximum) l) refl
 
   -- a sound file has sides that are accepted, and its length
-  pub sound-taken : is_sound (fault_of n h) ≡ true → (is_taken h.width h.height ≡ true) × (n ≡ h.start + h.width * h.height * step_of h.maximum)
-  unfolding fault_of
+  pub sound-taken : fault_in n h ≡ None → (is_taken h.width h.height ≡ true) × (n ≡ h.width * h.height * step_of h.maximum)
+  unfolding fault_in
   sound-taken e =
-      let l : ℕ = h.start + h.width * h.height * step_of h.maximum in
-      let p = go h.found (eqb (depth_of h.maximum) 0) (is_taken h.width h.height) (eqb n l) e in
+      let l : ℕ = h.width * h.height * step_of h.maximum in
+      let p = go (is_none (depth_of h.maximum)) (is_taken h.width h.height) (eqb n l) e in
       (p.0, eqb-true n l p.1)
     where
-      go : (f d t l : Bool) → is_sound (cond f (cond d Maximum (cond t (cond l Sound Length) Size)) NoHeader) ≡ true → (t ≡ true) × (l ≡ true)
-      go true false true true e = (refl, refl)
-      go true false true false e = (refl, e)
-      go true false false true e = (e, refl)
-      go true false false false e = (e, e)
-      go true true true true e = (refl, refl)
-      go true true true false e = (refl, e)
-      go true true false true e = (e, refl)
-      go true true false false e = (e, e)
-      go false d true true e = (refl, refl)
-      go false d true false e = (refl, e)
-      go false d false true e = (e, refl)
-      go false d false false e = (e, e)
+      go : (d t l : Bool) → cond d (Some Maximum) (cond t (cond l None (Some Length)) (Some Size)) ≡ None → (t ≡ true) × (l ≡ true)
+      go false true true e = (refl, refl)
+      go false true false e = absurd cc
+      go false false l e = absurd cc
+      go true t l e = absurd cc
 
 -- the samples of sides that are accepted
 pub samples-room : (w h m : ℕ) → is_taken w h ≡ true → (w * h ≤ 4096 * 4096) × (w * h * step_of m ≤ 4096 * 4096 * 2)

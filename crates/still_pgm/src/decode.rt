@@ -1,69 +1,47 @@
 // The padded plane of a file: past the last column and row of the picture the nearest sample repeats.
-ghost use Rattle.std.specs.Prelude.{◌-◌, ◌^◌, ◌≤◌, ◌<◌, min, ◌≡◌, length};
-ghost use Rattle.still_pgm.specs.Sizes.{fault_of};
+ghost use Rattle.std.specs.Prelude.{◌*◌, ◌^◌, ◌≤◌, ◌<◌, ◌≡◌, true, length, replicate, IfOk};
+ghost use Rattle.still_pgm.specs.Sizes.{is_taken, padded};
 ghost use Rattle.still_pgm.specs.Planes.{stored, sample_at, padded_sample, decoded_plane};
 
+use crate::format::Format;
 use crate::header::Header;
 use crate::sizes;
-use crate::sizes::Fault;
-use still_text::text;
+use std::alloc::{AllocError, Global};
 
-fn wide(b: u8) -> u16
-    ensures { (result ≡ b) × (result ≤ 255) }
-{
-    b as u16
-}
-
-// A sample that so many precede: one byte, or two with the high one first.
-fn sample_at(file: &[u8], start: usize, step: usize, k: usize) -> u16
-    requires { (start ≤ 2 ^ 63) × (k ≤ 2 ^ 32) }
-    ensures { result ≡ sample_at file.now start step k }
+// The sample that so many precede: one byte, or two with the high one first.
+#[tactic(auto, unfolding(crate::specs::Planes::sample_at))]
+fn sample_at(samples: &[u8], step: usize, k: usize) -> u16
+    requires { k ≤ 2 ^ 32 }
+    ensures { result ≡ sample_at samples.now step k }
 {
     if step == 1 {
-        return wide(text::byte_at(file, start + k));
+        return u16::from(samples.get(k).copied().unwrap_or(0));
     }
-    let high = wide(text::byte_at(file, start + 2 * k));
-    let low = wide(text::byte_at(file, start + 2 * k + 1));
+    let high = u16::from(samples.get(2 * k).copied().unwrap_or(0));
+    let low = u16::from(samples.get(2 * k + 1).copied().unwrap_or(0));
     high * 256 + low
 }
 
-// A row or a column, or the last one past it.
-fn nearest(k: usize, side: usize) -> usize
-    requires { 0 < side }
-    ensures { result ≡ min k (side - 1) }
-{
-    if k < side {
-        return k;
-    }
-    side - 1
-}
-
-// The first n samples of a plane whose rows are `pitch` long.
-fn fill(plane: &mut [u16], n: usize, pitch: usize, file: &[u8], h: Header)
-    requires n_in_bounds { (n ≤ length plane.old) × (0 < pitch) × (h.start ≤ 2 ^ 63) }
-    requires width_nonzero { (0 < h.width) × (h.width ≤ 4096) × (0 < h.height) × (h.height ≤ 4096) }
-    ensures { plane.new ≡ stored (padded_sample file.now h pitch) n plane.old }
+// Each sample of a plane whose rows are `pitch` long.
+fn fill(plane: &mut [u16], pitch: usize, samples: &[u8], h: Header)
+    requires pitch_nonzero { 0 < pitch }
+    requires sides_taken { is_taken h.width h.height ≡ true }
+    ensures { plane.new ≡ stored (padded_sample samples.now h pitch) (length plane.old) plane.old }
 {
     let step = sizes::step_of(h.maximum);
-    for k in 0..n {
-        let row = nearest(k / pitch, h.height);
-        let column = nearest(k % pitch, h.width);
-        plane[k] = sample_at(file, h.start, step, row * h.width + column);
+    for (k, sample) in plane.iter_mut().enumerate() {
+        let row = (k / pitch).min(h.height - 1);
+        let column = (k % pitch).min(h.width - 1);
+        *sample = sample_at(samples, step, row * h.width + column);
     }
 }
 
-// Puts the padded plane of a file, whose header is h, at the start of a plane; or returns what is wrong, and leaves it as it is.
-pub fn decode(plane: &mut [u16], file: &[u8], h: Header) -> Fault
-    requires { length plane.old ≡ 786432 }
-    ensures value { result ≡ fault_of (length file.now) h }
-    ensures plane_after { plane.new ≡ decoded_plane file.now h plane.old }
+// The padded plane of a format and the bytes of its samples.
+pub fn decode(alloc: Global, f: Format, samples: &[u8]) -> Result<Vec<u16>, AllocError>
+    ensures { IfOk result (λ v. v.items ≡ decoded_plane samples.now f.header (replicate (padded f.header.width * padded f.header.height) 0)) }
 {
-    let fault = sizes::fault_of(file, h);
-    if !sizes::is_sound(fault) {
-        return fault;
-    }
-    let pitch = sizes::padded_side(h.width);
-    let rows = sizes::padded_side(h.height);
-    fill(plane, pitch * rows, pitch, file, h);
-    fault
+    let pitch = f.pitch();
+    let mut plane = vec![in alloc; 0; pitch * f.rows()]?;
+    fill(plane.as_mut_slice(), pitch, samples, f.header);
+    Ok(plane)
 }

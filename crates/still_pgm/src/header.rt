@@ -1,70 +1,55 @@
 // The header of a binary PGM: P5, width, height and maximum, separated by blanks and comments, and one blank before the samples.
-ghost use Rattle.std.specs.Prelude.{◌≡◌, ◌&&◌};
-ghost use Rattle.still_pgm.specs.Header.{word_at, header_of, is_p5};
+ghost use Rattle.std.specs.Prelude.{◌≡◌, option_map};
+ghost use Rattle.still_pgm.specs.Header.{word_of, header_of};
 
+use std::fmt;
 use still_text::{numbers, text};
 
-// A number behind blanks, the position after it, and whether there is one.
-#[derive(Clone, Copy)]
-pub struct Word {
-    pub value: usize,
-    pub next: usize,
-    pub found: bool,
-}
-
-// start: the position of the first sample.
-#[derive(Clone, Copy)]
+#[derive(Clone, Copy, Debug, PartialEq, Eq)]
 pub struct Header {
-    pub found: bool,
     pub width: usize,
     pub height: usize,
     pub maximum: usize,
-    pub start: usize,
 }
 
-fn word_at(file: &[u8], from: usize) -> Word
-    ensures { result ≡ word_at file.now from }
-{
-    let start = text::past_blanks(file, from);
-    let d = numbers::digits_at(file, start);
-    Word {
-        value: d.value,
-        next: d.next,
-        found: from < start && start < d.next,
+// As a file begins with it.
+impl fmt::Display for Header {
+    fn fmt<W: fmt::Write>(&self, f: &mut fmt::Formatter<W>) -> fmt::Result {
+        let width = self.width;
+        let height = self.height;
+        let maximum = self.maximum;
+        write!(f, "P5\n{width} {height}\n{maximum}\n")
     }
 }
 
-fn is_p5(file: &[u8]) -> bool
-    ensures { result ≡ is_p5 file.now }
+// A number behind one blank or more, and what is left behind it.
+#[tactic(auto, using(crate::specs::HeaderLaws::word_at_once, crate::specs::HeaderLaws::word_none, crate::specs::HeaderLaws::word_some))]
+fn word_of(file: &[u8]) -> Option<(usize, &[u8])>
+    ensures { option_map (λ w. (w.0, w.1.now)) result ≡ word_of file.now }
 {
-    text::byte_at(file, 0) == b'P' && text::byte_at(file, 1) == b'5'
+    let rest = text::past_blanks(file);
+    if rest.len() == file.len() {
+        return None;
+    }
+    numbers::digits(rest)
 }
 
-fn all_hold(a: bool, b: bool, c: bool) -> bool
-    ensures { result ≡ a && (b && c) }
+// The header that a file begins with, and the bytes behind it.
+pub fn header_of(file: &[u8]) -> Option<(Header, &[u8])>
+    ensures { option_map (λ h. (h.0, h.1.now)) result ≡ header_of file.now }
 {
-    if !a {
-        return false;
+    let rest = file.strip_prefix(b"P5")?;
+    let (width, rest) = word_of(rest)?;
+    let (height, rest) = word_of(rest)?;
+    let (maximum, rest) = word_of(rest)?;
+    let (blank, samples) = rest.split_first()?;
+    if !text::is_blank(*blank) {
+        return None;
     }
-    if !b {
-        return false;
-    }
-    c
-}
-
-pub fn header_of(file: &[u8]) -> Header
-    ensures { result ≡ header_of file.now }
-{
-    let w = word_at(file, 2);
-    let h = word_at(file, w.next);
-    let m = word_at(file, h.next);
-    let blank = text::is_blank(text::byte_at(file, m.next));
-    let numbers = all_hold(w.found, h.found, m.found);
-    Header {
-        found: all_hold(is_p5(file), numbers, blank),
-        width: w.value,
-        height: h.value,
-        maximum: m.value,
-        start: m.next + 1,
-    }
+    let header = Header {
+        width,
+        height,
+        maximum,
+    };
+    Some((header, samples))
 }

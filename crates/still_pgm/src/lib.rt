@@ -3,5 +3,6 @@
 
 pub mod decode; // decode.rt: the padded plane of a file
 pub mod encode; // encode.rt: the visible part of a plane as bytes
+pub mod format; // format.rt: the header of a file that is accepted, or what is wrong with the file
 pub mod header; // header.rt: the numbers of a header
 pub mod sizes; // sizes.rt: which pictures are accepted, and their padded sizes

@@ -3,34 +3,39 @@ use Rattle.std.specs.Prelude.{◌≡◌, refl, Bool, true, false, cond, List, �
 use Rattle.std.proofs.Common.{ap, add-one, arith, eq-eqb, ne_eqb}
 use Rattle.still_lists.specs.Lists.{same_total, differ}
 
-pub same-is : (a b : ℤ) → a ≡ b → same_total a b ≡ true
+pub same_is : (a b : ℤ) → a ≡ b → same_total a b ≡ true
 unfolding same_total
-same-is a b e = rw e (go b)
+same_is a b e = rw e (go b)
   where
     go : (b : ℤ) → same_total b b ≡ true
     go (pos n) = eq-eqb n n refl
     go (negsuc n) = eq-eqb n n refl
 
-pub differ-none : (tried measured : List ℤ) (t : ℕ) → differ tried measured t 0 ≡ 0
+pub differ_none : (tried measured : List ℤ) (t : ℕ) → differ tried measured t 0 ≡ 0
 unfolding differ
-differ-none tried measured t = refl
+differ_none tried measured t = refl
 
-pub differ-more : (tried measured : List ℤ) (t u n r : ℕ) → n ≡ differ tried measured t u → r ≡ n + cond (same_total (get_or tried (12 * u + t) (pos 0)) (get_or measured u (pos 0))) 0 1 → r ≡ differ tried measured t (u + 1)
+pub differ_more : (tried measured : List ℤ) (t u n d : ℕ) → n ≡ differ tried measured t u → d ≡ cond (same_total (get_or tried (12 * u + t) (pos 0)) (get_or measured u (pos 0))) 0 1 → n + d ≡ differ tried measured t (u + 1)
 unfolding differ
-differ-more tried measured t u n r e f = rw (add-one u, ← e) f
+differ_more tried measured t u n d e f = rw (add-one u, ← e, ← f) refl
 
-pub differ-low : (tried measured : List ℤ) (t u : ℕ) → differ tried measured t u ≤ u
+pub differ_low : (tried measured : List ℤ) (t u : ℕ) → differ tried measured t u ≤ u
 unfolding differ
-differ-low tried measured t zero = omega arith
-differ-low tried measured t (suc u) = go (same_total (get_or tried (12 * u + t) (pos 0)) (get_or measured u (pos 0))) (differ-low tried measured t u)
+differ_low tried measured t zero = omega arith
+differ_low tried measured t (suc u) = go (same_total (get_or tried (12 * u + t) (pos 0)) (get_or measured u (pos 0))) (differ_low tried measured t u)
   where
     go : (b : Bool) → differ tried measured t u ≤ u → differ tried measured t u + cond b 0 1 ≤ suc u
     go true h = omega arith
     go false h = omega arith
 
-pub other-is : (a b : ℤ) → (a ≡ b → ⊥) → same_total a b ≡ false
+pub other_is : (a b : ℤ) → (a ≡ b → ⊥) → same_total a b ≡ false
 unfolding same_total
-other-is (pos a) (pos b) f = ne_eqb a b (λ e. f (ap pos e))
-other-is (negsuc a) (negsuc b) f = ne_eqb a b (λ e. f (ap negsuc e))
-other-is (pos a) (negsuc b) f = refl
-other-is (negsuc a) (pos b) f = refl
+other_is (pos a) (pos b) f = ne_eqb a b (λ e. f (ap pos e))
+other_is (negsuc a) (negsuc b) f = ne_eqb a b (λ e. f (ap negsuc e))
+other_is (pos a) (negsuc b) f = refl
+other_is (negsuc a) (pos b) f = refl
+
+-- a unit differs once at most
+pub one_at_most : (d : ℕ) (b : Bool) → d ≡ cond b 0 1 → d ≤ 1
+one_at_most d true e = omega arith
+one_at_most d false e = omega arith

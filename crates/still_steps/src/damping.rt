@@ -1,17 +1,18 @@
 // A damping out of text.
 ghost use Rattle.std.specs.Prelude.{min, ◌≡◌};
-ghost use Rattle.cdef_spec.specs.BlockCalls.{damping_outcome};
-ghost use Rattle.still_steps.specs.Damping.{ofResult, damping_of};
+ghost use Rattle.still_steps.specs.Damping.{read_text, damping_of};
 
+use cdef_blocks::numbers;
 use cdef_spec::{DampingAnswer, SignalledDamping};
-use still_text::numbers;
-use still_text::numbers::Number;
+use still_text::numbers::number_of;
+use thiserror::Error;
 
-// A signalled damping; or the error code of a quality index that its call rejected; or the text is neither.
-#[derive(Clone, Copy)]
-pub enum DampingText {
-    Signalled(SignalledDamping),
+// Why a text is no damping: the call for a quality index rejected it, with this error code; or it is neither an index nor a damping.
+#[derive(Clone, Copy, Debug, PartialEq, Eq, Error)]
+pub enum DampingError {
+    #[error("the damping of the quality index returned error code {0}: the index is not 0 to 255")]
     Rejected(u8),
+    #[error("DAMPING is q and a quality index, or d and a signalled damping")]
     NotDamping,
 }
 
@@ -19,38 +20,26 @@ pub enum DampingText {
 pub fn small(n: usize) -> u8
     ensures { result ≡ min n 255 }
 {
-    if 255 < n {
-        return 255;
-    }
-    n as u8
-}
-
-// The signalled damping of a quality index, by its call.
-fn of_index(index: u32) -> DampingText
-    ensures { result ≡ ofResult (damping_outcome index) }
-{
-    match cdef_blocks::numbers::damping(index) {
-        DampingAnswer::Damping(d) => DampingText::Signalled(d),
-        DampingAnswer::NoDamping(n) => DampingText::Rejected(n),
-    }
+    n.min(255) as u8
 }
 
 // q and a quality index, or d and a signalled damping.
-pub fn damping_of(text: &[u8]) -> DampingText
-    ensures { result ≡ damping_of text.now }
+#[tactic(auto, using(crate::specs::DampingLaws::no_letter, crate::specs::DampingLaws::no_number), unfolding(crate::specs::Damping::read_text))]
+pub fn damping_of(text: &[u8]) -> Result<SignalledDamping, DampingError>
+    ensures { read_text result ≡ damping_of text.now }
 {
-    if text.len() == 0 {
-        return DampingText::NotDamping;
-    }
-    let letter = text[0];
-    let Number::Value(n) = numbers::number_of(&text[1..]) else {
-        return DampingText::NotDamping;
+    let Some((letter, number)) = text.split_first() else {
+        return Err(DampingError::NotDamping);
     };
-    if letter == b'q' {
-        return of_index(n as u32);
+    let Some(n) = number_of(number) else {
+        return Err(DampingError::NotDamping);
+    };
+    match *letter {
+        b'q' => match numbers::damping(n as u32) {
+            DampingAnswer::Damping(d) => Ok(d),
+            DampingAnswer::NoDamping(code) => Err(DampingError::Rejected(code)),
+        },
+        b'd' => Ok(SignalledDamping(small(n))),
+        _ => Err(DampingError::NotDamping),
     }
-    if letter == b'd' {
-        return DampingText::Signalled(SignalledDamping(small(n)));
-    }
-    DampingText::NotDamping
 }

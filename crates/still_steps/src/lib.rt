@@ -2,6 +2,6 @@
 #![tactic(auto)]
 
 pub mod damping; // damping.rt: a damping out of text
-pub mod space; // space.rt: room for lists and planes
+pub mod refusals; // refusals.rt: a call that refused
 pub mod steps; // steps.rt: the calls, one after the other
-pub mod totals; // totals.rt: trial numbers, totals compared
+pub mod totals; // totals.rt: totals compared

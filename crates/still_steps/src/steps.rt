@@ -1,195 +1,120 @@
-// The calls, one after the other: the direction pass, trying, applying, measuring. The first that is rejected ends them.
-ghost use Rattle.still_lists.specs.Lists.{Counted};
+// The calls, one after the other: the direction pass, trying, applying, measuring. The first that refuses ends them.
+ghost use Rattle.std.specs.Prelude.{◌*◌, ◌≤◌, ◌≡◌, length};
 
-use crate::space;
+use crate::refusals::{Call, Refused};
+use cdef::{applying, measuring, pass, trying};
 use cdef_spec::{Answer, DampingChoice, UnitPair, Visible};
+use std::alloc::{AllocError, Global};
 use still_lists::Counts;
+use thiserror::Error;
 
-// What a still is filtered with, its visible size, its depth and its counts.
+// A still and its original, padded; its visible size and its depth; and what it is filtered with.
 #[derive(Clone, Copy)]
-pub struct Job {
-    pub pair: UnitPair,
-    pub damping: DampingChoice,
+pub struct Job<'a> {
+    pub still: &'a [u16],
+    pub original: &'a [u16],
+    pub counts: Counts,
     pub visible: Visible,
     pub depth: u8,
-    pub counts: Counts,
+    pub pair: UnitPair,
+    pub damping: DampingChoice,
 }
 
-// The outcome: the plane is filtered and measured; or which call was rejected, with its error code.
-#[derive(Clone, Copy)]
-pub enum Outcome {
-    Filtered,
-    PassRefused(u8),
-    TryingRefused(u8),
-    ApplyingRefused(u8),
-    MeasuringRefused(u8),
+// The filtered plane; twelve tried totals per unit, and the measured one.
+#[derive(Drop)]
+pub struct Filtered {
+    pub plane: Vec<u16>,
+    pub tried: Vec<i64>,
+    pub measured: Vec<i64>,
+    pub ghost twelve_per_unit: { length tried.items ≡ 12 * length measured.items },
+    pub ghost few_units: { length measured.items ≤ 4096 },
 }
 
-// Passes lists of their size to the calls. No block is skipped.
-pub fn calls(
-    job: Job,
-    still: &[u16],
-    original: &[u16],
-    filtered: &mut [u16],
-    tried: &mut [i64],
-    measured: &mut [i64],
-) -> Outcome
-    requires { Counted job.visible.width job.visible.height job.counts }
-{
-    let skip = space::block_bytes();
-    let mut dirs = space::block_bytes();
-    let mut vars = space::block_numbers();
-    let blocks = job.counts.blocks;
-    direct(
-        job,
-        still,
-        original,
-        filtered,
-        &skip[..blocks],
-        &mut dirs[..blocks],
-        &mut vars[..blocks],
-        tried,
-        measured,
-    )
+// Why a still is not filtered: a call refused, or memory ran out.
+#[derive(Debug, Drop, Error)]
+pub enum StepError {
+    #[error(transparent)]
+    Refused(#[from] Refused),
+    #[error(transparent)]
+    Memory(#[from(alloc)] AllocError),
 }
 
-// The direction pass, and what follows it.
-fn direct(
-    job: Job,
-    still: &[u16],
-    original: &[u16],
-    filtered: &mut [u16],
-    skip: &[u8],
-    dirs: &mut [u8],
-    vars: &mut [u32],
-    tried: &mut [i64],
-    measured: &mut [i64],
-) -> Outcome
-    requires { Counted job.visible.width job.visible.height job.counts }
-{
-    let n = job.counts;
-    let answer = cdef::pass::direction_pass(dirs, vars, still, n.width, n.height, job.depth);
-    if let Answer::Refused(no) = answer {
-        return Outcome::PassRefused(no);
+// What a call answered.
+fn done(call: Call, answer: Answer) -> Result<(), StepError> {
+    match answer {
+        Answer::Done => Ok(()),
+        Answer::Refused(code) => Err(StepError::Refused(call.refused(code))),
     }
-    try_out(
-        job, still, original, filtered, skip, dirs, vars, tried, measured,
-    )
 }
 
-// Trying, and what follows it.
-fn try_out(
-    job: Job,
-    still: &[u16],
-    original: &[u16],
-    filtered: &mut [u16],
-    skip: &[u8],
-    dirs: &[u8],
-    vars: &[u32],
-    tried: &mut [i64],
-    measured: &mut [i64],
-) -> Outcome
-    requires { Counted job.visible.width job.visible.height job.counts }
-{
+// Filters a copy of the still with one pair in every unit. No block is skipped. What was filtered is measured with the pair 0, 0.
+pub fn filter(alloc: Global, job: &Job<'_>) -> Result<Filtered, StepError> {
     let n = job.counts;
-    let damping = job.damping;
-    let answer = cdef::trying::try_luma(
-        tried,
-        still,
-        original,
+    let skip = vec![in alloc; 0; n.blocks()]?;
+    let mut dirs = vec![in alloc; 0; n.blocks()]?;
+    let mut vars = vec![in alloc; 0; n.blocks()]?;
+    let answer = pass::direction_pass(
+        &mut dirs, &mut vars, job.still, n.width, n.height, job.depth,
+    );
+    done(Call::DirectionPass, answer)?;
+
+    let mut tried = vec![in alloc; 0; n.totals()]?;
+    let answer = trying::try_luma(
+        &mut tried,
+        job.still,
+        job.original,
         n.width,
         n.height,
         job.visible,
         job.depth,
-        skip,
-        dirs,
-        vars,
-        damping,
+        &skip,
+        &dirs,
+        &vars,
+        job.damping,
     );
-    if let Answer::Refused(no) = answer {
-        return Outcome::TryingRefused(no);
-    }
-    apply(job, still, original, filtered, skip, dirs, vars, measured)
-}
+    done(Call::Trying, answer)?;
 
-// Applying to a copy of the still, with one pair in every unit, and what follows it.
-fn apply(
-    job: Job,
-    still: &[u16],
-    original: &[u16],
-    filtered: &mut [u16],
-    skip: &[u8],
-    dirs: &[u8],
-    vars: &[u32],
-    measured: &mut [i64],
-) -> Outcome
-    requires { Counted job.visible.width job.visible.height job.counts }
-{
-    let pris = space::unit_strengths(job.pair.primary);
-    let secs = space::unit_strengths(job.pair.secondary);
-    let n = job.counts;
-    let units = n.units;
-    let damping = job.damping;
-    agree_parts::copy(filtered, still);
-    let answer = cdef_lists::apply_luma(
-        filtered,
-        still,
+    let mut plane = Vec::from_slice(alloc, job.still)?;
+    let pairs = vec![in alloc; job.pair; n.units()]?;
+    let answer = applying::apply_luma(
+        &mut plane,
+        job.still,
         n.width,
         n.height,
         job.depth,
-        skip,
-        dirs,
-        vars,
-        &pris[..units],
-        &secs[..units],
-        damping,
+        &skip,
+        &dirs,
+        &vars,
+        &pairs,
+        job.damping,
     );
-    if let Answer::Refused(no) = answer {
-        return Outcome::ApplyingRefused(no);
-    }
-    measure(job, original, filtered, skip, dirs, vars, measured)
-}
+    done(Call::Applying, answer)?;
 
-// Measuring what applying left, with the pair 0, 0.
-fn measure(
-    job: Job,
-    original: &[u16],
-    filtered: &[u16],
-    skip: &[u8],
-    dirs: &[u8],
-    vars: &[u32],
-    measured: &mut [i64],
-) -> Outcome
-    requires { Counted job.visible.width job.visible.height job.counts }
-{
-    let mut rows = space::rows();
-    let n = job.counts;
-    let scratch = n.scratch;
-    let damping = job.damping;
-    let answer = cdef::measuring::measure_luma(
-        measured,
-        &mut rows[..scratch],
-        filtered,
-        original,
-        n.width,
-        n.height,
-        job.visible,
-        job.depth,
-        skip,
-        dirs,
-        vars,
-        none(),
-        damping,
-    );
-    if let Answer::Refused(no) = answer {
-        return Outcome::MeasuringRefused(no);
-    }
-    Outcome::Filtered
-}
-
-fn none() -> UnitPair {
-    UnitPair {
+    let mut measured = vec![in alloc; 0; n.units()]?;
+    let mut scratch = vec![in alloc; 0; n.scratch()]?;
+    let none = UnitPair {
         primary: 0,
         secondary: 0,
-    }
+    };
+    let answer = measuring::measure_luma(
+        &mut measured,
+        &mut scratch,
+        &plane,
+        job.original,
+        n.width,
+        n.height,
+        job.visible,
+        job.depth,
+        &skip,
+        &dirs,
+        &vars,
+        none,
+        job.damping,
+    );
+    done(Call::Measuring, answer)?;
+    Ok(Filtered {
+        plane,
+        tried,
+        measured,
+    })
 }

@@ -1,4 +1,2 @@
 pub mod Text
-pub mod Number
 pub mod TextLaws
-pub mod NumberLaws

@@ -1,5 +1,5 @@
 -- Digits, blanks and comments of a text. Definitions only.
-use Rattle.std.specs.Prelude.{ℕ, suc, ◌+◌, ◌-◌, ◌*◌, Bool, cond, not, ◌&&◌, ◌||◌, List, [], ◌∷◌, leb, eqb}
+use Rattle.std.specs.Prelude.{ℕ, suc, ◌+◌, ◌-◌, ◌*◌, min, Bool, cond, not, ◌&&◌, ◌||◌, List, [], ◌∷◌, length, leb, eqb, Option, None, Some}
 
 -- 0 to 9 (48 to 57)
 unfoldable pub is_digit : ℕ → Bool
@@ -35,3 +35,7 @@ in_comment comment b = cond comment (not (eqb b 10 || eqb b 13)) (eqb b 35)
 unfoldable pub blanks : Bool → List ℕ → ℕ
 blanks comment [] = 0
 blanks comment (b ∷ s) = cond (passed comment b) (suc (blanks (in_comment comment b) s)) 0
+
+-- the number that a whole text is: one digit or more, and nothing else
+unfoldable pub number_of : List ℕ → Option ℕ
+number_of s = cond (eqb (digit_count s) 0) None (cond (eqb (digit_count s) (length s)) (Some (min most (decimal 0 s))) None)

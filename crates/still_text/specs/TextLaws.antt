@@ -1,39 +1,42 @@
 -- Laws of digits, blanks and comments: one step of each count, and numbers that are too large.
-use Rattle.std.specs.Prelude.{◌≡◌, refl, Bool, true, false, cond, ◌&&◌, List, [], ◌∷◌, ℕ, suc, ◌+◌, ◌-◌, ◌*◌, ◌≤◌, ◌<◌, min, get_or, length, drop}
+use Rattle.std.specs.Prelude.{◌≡◌, refl, Bool, true, false, cond, ◌&&◌, List, [], ◌∷◌, ℕ, suc, ◌+◌, ◌-◌, ◌*◌, ◌≤◌, ◌<◌, min, length, drop, Some, None}
+use Rattle.std.specs.Char.{is_ascii_digit}
 use Rattle.std.proofs.Math.Decide.{dec_le}
-use Rattle.std.proofs.Math.Numerals.{add-one}
-use Rattle.std.proofs.Common.{arith, leb-true, drop_of_length-le, drop-cons}
-use Rattle.still_text.specs.Text.{is_digit, digit_count, decimal, most, passed, in_comment, blanks}
+use Rattle.std.proofs.Common.{arith, leb-true, ne_eqb, eq-eqb, length-drop}
+use Rattle.still_text.specs.Text.{is_digit, digit_count, decimal, most, passed, in_comment, blanks, number_of}
 
-module _ (s : List ℕ) (at : ℕ) where
-  -- ---- blanks
+-- ---- blanks of a text, by its first byte
 
-  pub blanks-end : (comment : Bool) → length s ≤ at → blanks comment (drop at s) ≡ 0
+pub blanks_end : (comment : Bool) (s : List ℕ) → length s ≡ 0 → drop (blanks comment s) s ≡ s
+unfolding blanks
+blanks_end comment [] h = refl
+blanks_end comment (b ∷ more) h = absurd (omega arith)
+
+module _ (comment : Bool) (s : List ℕ) (b : ℕ) (more : List ℕ) (e : s ≡ b ∷ more) where
+  pub blanks_stop : passed comment b ≡ false → drop (blanks comment s) s ≡ s
   unfolding blanks
-  blanks-end comment h = rw (drop_of_length-le s {i = at} h)
+  blanks_stop f = rw (e, f) refl
 
-  pub blanks-stop : (comment : Bool) → at < length s → passed comment (get_or s at 0) ≡ false → blanks comment (drop at s) ≡ 0
+  pub blanks_more : passed comment b ≡ true → drop (blanks comment s) s ≡ drop (blanks (in_comment comment b) more) more
   unfolding blanks
-  blanks-stop comment h e = rw (drop-cons s at 0 h, e)
+  blanks_more f = rw (e, f) refl
 
-  pub blanks-more : (comment : Bool) → at < length s → passed comment (get_or s at 0) ≡ true → at + blanks comment (drop at s) ≡ at + 1 + blanks (in_comment comment (get_or s at 0)) (drop (at + 1) s)
-  unfolding blanks
-  blanks-more comment h e = rw (drop-cons s at 0 h, e, add-one at) (omega arith)
+-- ---- digits of a text, by its first byte
 
-  -- ---- digits
+pub digits_end : (n : ℕ) (s : List ℕ) → length s ≡ 0 → (decimal n s ≡ n) × (digit_count s ≡ 0)
+unfolding decimal digit_count
+digits_end n [] h = (refl, refl)
+digits_end n (b ∷ more) h = absurd (omega arith)
 
-  pub digits-end : (n : ℕ) → length s ≤ at → (decimal n (drop at s) ≡ n) × (digit_count (drop at s) ≡ 0)
+module _ (s : List ℕ) (b : ℕ) (more : List ℕ) (e : s ≡ b ∷ more) where
+  pub digits_stop : (n : ℕ) → is_digit b ≡ false → (decimal n s ≡ n) × (digit_count s ≡ 0)
   unfolding decimal digit_count
-  digits-end n h = (rw (drop_of_length-le s {i = at} h), rw (drop_of_length-le s {i = at} h))
+  digits_stop n f = (rw (e, f) refl, rw (e, f) refl)
 
-  pub digits-stop : (n : ℕ) → at < length s → is_digit (get_or s at 0) ≡ false → (decimal n (drop at s) ≡ n) × (digit_count (drop at s) ≡ 0)
+  pub digits_more : (n : ℕ) → is_digit b ≡ true
+      → (decimal n s ≡ decimal (n * 10 + (b - 48)) more) × (digit_count s ≡ suc (digit_count more)) × (drop (digit_count s) s ≡ drop (digit_count more) more)
   unfolding decimal digit_count
-  digits-stop n h e = (rw (drop-cons s at 0 h, e), rw (drop-cons s at 0 h, e))
-
-  pub digits_more : (n : ℕ) → at < length s → is_digit (get_or s at 0) ≡ true
-      → (decimal n (drop at s) ≡ decimal (n * 10 + (get_or s at 0 - 48)) (drop (at + 1) s)) × (at + digit_count (drop at s) ≡ at + 1 + digit_count (drop (at + 1) s))
-  unfolding decimal digit_count
-  digits_more n h e = (rw (drop-cons s at 0 h, e, add-one at), rw (drop-cons s at 0 h, e, add-one at) (omega arith))
+  digits_more n f = (rw (e, f) refl, rw (e, f) refl, rw (e, f) refl)
 
 -- both hold
 pub and_both : (a b : Bool) → a && b ≡ true → (a ≡ true) × (b ≡ true)
@@ -46,9 +49,18 @@ and_both false b e = (e, go b e)
 
 -- ---- a digit and a number that is too large
 
-pub digit-range : (b : ℕ) → is_digit b ≡ true → (48 ≤ b) × (b ≤ 57)
+-- a digit, as the library tests it
+pub digit_yes : (b : ℕ) → is_ascii_digit b ≡ true → is_digit b ≡ true
 unfolding is_digit
-digit-range b e = let p = and_both _ _ e in (leb-true 48 b p.0, leb-true b 57 p.1)
+digit_yes b e = e
+
+pub digit_no : (b : ℕ) → is_ascii_digit b ≡ false → is_digit b ≡ false
+unfolding is_digit
+digit_no b e = e
+
+pub digit_range : (b : ℕ) → is_digit b ≡ true → (48 ≤ b) × (b ≤ 57)
+unfolding is_digit
+digit_range b e = let p = and_both _ _ e in (leb-true 48 b p.0, leb-true b 57 p.1)
 
 decimal-ge : (n : ℕ) (s : List ℕ) → n ≤ decimal n s
 unfolding decimal
@@ -60,8 +72,8 @@ decimal-ge n (b ∷ s) = go (is_digit b) (decimal-ge (n * 10 + (b - 48)) s)
     go false h = omega arith
 
 -- limited to `most` on the way or at the end
-pub capped-once : (n : ℕ) (s : List ℕ) → min most (decimal (min most n) s) ≡ min most (decimal n s)
-capped-once n s = go (dec_le n most)
+pub capped_once : (n : ℕ) (s : List ℕ) → min most (decimal (min most n) s) ≡ min most (decimal n s)
+capped_once n s = go (dec_le n most)
   where
     go : Dec (n ≤ most) → min most (decimal (min most n) s) ≡ min most (decimal n s)
     go (yes h) = let e : min most n ≡ n = omega arith in rw e
@@ -86,3 +98,24 @@ digits-within (b ∷ s) = go (is_digit b) (digits-within s)
     go : (t : Bool) → digit_count s ≤ length s → cond t (suc (digit_count s)) 0 ≤ suc (length s)
     go true h = omega arith
     go false h = omega arith
+
+-- ---- a whole text as a number
+
+module _ (s : List ℕ) where
+  pub number_none : digit_count s ≡ 0 → None ≡ number_of s
+  unfolding number_of
+  number_none h = rw (eq-eqb (digit_count s) 0 h) refl
+
+  pub number_longer : 0 < digit_count s → 0 < length (drop (digit_count s) s) → None ≡ number_of s
+  unfolding number_of
+  number_longer h k =
+      let some : digit_count s ≡ 0 → ⊥ = (λ e. omega arith) in
+      let longer : digit_count s ≡ length s → ⊥ = (λ e. omega (arith, length-drop (digit_count s) s)) in
+      rw (ne_eqb (digit_count s) 0 some, ne_eqb (digit_count s) (length s) longer) refl
+
+  pub number_whole : 0 < digit_count s → length (drop (digit_count s) s) ≡ 0 → Some (min most (decimal 0 s)) ≡ number_of s
+  unfolding number_of
+  number_whole h k =
+      let some : digit_count s ≡ 0 → ⊥ = (λ e. omega arith) in
+      let whole : digit_count s ≡ length s = omega (arith, length-drop (digit_count s) s, digits-within s) in
+      rw (ne_eqb (digit_count s) 0 some, eq-eqb (digit_count s) (length s) whole) refl

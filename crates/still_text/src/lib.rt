@@ -1,5 +1,5 @@
-// Numbers out of text: bytes, digits, blanks and comments.
+// Numbers out of text: digits, blanks and comments.
 #![tactic(auto)]
 
 pub mod numbers; // numbers.rt: decimal numbers
-pub mod text; // text.rt: bytes of a text: digits, blanks, comments
+pub mod text; // text.rt: blanks and comments

@@ -1,37 +1,26 @@
 -- `still_pgm::header::header_of` meets its contract.
-use native.Mathlib.Omega.{arith}
-use borrow.Author.Rules.{rules}
-use Rattle.still_pgm.specs.HeaderLaws.{header_is, start-within}
+use Rattle.std.proofs.Common.{sym, ap, ◌∙◌}
+use Rattle.still_pgm.specs.Header.{word_of}
+use Rattle.still_pgm.specs.HeaderLaws.{p5_is, header_other, header_no_width, header_no_height, header_no_maximum, header_ends, header_no_blank, header_is}
 use Rattle.still_pgm.proofs.header.header_of.Goals as goal
 
-pub word_at-w-requires : goal.word_at-w-requires
-word_at-w-requires c = search rules
+pub returns-in_err-rest : goal.returns-in_err-rest
+returns-in_err-rest c = rw c.from_residual.ensures (header_other _ (sym (p5_is _) ∙ c.in_err-rest.ensures.cases))
 
-pub word_at-h-requires : goal.word_at-h-requires
-word_at-h-requires c = search rules
+pub returns-in_err-width : goal.returns-in_err-width
+returns-in_err-width c = rw c.from_residual-in_err-width.ensures (header_no_width _ (sym (p5_is _) ∙ c.in_ok-rest.ensures.cases.0) (c.in_err-width.ensures ∙ ap word_of c.in_ok-rest.ensures.cases.1))
 
-pub word_at-m-requires : goal.word_at-m-requires
-word_at-m-requires c = search rules
+pub returns-in_err-height : goal.returns-in_err-height
+returns-in_err-height c = rw c.from_residual-in_err-height.ensures (header_no_height _ (sym (p5_is _) ∙ c.in_ok-rest.ensures.cases.0) _ _ (c.in_ok-width.ensures ∙ ap word_of c.in_ok-rest.ensures.cases.1) c.in_err-height.ensures)
 
-pub byte_at-requires : goal.byte_at-requires
-byte_at-requires c = search rules
+pub returns-in_err-maximum : goal.returns-in_err-maximum
+returns-in_err-maximum c = rw c.from_residual-in_err-maximum.ensures (header_no_maximum _ (sym (p5_is _) ∙ c.in_ok-rest.ensures.cases.0) _ _ (c.in_ok-width.ensures ∙ ap word_of c.in_ok-rest.ensures.cases.1) _ _ c.in_ok-height.ensures c.in_err-maximum.ensures)
 
-pub is_blank-blank-requires : goal.is_blank-blank-requires
-is_blank-blank-requires c = search rules
+pub returns-in_err-blank : goal.returns-in_err-blank
+returns-in_err-blank c = rw c.from_residual-in_err-blank.ensures (header_ends _ (sym (p5_is _) ∙ c.in_ok-rest.ensures.cases.0) _ _ (c.in_ok-width.ensures ∙ ap word_of c.in_ok-rest.ensures.cases.1) _ _ c.in_ok-height.ensures _ _ c.in_ok-maximum.ensures c.in_err-blank.ensures.cases)
 
-pub all_hold-numbers-requires : goal.all_hold-numbers-requires
-all_hold-numbers-requires c = search rules
-
-pub is_p5-requires : goal.is_p5-requires
-is_p5-requires c = search rules
-
-pub all_hold-requires : goal.all_hold-requires
-all_hold-requires c = search rules
-
-pub overflow_add-result : goal.overflow_add-result
-overflow_add-result c = let m = c.before.before.before.before.before.before in
-    omega (arith, start-within _ _ _ _ m.before.before.word_at-w.ensures m.before.word_at-h.ensures m.word_at-m.ensures)
+pub returns-then-not-is_blank : goal.returns-then-not-is_blank
+returns-then-not-is_blank c = header_no_blank _ (sym (p5_is _) ∙ c.in_ok-rest.ensures.cases.0) _ _ (c.in_ok-width.ensures ∙ ap word_of c.in_ok-rest.ensures.cases.1) _ _ c.in_ok-height.ensures _ _ c.in_ok-maximum.ensures _ _ c.in_ok-blank.ensures.cases.0 (sym c.is_blank.ensures ∙ c.if-not-is_blank.true)
 
 pub returns : goal.returns
-returns c = let m = c.before.before.before.before.before.before in
-    header_is _ _ _ _ m.before.before.word_at-w.ensures m.before.word_at-h.ensures m.word_at-m.ensures _ _ _ _ _ c.before.before.before.before.before.byte_at.ensures c.before.before.before.before.is_blank-blank.ensures c.before.before.before.all_hold-numbers.ensures c.before.before.is_p5.ensures c.before.all_hold.ensures
+returns c = header_is _ (sym (p5_is _) ∙ c.in_ok-rest.ensures.cases.0) _ _ (c.in_ok-width.ensures ∙ ap word_of c.in_ok-rest.ensures.cases.1) _ _ c.in_ok-height.ensures _ _ c.in_ok-maximum.ensures _ _ c.in_ok-blank.ensures.cases.0 (sym c.is_blank.ensures ∙ c.if-not-is_blank.false)

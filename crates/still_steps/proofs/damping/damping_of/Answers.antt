@@ -1,22 +1,26 @@
 -- `still_steps::damping::damping_of` meets its contract.
-use Rattle.std.proofs.Common.{sym, ◌∙◌, arith}
-use Rattle.still_steps.specs.DampingLaws.{no-letter, value_low, damping-none, damping-quality, damping-given, damping-other}
+use Rattle.std.proofs.Common.{Some, ap, ◌∙◌, arith}
+use Rattle.cdef_spec.specs.declared.SignalledDamping.{SignalledDamping}
+use Rattle.cdef_spec.specs.Answers.{Result, taken, read_damping}
+use Rattle.still_steps.specs.Damping.{read_text}
+use Rattle.still_steps.specs.DampingLaws.{value_low, quality_index, signalled, other_letter}
 use Rattle.still_steps.proofs.damping.damping_of.Goals as goal
 
-pub returns-then-text-eq0 : goal.returns-then-text-eq0
-returns-then-text-eq0 c = no-letter _ c.if-text-eq0.true
-
-pub returns-in_default : goal.returns-in_default
-returns-in_default c = damping-none _ _ c.if-text-eq0.false c.number_of.ensures c.in_default.is
-
 pub overflow_cast-n : goal.overflow_cast-n
-overflow_cast-n c = omega (arith, value_low _ _ (sym c.number_of.ensures ∙ c.in-Value.is))
+overflow_cast-n c = omega (arith, value_low _ _ c.in-Some-number_of.ensures)
 
-pub returns-then-letter-eq113 : goal.returns-then-letter-eq113
-returns-then-letter-eq113 c = c.of_index.ensures ∙ damping-quality _ _ c.if-text-eq0.false c.number_of.ensures _ c.in-Value.is c.if-letter-eq113.true
+pub returns-in-Damping : goal.returns-in-Damping
+unfolding read_text read_damping
+returns-in-Damping c = ap (λ (o : Result SignalledDamping). Some o) c.in-Damping.ensures ∙ quality_index _ _ _ c.in-Some.ensures.cases.0 _ c.in-Some-number_of.ensures c.in-113.is
 
-pub returns-then-letter-eq100 : goal.returns-then-letter-eq100
-returns-then-letter-eq100 c = damping-given _ _ c.if-text-eq0.false c.number_of.ensures _ _ c.in-Value.is c.if-letter-eq113.false c.if-letter-eq100.true c.small.ensures
+pub returns-in-NoDamping : goal.returns-in-NoDamping
+unfolding read_text read_damping
+returns-in-NoDamping c = ap (λ (o : Result SignalledDamping). Some o) c.in-NoDamping.ensures ∙ quality_index _ _ _ c.in-Some.ensures.cases.0 _ c.in-Some-number_of.ensures c.in-113.is
 
-pub returns : goal.returns
-returns c = damping-other _ _ c.if-text-eq0.false c.number_of.ensures _ c.in-Value.is c.if-letter-eq113.false c.if-letter-eq100.false
+pub returns-in-100 : goal.returns-in-100
+unfolding read_text
+returns-in-100 c = rw c.small.ensures (signalled _ _ _ c.in-Some.ensures.cases.0 _ c.in-Some-number_of.ensures c.in-100.is)
+
+pub returns-in_default-letter : goal.returns-in_default-letter
+unfolding read_text
+returns-in_default-letter c = other_letter _ _ _ c.in-Some.ensures.cases.0 _ c.in-Some-number_of.ensures (λ e. omega (arith, e)) (λ e. omega (arith, e))

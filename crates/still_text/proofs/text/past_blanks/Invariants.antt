@@ -1,13 +1,11 @@
 -- `still_text::text::past_blanks` meets its contract.
-use Prim.Native.Nat.{◌+◌, ◌-◌}
-use mathlib.Core.Bool.{false}
-use mathlib.Core.Path.{◌≡◌}
-use lib.ListN.{length, drop}
+use Rattle.std.proofs.Common.{◌≡◌, false, drop, length}
 use Rattle.still_text.specs.Text.{blanks}
 use Rattle.still_text.proofs.text.past_blanks.Given as goal
 
-abbrev pub invariant-loop-at : goal.invariant-loop-at
-invariant-loop-at l = l.at + blanks l.comment (drop l.at l.text) ≡ l.from + blanks false (drop l.from l.text)
+-- what is still to be passed ends where the whole ends
+abbrev pub invariant-loop-b : goal.invariant-loop-b
+invariant-loop-b l = drop (blanks l.comment l.rest) l.rest ≡ drop (blanks false l.text) l.text
 
-abbrev pub decreases-loop-at : goal.decreases-loop-at
-decreases-loop-at l = length l.text - l.at
+abbrev pub decreases-loop-b : goal.decreases-loop-b
+decreases-loop-b l = length l.rest

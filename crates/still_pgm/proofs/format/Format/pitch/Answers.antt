@@ -1,0 +1,6 @@
+-- `still_pgm::format::Format::pitch` meets its contract.
+use Rattle.still_pgm.specs.SizesLaws.{taken}
+use Rattle.still_pgm.proofs.format.Format.pitch.Goals as goal
+
+pub padded_side-requires : goal.padded_side-requires
+padded_side-requires c = (taken _ _ c.args.self.now.taken).width-high

@@ -1,10 +1,11 @@
 // The calls for trying: per unit the totals of distances between the original and the twelve trial blocks.
 ghost use Rattle.std.specs.Prelude.{◌≡◌};
-ghost use Rattle.cdef_spec.specs.Answers.{read_answer};
+ghost use Rattle.cdef_spec.specs.Answers.{read_answer, read_done};
+ghost use Rattle.cdef_spec.specs.Lent.{picture_in};
 ghost use Rattle.cdef_spec.specs.Picture.{luma_picture, chroma_picture};
 ghost use Rattle.cdef_spec.specs.FrameCalls.{trying_outcome};
 
-use cdef_spec::{Answer, DampingChoice, Visible};
+use cdef_spec::{Answer, DampingChoice, Picture, Refusal, Visible};
 use frame_shape::Frame;
 
 // Trying in luma. Whole blocks have the weighted distance, blocks cropped to the visible part plain squares.
@@ -69,4 +70,19 @@ pub fn try_chroma(
         totals, snapshot, original, f, visible, skip, dirs, &none, damping,
     );
     cdef_answer::answer_of(no)
+}
+
+// Trying in a plane of a picture. In luma whole blocks have the weighted distance and blocks cropped to the visible part plain squares; in chroma all have plain squares.
+pub fn try_units(
+    totals: &mut [i64],
+    snapshot: &[u16],
+    original: &[u16],
+    picture: &Picture<'_>,
+    visible: Visible,
+    damping: DampingChoice,
+) -> Result<(), Refusal>
+    ensures { trying_outcome (picture_in picture.now) damping visible snapshot.now original.now totals.old
+        ≡ record { answer = read_done result; totals = totals.new } }
+{
+    frame_calls::calls::trying(totals, snapshot, original, picture, visible, damping)
 }

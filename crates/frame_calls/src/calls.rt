@@ -2,10 +2,11 @@
 ghost use Rattle.std.specs.Prelude.{◌≡◌};
 ghost use Rattle.cdef_spec.specs.Answers.{read_done};
 ghost use Rattle.cdef_spec.specs.Lent.{picture_in};
+ghost use Rattle.cdef_spec.specs.FrameCalls.{trying_outcome};
 ghost use Rattle.cdef_pairs.specs.Applying.{applying_by_outcome};
 
 use cdef_pairs::Pairs;
-use cdef_spec::{DampingChoice, Picture, Refusal};
+use cdef_spec::{DampingChoice, Picture, Refusal, Visible};
 
 // Applying: the snapshot filtered into a destination, each unit with its pair.
 pub fn applying<P: Pairs>(
@@ -20,5 +21,23 @@ pub fn applying<P: Pairs>(
 {
     let input = check_frame::checks::applying(picture, damping, snapshot, dst, pairs)?;
     apply_plane::new::apply_plane(dst, &input, pairs);
+    Ok(())
+}
+
+// Trying: twelve totals per unit.
+pub fn trying(
+    totals: &mut [i64],
+    snapshot: &[u16],
+    original: &[u16],
+    picture: &Picture<'_>,
+    visible: Visible,
+    damping: DampingChoice,
+) -> Result<(), Refusal>
+    ensures { trying_outcome (picture_in picture.now) damping visible snapshot.now original.now totals.old
+        ≡ record { answer = read_done result; totals = totals.new } }
+{
+    let input =
+        check_frame::checks::trying(picture, damping, visible, snapshot, original, totals)?;
+    try_plane::new::try_plane(totals, &input);
     Ok(())
 }

@@ -1,10 +1,11 @@
 // The calls for measuring: per unit the total of distances between the original and a plane, filtered with one pair or, with 0, 0, unfiltered.
 ghost use Rattle.std.specs.Prelude.{◌≡◌};
-ghost use Rattle.cdef_spec.specs.Answers.{read_answer};
+ghost use Rattle.cdef_spec.specs.Answers.{read_answer, read_done};
+ghost use Rattle.cdef_spec.specs.Lent.{picture_in};
 ghost use Rattle.cdef_spec.specs.Picture.{luma_picture, chroma_picture};
 ghost use Rattle.cdef_spec.specs.FrameCalls.{measuring_outcome};
 
-use cdef_spec::{Answer, DampingChoice, UnitPair, Visible};
+use cdef_spec::{Answer, DampingChoice, Picture, Refusal, UnitPair, Visible};
 use frame_shape::Frame;
 
 // Measuring in luma. The scratch, plane width * block height numbers, is returned all zero.
@@ -75,4 +76,23 @@ pub fn measure_chroma(
         totals, scratch, plane, original, f, visible, skip, dirs, &none, pair, damping,
     );
     cdef_answer::answer_of(no)
+}
+
+// Measuring in a plane of a picture. The scratch, plane width * block height numbers, is returned all zero.
+pub fn measure_units(
+    totals: &mut [i64],
+    scratch: &mut [u16],
+    plane: &[u16],
+    original: &[u16],
+    picture: &Picture<'_>,
+    visible: Visible,
+    pair: UnitPair,
+    damping: DampingChoice,
+) -> Result<(), Refusal>
+    ensures { measuring_outcome (picture_in picture.now) damping visible plane.now original.now pair totals.old scratch.old
+        ≡ record { answer = read_done result; totals = totals.new; scratch = scratch.new } }
+{
+    frame_calls::calls::measuring(
+        totals, scratch, plane, original, picture, visible, pair, damping,
+    )
 }

@@ -1,6 +1,6 @@
 -- A frame call from its checks: what its core requires where they pass, and the outcome either way.
-use Rattle.std.specs.Prelude.{◌≡◌, refl, Bool, true, ◌&&◌, List, [], ◌∷◌, ℕ, ◌*◌, ◌/◌, ◌%◌, ◌≤◌, ℤ, pos, length, replicate, eqb, Ok, Err, Result as RustResult}
-use Rattle.std.proofs.Common.{sym, ◌∙◌, ne_eqb, eqb-true, eq-eqb}
+use Rattle.std.specs.Prelude.{◌≡◌, refl, Bool, true, false, ◌&&◌, ◌||◌, leb, List, [], ◌∷◌, ℕ, ◌*◌, ◌/◌, ◌%◌, ◌≤◌, ℤ, pos, length, replicate, eqb, Ok, Err, Result as RustResult}
+use Rattle.std.proofs.Common.{sym, ◌∙◌, arith, ne_eqb, eqb-true, eq-eqb, leb-true}
 use Rattle.cdef_spec.specs.declared.DampingChoice.{DampingChoice}
 use Rattle.cdef_spec.specs.declared.SignalledDamping.{SignalledDamping}
 use Rattle.cdef_spec.specs.declared.Refusal.{Refusal}
@@ -12,7 +12,7 @@ use Rattle.cdef_spec.specs.Document01.{in_force}
 use Rattle.cdef_spec.specs.Picture.{Picture, plane_width, plane_height, units, tried_total, measured_total, applied_plane}
 use Rattle.cdef_spec.specs.Answers.{nothing, result_of, read_done, code_of}
 use Rattle.cdef_spec.specs.AnswerLaws.{not-zero, read_done-err, zero-so, read_done-ok}
-use Rattle.cdef_spec.specs.Questions.{full_planes, picture_listed, visible_taken, picture_taken, pair_taken}
+use Rattle.cdef_spec.specs.Questions.{full_planes, picture_listed, visible_taken, picture_taken, primary_taken, secondary_taken, pair_taken}
 use Rattle.cdef_spec.specs.QuestionLaws.{Taken, questions-yes}
 use Rattle.cdef_spec.specs.FrameCalls.{trying_no, trying_outcome, scratch_length, measuring_no, measuring_outcome}
 use Rattle.cdef_pairs.specs.Applying.{applying_by_no, applying_by_outcome}
@@ -29,6 +29,20 @@ module _ {q : Picture} {d : SignalledDamping} {planes : List (List ℕ)} {lists 
 second-long : (q : Picture) (a b : List ℕ) → full_planes q (a ∷ b ∷ []) ≡ true → length b ≡ plane_width q * plane_height q
 unfolding full_planes
 second-long q a b e = eqb-true _ _ (and_both _ _ (and_both _ _ e).1).0
+
+-- a pair that passes question 8
+pair-low : (p : UnitPair) → pair_taken p ≡ true → (p.primary ≤ 15) × (p.secondary ≤ 4)
+unfolding pair_taken primary_taken secondary_taken
+pair-low p e =
+    let b = and_both _ _ e in
+    (leb-true p.primary 15 b.0, secondary-low p.secondary b.1)
+  where
+    secondary-low : (n : ℕ) → leb n 2 || eqb n 4 ≡ true → n ≤ 4
+    secondary-low n h = go (leb n 2) refl
+      where
+        go : (t : Bool) → leb n 2 ≡ t → n ≤ 4
+        go true l = omega (arith, leb-true n 2 l)
+        go false l = omega (arith, eqb-true n 4 (rw l at h))
 
 -- the outcome of a call that is done
 done-is : (done : Unit {0}) (n : ℕ) → n ≡ 0 → read_done (Ok done) ≡ result_of n nothing
@@ -100,9 +114,9 @@ module _ (q : Picture) (d : DampingChoice) (v : Visible) (plane original : List 
     pub scratch-long : length scratch ≡ scratch_length q
     scratch-long = sizes.1
 
-    pub measuring-taken : pair_taken p ≡ true
+    pub measuring-low : (p.primary ≤ 15) × (p.secondary ≤ 4)
     unfolding measuring_no
-    measuring-taken = own-values (questions-yes _ _ _ _ _ _ z)
+    measuring-low = pair-low p (own-values (questions-yes _ _ _ _ _ _ z))
 
     pub measuring-does : (done : Unit {0}) (t : List ℤ) (s : List ℕ) → t ≡ table (units q) (λ u. pos (measured_total q (in_force d) v plane original p u)) → s ≡ replicate (scratch_length q) 0
         → measuring_outcome q d v plane original p totals scratch ≡ record { answer = read_done (Ok done); totals = t; scratch = s }

@@ -2,11 +2,11 @@
 ghost use Rattle.std.specs.Prelude.{◌≡◌};
 ghost use Rattle.cdef_spec.specs.Answers.{read_done};
 ghost use Rattle.cdef_spec.specs.Lent.{picture_in};
-ghost use Rattle.cdef_spec.specs.FrameCalls.{trying_outcome};
+ghost use Rattle.cdef_spec.specs.FrameCalls.{trying_outcome, measuring_outcome};
 ghost use Rattle.cdef_pairs.specs.Applying.{applying_by_outcome};
 
 use cdef_pairs::Pairs;
-use cdef_spec::{DampingChoice, Picture, Refusal, Visible};
+use cdef_spec::{DampingChoice, Picture, Refusal, UnitPair, Visible};
 
 // Applying: the snapshot filtered into a destination, each unit with its pair.
 pub fn applying<P: Pairs>(
@@ -39,5 +39,26 @@ pub fn trying(
     let input =
         check_frame::checks::trying(picture, damping, visible, snapshot, original, totals)?;
     try_plane::new::try_plane(totals, &input);
+    Ok(())
+}
+
+// Measuring: one total per unit; the scratch is returned all zero.
+pub fn measuring(
+    totals: &mut [i64],
+    scratch: &mut [u16],
+    plane: &[u16],
+    original: &[u16],
+    picture: &Picture<'_>,
+    visible: Visible,
+    pair: UnitPair,
+    damping: DampingChoice,
+) -> Result<(), Refusal>
+    ensures { measuring_outcome (picture_in picture.now) damping visible plane.now original.now pair totals.old scratch.old
+        ≡ record { answer = read_done result; totals = totals.new; scratch = scratch.new } }
+{
+    let input = check_frame::checks::measuring(
+        picture, damping, visible, plane, original, pair, totals, scratch,
+    )?;
+    measure_plane::new::measure_plane(totals, scratch, &input, pair);
     Ok(())
 }

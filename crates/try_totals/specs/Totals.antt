@@ -1,8 +1,6 @@
 -- The distances that trying adds up. Definitions only.
-use Rattle.std.specs.Prelude.{Bool, List, ℕ, ◌+◌, ◌*◌, ◌/◌, ◌%◌, ◌<◌, get_or}
+use Rattle.std.specs.Prelude.{Bool, List, ℕ, ◌*◌}
 use Rattle.cdef_spec.specs.declared.DistanceConstants.{DistanceConstants}
-use Rattle.cdef_spec.specs.Distance.{squares}
-use Rattle.arith_sample.specs.Upto.{upto}
 use Rattle.distance_sums.specs.Blocks.{at}
 use Rattle.distance_visible.specs.Cut.{cut_distance}
 

@@ -10,6 +10,7 @@ ghost use Rattle.distance_sums.specs.Blocks.{Within};
 ghost use Rattle.try_totals.specs.Totals.{trial_distances};
 
 use cdef_spec::DistanceConstants;
+use std::array;
 
 // The distances between a block of the original and the trial blocks, one by one.
 fn cut_distances(
@@ -28,9 +29,8 @@ fn cut_distances(
         × ((t : ℕ) → t < 12 → Within blocks.now (t * 64) step rows cols (2 ^ depth)) }
     ensures { result ≡ upto (trial_distances luma c rows cols original.now at pitch blocks.now step) 12 }
 {
-    let mut d = [0u64; 12];
-    for t in 0..12usize {
-        d[t] = distance_visible::distance_cut(
+    array::from_fn(|t| {
+        distance_visible::distance_cut(
             original,
             at,
             pitch,
@@ -41,9 +41,8 @@ fn cut_distances(
             cols,
             luma,
             c,
-        );
-    }
-    d
+        )
+    })
 }
 
 // The same distances: whole luma blocks, and chroma blocks whose samples fill runs of sixteen, in loops of their own.

@@ -1,7 +1,12 @@
 -- What is stored, row by row, is the block of the kernel's samples.
 use Rattle.std.specs.Prelude.{◌≡◌, List, set, length}
 use Rattle.std.proofs.Math.Path.{refl, ap}
-use Rattle.std.proofs.Common.{sym, ◌∙◌, add-one, ne_eqb, get_or-set_same}
+use Rattle.std.proofs.Common.{sym, ◌∙◌, add-one, ne_eqb, get_or-set_same, ext_get_or, take_all}
+use Rattle.std.proofs.lemmas.List.{places}
+use Rattle.std.proofs.lemmas.List.Edits.{length-between, get_or-between}
+use Rattle.std.specs.List.{between}
+use Rattle.std.proofs.lemmas.Slice.{between_from_start}
+use borrow.Rule.Slice.PartMut.{put_mid}
 use Prim.Native.Nat.{ℕ, zero, suc, ◌+◌, ◌-◌, ◌*◌, ◌≤◌, ◌<◌}
 use Rattle.std.proofs.Math.Decide.{dec_le, ℕ_discrete}
 use native.Mathlib.Omega.{arith}
@@ -75,6 +80,31 @@ module _ (d : List ℕ) (to : ℕ) (v : List ℕ) (from : ℕ) where
       go : Dec (j ≡ n) → (j < n → get_or (placed d to v from n) (to + j) 0 ≡ get_or v (from + j) 0) → get_or (set (placed d to v from n) (to + n) (get_or v (from + n) 0)) (to + j) 0 ≡ get_or v (from + j) 0
       go (yes e) old = rw e (get_or-set_same (placed d to v from n) (to + n) (get_or v (from + n) 0) 0 (omega (arith, length-placed n)))
       go (no q) old = get_or-set_other (placed d to v from n) (to + n) (to + j) (get_or v (from + n) 0) 0 (λ e. q (omega (arith, e))) ∙ old (ne-lt j n (omega arith) q)
+
+  placed-after : (k n : ℕ) → to + n ≤ k → get_or (placed d to v from n) k 0 ≡ get_or d k 0
+  unfolding placed
+  placed-after k zero h = refl
+  placed-after k (suc n) h = get_or-set_other (placed d to v from n) (to + n) k (get_or v (from + n) 0) 0 (λ e. omega (arith, e)) ∙ placed-after k n (omega arith)
+
+-- n entries written at once
+pub placed-mid : (d v ys : List ℕ) (to from n k e : ℕ) → k ≡ n → e ≡ from + n → to + n ≤ length d → e ≤ length v → ys ≡ between from e v → put_mid to k d ys ≡ placed d to v from n
+placed-mid d v ys to from n k e ek ee hd hv ey =
+    let m : length ys ≡ n = rw ey (length-between v from e hv ∙ omega arith) in
+    let z : length (put_mid to k d ys) ≡ length d = grind (arith, places, m, ek, hd) in
+    ext_get_or 0 (put_mid to k d ys) (placed d to v from n) (z ∙ sym (length-placed d to v from n)) (λ i l. go i (omega (arith, z)) m (dec_le to i) (dec_le (to + n) i))
+  where
+    go : (i : ℕ) → i < length d → length ys ≡ n → Dec (to ≤ i) → Dec (to + n ≤ i) → get_or (put_mid to k d ys) i 0 ≡ get_or (placed d to v from n) i 0
+    go i l m (no a) b = rw (placed-before d to v from i n (omega (arith, a))) (grind (arith, places, m, ek, hd, a))
+    go i l m (yes a) (yes b) = rw (placed-after d to v from i n b) (grind (arith, places, m, ek, hd, b))
+    go i l m (yes a) (no b) =
+        let j : to + (i - to) ≡ i = omega arith in
+        let h : i - to < n = omega (arith, b) in
+        let p : get_or (placed d to v from n) i 0 ≡ get_or v (from + (i - to)) 0 = rw j at (placed_at d to v from (i - to) n h hd) in
+        let y : get_or ys (i - to) 0 ≡ get_or v (from + (i - to)) 0 = rw ey (get_or-between v from e (i - to) 0 (omega arith)) in
+        grind (arith, places, m, ek, hd, a, h, p, y)
+
+pub placed-whole : (d v ys : List ℕ) (to n k : ℕ) → k ≡ n → to + n ≤ length d → length v ≡ n → ys ≡ v → put_mid to k d ys ≡ placed d to v 0 n
+placed-whole d v ys to n k ek hd hv ey = placed-mid d v ys to 0 n k n ek (omega arith) hd (omega arith) (ey ∙ sym (between_from_start v n ∙ take_all n v (omega arith)))
 
 -- c rows of eight more
 module _ (l : List ℕ) (w at : ℕ) (t : Taps) (f g : Strength) where

@@ -8,94 +8,54 @@ ghost use Rattle.filter_rows.specs.Sums.{InRange, pri_at, sec_at, filtered_at};
 ghost use Rattle.filter_kernel.specs.Kernel.{kernel_at};
 ghost use Rattle.plane_taps.specs.Plain.{AllLow};
 ghost use Rattle.plane_taps.specs.Steps.{taps_in};
-ghost use Rattle.plane_taps.specs.Reach.{Reached6, Around};
+ghost use Rattle.plane_taps.specs.Reach.{Around};
 ghost use Rattle.plane_rows.specs.Rows.{Strong, pri_in, sec_in, placed, placed_rows, Stored};
+
+use std::array;
 
 use filter_limits::Pair;
 use filter_rows::{Strength, Taps};
 use plane_taps::load::load;
 use plane_taps::plain;
 
-// The sample at k, filtered with both strengths.
-fn both_at(src: &[u16], k: usize, t: Taps, f: Strength, g: Strength) -> u16
-    requires { (k < length src.now) × Reached6 (length src.now) k t × AllLow src.now × InRange f × InRange g }
-    ensures { result ≡ filtered_at src.now k t f g }
+// Sample j of the eight from k on, filtered with both strengths.
+fn both_at(src: &[u16], k: usize, j: usize, t: Taps, f: Strength, g: Strength) -> u16
+    requires { Around (length src.now) k 8 t × (j < 8) × AllLow src.now × InRange f × InRange g }
+    ensures { result ≡ filtered_at src.now (k + j) t f g }
 {
-    let c = src[k];
-    let m = plain::first(load(src, k, t.p0), load(src, k, t.p1), c, f);
-    let q0 = load(src, k, t.q0);
-    let q1 = load(src, k, t.q1);
-    let r0 = load(src, k, t.r0);
-    let r1 = load(src, k, t.r1);
+    let i = k + j;
+    let c = src[i];
+    let m = plain::first(load(src, i, t.p0), load(src, i, t.p1), c, f);
+    let q0 = load(src, i, t.q0);
+    let q1 = load(src, i, t.q1);
+    let r0 = load(src, i, t.r0);
+    let r1 = load(src, i, t.r1);
     plain::last(m, q0, q1, r0, r1, c, g)
 }
 
 // With the primary strength alone.
-fn pri_at(src: &[u16], k: usize, t: Taps, f: Strength) -> u16
-    requires { (k < length src.now) × Reached6 (length src.now) k t × AllLow src.now × InRange f }
-    ensures { result ≡ free_of (get_or src.now k 0) (pri_at src.now k t f) }
+fn pri_at(src: &[u16], k: usize, j: usize, t: Taps, f: Strength) -> u16
+    requires { Around (length src.now) k 8 t × (j < 8) × AllLow src.now × InRange f }
+    ensures { result ≡ free_of (get_or src.now (k + j) 0) (pri_at src.now (k + j) t f) }
 {
-    let c = src[k];
-    let s = plain::pri_sum(load(src, k, t.p0), load(src, k, t.p1), c, f);
+    let i = k + j;
+    let c = src[i];
+    let s = plain::pri_sum(load(src, i, t.p0), load(src, i, t.p1), c, f);
     arith_sample::raised(c, s)
 }
 
 // With the secondary strength alone.
-fn sec_at(src: &[u16], k: usize, t: Taps, f: Strength) -> u16
-    requires { (k < length src.now) × Reached6 (length src.now) k t × AllLow src.now × InRange f }
-    ensures { result ≡ free_of (get_or src.now k 0) (sec_at src.now k t f) }
+fn sec_at(src: &[u16], k: usize, j: usize, t: Taps, f: Strength) -> u16
+    requires { Around (length src.now) k 8 t × (j < 8) × AllLow src.now × InRange f }
+    ensures { result ≡ free_of (get_or src.now (k + j) 0) (sec_at src.now (k + j) t f) }
 {
-    let c = src[k];
-    let q0 = load(src, k, t.q0);
-    let q1 = load(src, k, t.q1);
-    let r0 = load(src, k, t.r0);
-    let r1 = load(src, k, t.r1);
+    let i = k + j;
+    let c = src[i];
+    let q0 = load(src, i, t.q0);
+    let q1 = load(src, i, t.q1);
+    let r0 = load(src, i, t.r0);
+    let r1 = load(src, i, t.r1);
     arith_sample::raised(c, plain::sec_sum(q0, q1, r0, r1, c, f))
-}
-
-// Rows of eight from k on: filtered with both strengths, with one alone, and as they are.
-fn both_row(src: &[u16], k: usize, t: Taps, f: Strength, g: Strength) -> [u16; 8]
-    requires { Around (length src.now) k 8 t × AllLow src.now × InRange f × InRange g }
-    ensures { result ≡ upto (λ j. filtered_at src.now (k + j) t f g) 8 }
-{
-    let mut out = [0u16; 8];
-    for j in 0..8usize {
-        out[j] = both_at(src, k + j, t, f, g);
-    }
-    out
-}
-
-fn pri_row(src: &[u16], k: usize, t: Taps, f: Strength) -> [u16; 8]
-    requires { Around (length src.now) k 8 t × AllLow src.now × InRange f }
-    ensures { result ≡ upto (λ j. free_of (get_or src.now (k + j) 0) (pri_at src.now (k + j) t f)) 8 }
-{
-    let mut out = [0u16; 8];
-    for j in 0..8usize {
-        out[j] = pri_at(src, k + j, t, f);
-    }
-    out
-}
-
-fn sec_row(src: &[u16], k: usize, t: Taps, f: Strength) -> [u16; 8]
-    requires { Around (length src.now) k 8 t × AllLow src.now × InRange f }
-    ensures { result ≡ upto (λ j. free_of (get_or src.now (k + j) 0) (sec_at src.now (k + j) t f)) 8 }
-{
-    let mut out = [0u16; 8];
-    for j in 0..8usize {
-        out[j] = sec_at(src, k + j, t, f);
-    }
-    out
-}
-
-fn centre_row(src: &[u16], k: usize) -> [u16; 8]
-    requires { k + 8 ≤ length src.now }
-    ensures { result ≡ upto (λ j. get_or src.now (k + j) 0) 8 }
-{
-    let mut out = [0u16; 8];
-    for j in 0..8usize {
-        out[j] = src[k + j];
-    }
-    out
 }
 
 // The filtered row. The taps of a strength 0 are left out.
@@ -105,14 +65,14 @@ fn row(src: &[u16], k: usize, t: Taps, f: Strength, g: Strength) -> [u16; 8]
 {
     if f.s == 0 {
         if g.s == 0 {
-            return centre_row(src, k);
+            return array::from_fn(|j| src[k + j]);
         }
-        return sec_row(src, k, t, g);
+        return array::from_fn(|j| sec_at(src, k, j, t, g));
     }
     if g.s == 0 {
-        return pri_row(src, k, t, f);
+        return array::from_fn(|j| pri_at(src, k, j, t, f));
     }
-    both_row(src, k, t, f, g)
+    array::from_fn(|j| both_at(src, k, j, t, f, g))
 }
 
 // Keeps a row among a block's samples, from index `to` on.
@@ -120,13 +80,11 @@ fn keep(all: &mut [u16; 64], to: usize, row: [u16; 8])
     requires { to ≤ 56 }
     ensures { all.new ≡ placed all.old to row 0 8 }
 {
-    for j in 0..8usize {
-        all[to + j] = row[j];
-    }
+    all[to..to + 8].copy_from_slice(&row);
 }
 
 // Stores n rows of a block's samples from index `to` on, once all are computed: stored one by one, planes of 4,096 by 4,096 took longer
-// where destination and plane have the same address modulo 4,096 (docs/DECISIONS.md, 77).
+// where destination and plane have the same address modulo 4,096 (docs/DECISIONS.md, 77). By copy_from_slice a block took a tenth longer.
 pub fn store(dst: &mut [u16], w: usize, to: usize, all: &[u16; 64], n: usize)
     requires { (n ≤ 8) × ((i : ℕ) → i < n → to + i * w + 8 ≤ length dst.old) }
     ensures { dst.new ≡ placed_rows dst.old w to all.now 8 n }

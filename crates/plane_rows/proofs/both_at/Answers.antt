@@ -1,63 +1,61 @@
 -- `plane_rows::both_at` meets its contract.
-use mathlib.Core.Path.{◌≡◌, ◌∙◌}
+use Rattle.std.proofs.Common.{◌≡◌, ◌∙◌, arith, ℕ, List, get_or}
+use Rattle.filter_limits.specs.declared.Pair.{Pair}
+use Rattle.filter_rows.specs.declared.Strength.{Strength}
+use Rattle.filter_rows.specs.declared.Taps.{Taps}
 use Rattle.filter_rows.specs.Pairs.{pair_of}
-use Rattle.plane_taps.specs.Plain.{Low}
+use Rattle.plane_taps.specs.Plain.{AllLow, Low, first_of}
 use Rattle.plane_taps.specs.PlainLaws.{both-plain}
+use Rattle.plane_taps.specs.ReachLaws.{reached-all}
+use Rattle.plane_taps.specs.declared.plain.Part.{Part}
 use Rattle.plane_rows.specs.Rows.{first_at}
 use Rattle.plane_rows.specs.LaneLaws.{below, pair-low, first-bounded}
-use borrow.Author.Rules.{rules}
 use Rattle.plane_rows.proofs.both_at.Goals as goal
-use Rattle.plane_rows.proofs.both_at.Goals.{Start}
-use Rattle.plane_rows.proofs.both_at.Lts as steps
-use Rattle.plane_rows.proofs.both_at.Tie as tie
-use Rattle.plane_rows.proofs.both_at.Reads as reads
 
-abbrev Upto-After-first-m : Type 0
-Upto-After-first-m = steps.After-first tie.the-claims reads.Pre reads.Post
+low : (l : List ℕ) → AllLow l → (k o : ℕ) (p : Pair) → p ≡ pair_of l k o → Low p
+low l h k o p e = rw e (pair-low l h k o)
 
-low : (s : Start) (p : Rattle.filter_limits.specs.declared.Pair.Pair) (o : Prim.Native.Nat.ℕ) → p ≡ pair_of s.args.src.now s.args.k o → Low p
-low s p o e = rw e (pair-low s.args.src.now s.requires.2 s.args.k o)
-
-first-is : (c : Upto-After-first-m) → let a = c.before.before.before.before.before.args in c.first-m.result ≡ first_at a.src.now a.k a.t a.f
+first-is : (l : List ℕ) (k : ℕ) (t : Taps) (f : Strength) (m : Part) (p q : Pair) → m ≡ first_of p q (get_or l k 0) f → p ≡ pair_of l k t.p0 → q ≡ pair_of l k t.p1 → m ≡ first_at l k t f
 unfolding first_at
-first-is c = c.first-m.ensures ∙ rw (c.before.before.load.ensures, c.before.load-2.ensures)
+first-is l k t f m p q e a b = e ∙ rw (a, b)
 
-pub offset_bounds-src-k : goal.offset_bounds-src-k
-offset_bounds-src-k c = search rules
+pub overflow_add-i : goal.overflow_add-i
+overflow_add-i c = omega (arith, c.requires.0.p0.high)
 
-pub bounds-src-k : goal.bounds-src-k
-bounds-src-k c = search rules
+pub offset_bounds-src-i : goal.offset_bounds-src-i
+offset_bounds-src-i c = omega (arith, c.requires.0.p0.high)
+
+pub bounds-src-i : goal.bounds-src-i
+bounds-src-i c = omega (arith, c.requires.0.p0.high)
 
 pub load-requires : goal.load-requires
-load-requires c = search rules
+load-requires c = (reached-all c.requires.0 c.args.j c.requires.1).p0
 
 pub load-requires-2 : goal.load-requires-2
-load-requires-2 c = search rules
+load-requires-2 c = (reached-all c.requires.0 c.args.j c.requires.1).p1
 
 pub first-m-requires : goal.first-m-requires
-first-m-requires c = let s = c.before.before.before.before in
-    (low s.before _ _ c.before.load.ensures, low s.before _ _ c.load-2.ensures, below s.args.src.now s.requires.2 s.args.k, s.requires.3)
+first-m-requires c = (low _ c.requires.2 _ _ _ c.load.ensures, low _ c.requires.2 _ _ _ c.load-2.ensures, below _ c.requires.2 _, c.requires.3)
 
 pub load-q0-requires : goal.load-q0-requires
-load-q0-requires c = search rules
+load-q0-requires c = (reached-all c.requires.0 c.args.j c.requires.1).q0
 
 pub load-q1-requires : goal.load-q1-requires
-load-q1-requires c = search rules
+load-q1-requires c = (reached-all c.requires.0 c.args.j c.requires.1).q1
 
 pub load-r0-requires : goal.load-r0-requires
-load-r0-requires c = search rules
+load-r0-requires c = (reached-all c.requires.0 c.args.j c.requires.1).r0
 
 pub load-r1-requires : goal.load-r1-requires
-load-r1-requires c = search rules
+load-r1-requires c = (reached-all c.requires.0 c.args.j c.requires.1).r1
 
 pub last-requires : goal.last-requires
-last-requires c = let s = c.before.before.before.before.before.before.before.before.before in
-    let a = s.args in
-    (rw (first-is c.before.before.before.before.before) (first-bounded a.src.now s.requires.2 a.k a.t a.f s.requires.3), low s.before _ _ c.before.before.before.load-q0.ensures, low s.before _ _ c.before.before.load-q1.ensures, low s.before _ _ c.before.load-r0.ensures, low s.before _ _ c.load-r1.ensures, below a.src.now s.requires.2 a.k, s.requires.4)
+last-requires c =
+    let l = c.requires.2 in
+    (rw (first-is _ _ c.args.t _ _ _ _ c.first-m.ensures c.load.ensures c.load-2.ensures) (first-bounded _ l _ _ _ c.requires.3), low _ l _ _ _ c.load-q0.ensures, low _ l _ _ _ c.load-q1.ensures, low _ l _ _ _ c.load-r0.ensures, low _ l _ _ _ c.load-r1.ensures, below _ l _, c.requires.4)
 
 pub returns : goal.returns
 unfolding first_at
-returns c = let s = c.before.before.before.before.before.before.before.before.before.before in
-    let a = s.args in
+returns c =
     c.last.ensures
-    ∙ rw (first-is c.before.before.before.before.before.before, c.before.before.before.before.load-q0.ensures, c.before.before.before.load-q1.ensures, c.before.before.load-r0.ensures, c.before.load-r1.ensures) (both-plain a.src.now s.requires.2 a.k a.t a.f a.g)
+    ∙ rw (first-is _ _ c.args.t _ _ _ _ c.first-m.ensures c.load.ensures c.load-2.ensures, c.load-q0.ensures, c.load-q1.ensures, c.load-r0.ensures, c.load-r1.ensures) (both-plain _ c.requires.2 _ c.args.t c.args.f c.args.g)

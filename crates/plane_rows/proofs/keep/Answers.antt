@@ -1,35 +1,7 @@
 -- `plane_rows::keep` meets its contract.
-use mathlib.Core.Path.{◌≡◌, sym, ◌∙◌}
-use native.Mathlib.Omega.{arith}
-use Rattle.plane_rows.specs.StoreLaws.{placed-none, placed-next}
+use Rattle.std.proofs.Common.{arith}
+use Rattle.plane_rows.specs.StoreLaws.{placed-whole}
 use Rattle.plane_rows.proofs.keep.Goals as goal
 
-pub loop-j-init : goal.loop-j-init
-loop-j-init c = (sym (placed-none _ _ _ _), omega arith)
-
-pub offset_bounds-row-j : goal.offset_bounds-row-j
-offset_bounds-row-j c = omega arith
-
-pub bounds-row-j : goal.bounds-row-j
-bounds-row-j c = omega arith
-
-pub overflow_add-all : goal.overflow_add-all
-overflow_add-all c = omega arith
-
-pub offset_bounds-all-to : goal.offset_bounds-all-to
-offset_bounds-all-to c = omega arith
-
-pub bounds-all-to : goal.bounds-all-to
-bounds-all-to c = omega arith
-
-pub overflow_step-j : goal.overflow_step-j
-overflow_step-j c = omega arith
-
-pub loop-j-smaller : goal.loop-j-smaller
-loop-j-smaller c = omega arith
-
-pub loop-j-preserved : goal.loop-j-preserved
-loop-j-preserved c = (placed-next _ _ _ _ _ c.before.loop-j.invariant.0, omega arith)
-
 pub returns : goal.returns
-returns c = let full : c.before.loop-j.j ≡ 8 = omega arith in c.before.loop-j.invariant.0 ∙ rw full
+returns c = placed-whole _ _ _ _ 8 _ (omega arith) (omega arith) (omega arith) c.copy_from_slice.ensures.after

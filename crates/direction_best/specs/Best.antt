@@ -2,7 +2,7 @@
 use Rattle.std.specs.Prelude.{ℕ, zero, suc, ◌+◌, ◌-◌, ◌%◌, List, get_or}
 use Rattle.cdef_spec.specs.Words.{◌>>◌}
 use Rattle.cdef_spec.specs.Standard.{Best, better, best}
-use Rattle.direction_best.specs.declared.Found.{Found}
+use Rattle.cdef_spec.specs.declared.Found.{Found}
 
 -- the best of the first n costs
 unfoldable pub best_to : (ℕ → ℕ) → ℕ → Best

@@ -4,12 +4,7 @@
 ghost use Rattle.std.specs.Prelude.{◌≡◌};
 ghost use Rattle.direction_best.specs.Best.{best_of};
 
-// The direction of a block, 0 to 7, and its variance.
-#[derive(Drop)]
-pub struct Found {
-    pub direction: u8,
-    pub variance: u32,
-}
+use cdef_spec::Found;
 
 // The largest cost, and the lowest direction on a tie; the variance is its excess over the cost of the direction four further, shifted right by 10.
 pub fn best(cost: &[u32; 8]) -> Found

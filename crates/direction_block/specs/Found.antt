@@ -2,7 +2,7 @@
 use Rattle.std.specs.Prelude.{ℕ, ◌≤◌, ◌<◌, List, [], ◌∷◌, get_or}
 use Rattle.cdef_spec.specs.Standard.{cost_straight, cost_diagonal, cost_between}
 use Rattle.direction_lines.specs.declared.Partials.{Partials}
-use Rattle.direction_best.specs.declared.Found.{Found}
+use Rattle.cdef_spec.specs.declared.Found.{Found}
 use Rattle.direction_costs.specs.Costs.{entry}
 use Rattle.direction_best.specs.Best.{best_of}
 

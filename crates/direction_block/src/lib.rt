@@ -1,13 +1,15 @@
 // The direction of an 8 by 8 block and its variance: line sums, costs, the best of them.
 #![tactic(auto)]
 
-ghost use Rattle.std.specs.Prelude.{◌≡◌, true, ◌*◌, ◌≤◌, ◌<◌, length};
+ghost use Rattle.std.specs.Prelude.{◌≡◌, true, ◌≤◌, ◌<◌};
 ghost use Rattle.cdef_spec.specs.Document01.{direction_input, block_direction, block_variance};
+ghost use Rattle.cdef_spec.specs.Lent.{plane_in_full};
 ghost use Rattle.cdef_spec.specs.Questions.{cut_taken};
 ghost use Rattle.direction_block.specs.Found.{cost_list, CostsFit, found_of};
 ghost use Rattle.direction_lines.specs.Lines.{partials_of};
 
-use direction_best::Found;
+use cdef_spec::Found;
+use cdef_spec::full::FullPlane;
 use direction_lines::Partials;
 
 // The line sums of the block at (x, y), from its rows (zb) and from its columns (zt), each with eight zeros on either side.
@@ -15,20 +17,12 @@ use direction_lines::Partials;
 // the entry at first + n + i / 2 * two + i % 2 * one: with steps 23 and 46 that is sample j = n - i, with 24 and 48 j = n,
 // with 25 and 50 j = first - 8 + n + i, with 24 and 47 j = n - i / 2, with 24 and 49 j = first - 8 + n + i / 2. So line n has, by row r and column c of the block:
 // d0 n = r + c, d1 n = r + c / 2, d2 n = r, d3 n = 3 + r - c / 2, d4 n = 7 + r - c, d5 n = 3 + c - r / 2, d6 n = c, d7 n = c + r / 2 (7.15.2).
-pub fn cdef_direction_partials(
-    plane: &[u16],
-    width: usize,
-    height: usize,
-    x: usize,
-    y: usize,
-    depth: u8,
-) -> Partials
-    requires plane_len { length plane.now ≡ width * height }
-    requires width_bound { (width ≤ 4096) × (height ≤ 4096) × (x < width) × (y < height) × (8 ≤ depth) × (depth ≤ 12) }
-    requires x_value { cut_taken (record { samples = plane.now; width = width; height = height }) depth y x ≡ true }
-    ensures { result ≡ partials_of (direction_input (record { samples = plane.now; width = width; height = height }) depth y x) }
+pub fn cdef_direction_partials(plane: &FullPlane<'_>, x: usize, y: usize, depth: u8) -> Partials
+    requires corner_on_plane { (x < plane.now.width) × (y < plane.now.height) × (8 ≤ depth) × (depth ≤ 12) }
+    requires samples_fit { cut_taken (plane_in_full plane.now) depth y x ≡ true }
+    ensures { result ≡ partials_of (direction_input (plane_in_full plane.now) depth y x) }
 {
-    let b = direction_levels::levels(plane, width, height, x, y, depth);
+    let b = direction_levels::levels(plane, x, y, depth);
     let t = direction_lines::turned(&b);
     let zb = direction_lines::padded(&b);
     let zt = direction_lines::padded(&t);
@@ -78,19 +72,11 @@ pub fn cdef_direction_cost(p: Partials) -> Found
 }
 
 // The direction and the variance of the block at (x, y); beyond the plane's right or bottom edge, the nearest sample is used.
-pub fn cdef_direction(
-    plane: &[u16],
-    width: usize,
-    height: usize,
-    x: usize,
-    y: usize,
-    depth: u8,
-) -> Found
-    requires plane_len { length plane.now ≡ width * height }
-    requires width_bound { (width ≤ 4096) × (height ≤ 4096) × (x < width) × (y < height) × (8 ≤ depth) × (depth ≤ 12) }
-    requires x_value { cut_taken (record { samples = plane.now; width = width; height = height }) depth y x ≡ true }
-    ensures direction_value { result.direction ≡ block_direction (record { samples = plane.now; width = width; height = height }) depth y x }
-    ensures variance_value { result.variance ≡ block_variance (record { samples = plane.now; width = width; height = height }) depth y x }
+pub fn cdef_direction(plane: &FullPlane<'_>, x: usize, y: usize, depth: u8) -> Found
+    requires corner_on_plane { (x < plane.now.width) × (y < plane.now.height) × (8 ≤ depth) × (depth ≤ 12) }
+    requires samples_fit { cut_taken (plane_in_full plane.now) depth y x ≡ true }
+    ensures direction_value { result.direction ≡ block_direction (plane_in_full plane.now) depth y x }
+    ensures variance_value { result.variance ≡ block_variance (plane_in_full plane.now) depth y x }
 {
-    cdef_direction_cost(cdef_direction_partials(plane, width, height, x, y, depth))
+    cdef_direction_cost(cdef_direction_partials(plane, x, y, depth))
 }

@@ -1,18 +1,15 @@
 -- The values of the direction process (samples shifted to 8 bits, less 128) of eight blocks side by side, in the orders that the code gives them. Definitions only.
-use Rattle.std.specs.Prelude.{◌≡◌, List, ℕ, ◌+◌, ◌*◌, ◌/◌, ◌%◌, ◌^◌, ◌≤◌, ◌<◌, ℤ, pos, get_or, length}
+use Rattle.std.specs.Prelude.{List, ℕ, ◌+◌, ◌*◌, ◌/◌, ◌%◌, ◌^◌, ◌≤◌, ◌<◌, ℤ, pos, get_or}
 use Rattle.cdef_spec.specs.Document01.{Plane, direction_input}
 use Rattle.arith_sample.specs.Upto.{upto}
 
--- eight whole blocks side by side, the first at row y and column x; sides up to 4096, depth 8 to 12, every sample of the plane below 2 ^ depth
-pub record EightIn (s : List ℕ) (w h depth y x : ℕ) : Type 0 where
-  pub size : length s ≡ w * h
-  pub w-high : w ≤ 4096
-  pub h-high : h ≤ 4096
-  pub x-in : x + 64 ≤ w
-  pub y-in : y + 8 ≤ h
+-- eight whole blocks of a plane side by side, the first at row y and column x; depth 8 to 12, every sample of the plane below 2 ^ depth
+pub record EightIn (p : Plane) (depth y x : ℕ) : Type 0 where
+  pub x-in : x + 64 ≤ p.width
+  pub y-in : y + 8 ≤ p.height
   pub depth_low : 8 ≤ depth
   pub depth-high : depth ≤ 12
-  pub low : (k : ℕ) → get_or s k 0 < 2 ^ depth
+  pub low : (k : ℕ) → get_or p.samples k 0 < 2 ^ depth
 
 -- row by row: entry k is of row k / 64 and column k % 64
 unfoldable pub rows_of : Plane → ℕ → ℕ → ℕ → List ℤ

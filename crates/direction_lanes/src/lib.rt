@@ -3,27 +3,22 @@
 
 ghost use Rattle.std.specs.Prelude.{◌≡◌, ◌+◌, ◌*◌, ◌≤◌, length};
 ghost use Rattle.arith_sample.specs.Bounds.{Within};
+ghost use Rattle.cdef_spec.specs.Lent.{plane_in_full};
 ghost use Rattle.direction_lanes.specs.Lanes.{EightIn, rows_of, interleaved_of, lanes_of};
 
+use cdef_spec::full::FullPlane;
+
 // The rows of the eight blocks at (x, y): 64 samples each, shifted, less 128.
-fn rows(
-    a: &mut [i16; 512],
-    plane: &[u16],
-    width: usize,
-    height: usize,
-    x: usize,
-    y: usize,
-    depth: u8,
-)
-    requires { (length a.old ≡ 512) × EightIn plane.now width height depth y x }
-    ensures { a.new ≡ rows_of (record { samples = plane.now; width = width; height = height }) depth y x }
+fn rows(a: &mut [i16; 512], plane: &FullPlane<'_>, x: usize, y: usize, depth: u8)
+    requires { (length a.old ≡ 512) × EightIn (plane_in_full plane.now) depth y x }
+    ensures { a.new ≡ rows_of (plane_in_full plane.now) depth y x }
 {
     let shift = (depth - 8) as u32;
     for i in 0..8usize {
-        let at = (y + i) * width + x;
+        let at = (y + i) * plane.width + x;
         let to = i * 64;
         for k in 0..64usize {
-            a[to + k] = direction_levels::level(plane[at + k], shift);
+            a[to + k] = direction_levels::level(plane.samples[at + k], shift);
         }
     }
 }
@@ -50,18 +45,16 @@ fn interleaved(out: &mut [i16; 512], a: &[i16; 512], row: usize, on: usize, half
 pub fn lanes(
     s: &mut [i16; 512],
     a: &mut [i16; 512],
-    plane: &[u16],
-    width: usize,
-    height: usize,
+    plane: &FullPlane<'_>,
     x: usize,
     y: usize,
     depth: u8,
 )
-    requires { (length s.old ≡ 512) × (length a.old ≡ 512) × EightIn plane.now width height depth y x }
+    requires { (length s.old ≡ 512) × (length a.old ≡ 512) × EightIn (plane_in_full plane.now) depth y x }
     ensures a_len { length a.new ≡ 512 }
-    ensures s_after { s.new ≡ lanes_of (record { samples = plane.now; width = width; height = height }) depth y x }
+    ensures s_after { s.new ≡ lanes_of (plane_in_full plane.now) depth y x }
 {
-    rows(a, plane, width, height, x, y, depth);
+    rows(a, plane, x, y, depth);
     interleaved(s, a, 8, 64, 32);
     interleaved(a, s, 64, 8, 256);
     interleaved(s, a, 64, 8, 256);

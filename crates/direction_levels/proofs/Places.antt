@@ -7,19 +7,24 @@ use native.Mathlib.Nat.{mul_comm, mul-le-mul}
 use native.Mathlib.Omega.{arith}
 use lib.Arith.{digits_lt}
 use lib.IntN.{ℤ, pos, ◌-ℤ◌}
-use lib.ListN.{get_or}
+use lib.ListN.{length, get_or}
 use mir.Syntax.{w16}
 use mir.Val.{to_z, of_z}
+use Rattle.cdef_spec.specs.declared.full.FullPlane.{FullPlane}
 use Rattle.cdef_spec.specs.Document01.{Plane, edge_sample, direction_input}
 use Rattle.cdef_spec.specs.Questions.{cut_taken}
 use Rattle.arith_sample.proofs.Sums16.{back}
 use Rattle.direction_levels.specs.LevelLaws.{less-128, shifted-low}
 
-pub place-low : (w h r c : ℕ) → r < h → c < w → r * w + c < w * h
+place-low : (w h r c : ℕ) → r < h → c < w → r * w + c < w * h
 place-low w h r c hr hc = rw (mul_comm w h) (digits_lt {q = r} {m = h} {r = c} {c = w} hr hc)
 
-pub plane-low : (w h : ℕ) → w ≤ 4096 → h ≤ 4096 → w * h ≤ 4096 * 4096
+plane-low : (w h : ℕ) → w ≤ 4096 → h ≤ 4096 → w * h ≤ 4096 * 4096
 plane-low w h a b = mul-le-mul a b
+
+-- a row and a column of a plane have a place among its samples, of which there are at most 4,096 * 4,096
+pub place-in : (p : FullPlane) (r c : ℕ) → r < p.height → c < p.width → (r * p.width + c < length p.samples.now) × (length p.samples.now ≤ 4096 * 4096)
+place-in p r c hr hc = (omega (arith, place-low p.width p.height r c hr hc, p.full), omega (arith, plane-low p.width p.height p.sides.0 p.sides.1, p.full))
 
 abbrev sized : List ℕ → ℕ → ℕ → Plane
 sized s w h = record { samples = s; width = w; height = h }

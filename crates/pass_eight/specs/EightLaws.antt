@@ -15,9 +15,6 @@ use Rattle.direction_eight.specs.Best.{found_by_samples}
 use Rattle.pass_one.specs.Pass.{direction_at, variance_at, Filled}
 use Rattle.pass_one.specs.PassLaws.{at_block}
 
-abbrev sized : List ℕ → ℕ → ℕ → Plane
-sized s w h = record { samples = s; width = w; height = h }
-
 module _ (p : Plane) (depth y x l : ℕ) (hl : l < 8) where
   lane-input : (i j : ℕ) → i < 8 → j < 8 → lane_of (lanes_of p depth y x) l i j ≡ direction_input p depth y (x + l * 8) i j
   unfolding lane_of lanes_of
@@ -53,12 +50,12 @@ module _ (p : Plane) (depth cols by bx l : ℕ) (hl : l < 8) (hb : bx + l < cols
   found-variance = rw (ef, ez) (get_or-upto _ 8 l 0 hl ∙ lane-variance p depth (by * 8) (bx * 8) l hl ∙ lane_place (block_variance p depth))
 
 -- by eight blocks
-module _ (s : List ℕ) (w h depth by bx : ℕ) (dirs vars : List ℕ) (t : Filled s w h depth (by * (w / 8) + bx) dirs vars) where
-  pub filled-eight : (z : List ℤ) (f : Found8) (ds vs : List ℕ) → bx + 8 ≤ w / 8 → by * (w / 8) + bx + 8 ≤ length dirs
-      → by * (w / 8) + bx + 8 ≤ length vars → z ≡ lanes_of (sized s w h) depth (by * 8) (bx * 8) → f ≡ found_by_samples z
-      → ds ≡ written dirs (by * (w / 8) + bx) f.directions 8 → vs ≡ written vars (by * (w / 8) + bx) f.variances 8
-      → Filled s w h depth (by * (w / 8) + (bx + 8)) ds vs
+module _ (p : Plane) (depth by bx : ℕ) (dirs vars : List ℕ) (t : Filled p depth (by * (p.width / 8) + bx) dirs vars) where
+  pub filled-eight : (z : List ℤ) (f : Found8) (ds vs : List ℕ) → bx + 8 ≤ p.width / 8 → by * (p.width / 8) + bx + 8 ≤ length dirs
+      → by * (p.width / 8) + bx + 8 ≤ length vars → z ≡ lanes_of p depth (by * 8) (bx * 8) → f ≡ found_by_samples z
+      → ds ≡ written dirs (by * (p.width / 8) + bx) f.directions 8 → vs ≡ written vars (by * (p.width / 8) + bx) f.variances 8
+      → Filled p depth (by * (p.width / 8) + (bx + 8)) ds vs
   filled-eight z f ds vs hb hd hv ez ef ed ev = record {
-    dirs-are = rw ed (upto-at _ _ _ _ (omega arith) (written-upto dirs _ f.directions _ t.dirs-are 8 hd (λ l hl. found-direction (sized s w h) depth (w / 8) by bx l hl (omega arith) z f ez ef)));
-    vars-are = rw ev (upto-at _ _ _ _ (omega arith) (written-upto vars _ f.variances _ t.vars-are 8 hv (λ l hl. found-variance (sized s w h) depth (w / 8) by bx l hl (omega arith) z f ez ef)));
+    dirs-are = rw ed (upto-at _ _ _ _ (omega arith) (written-upto dirs _ f.directions _ t.dirs-are 8 hd (λ l hl. found-direction p depth (p.width / 8) by bx l hl (omega arith) z f ez ef)));
+    vars-are = rw ev (upto-at _ _ _ _ (omega arith) (written-upto vars _ f.variances _ t.vars-are 8 hv (λ l hl. found-variance p depth (p.width / 8) by bx l hl (omega arith) z f ez ef)));
   }

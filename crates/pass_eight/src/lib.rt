@@ -2,32 +2,33 @@
 #![tactic(auto)]
 
 ghost use Rattle.std.specs.Prelude.{◌≡◌, ◌+◌, ◌*◌, ◌/◌, ◌≤◌, ◌<◌, length};
+ghost use Rattle.cdef_spec.specs.Lent.{plane_in_full};
 ghost use Rattle.pass_one.specs.Pass.{PassIn, Filled};
+
+use cdef_spec::full::FullPlane;
 
 // The block in row by and column bx of the blocks and the seven to its right, as lanes. `a` and `s` are overwritten.
 pub fn eight_blocks(
     dirs: &mut [u8],
     vars: &mut [u32],
-    plane: &[u16],
-    width: usize,
-    height: usize,
+    plane: &FullPlane<'_>,
     bx: usize,
     by: usize,
     depth: u8,
     a: &mut [i16; 512],
     s: &mut [i16; 512],
 )
-    requires pass_in { PassIn plane.now width height depth dirs.old vars.old × (bx + 8 ≤ width / 8) × (by < height / 8) }
-    requires filled { Filled plane.now width height depth (by * (width / 8) + bx) dirs.old vars.old }
+    requires pass_in { PassIn (plane_in_full plane.now) depth dirs.old vars.old × (bx + 8 ≤ plane.now.width / 8) × (by < plane.now.height / 8) }
+    requires filled { Filled (plane_in_full plane.now) depth (by * (plane.now.width / 8) + bx) dirs.old vars.old }
     requires a_len { (length a.old ≡ 512) × (length s.old ≡ 512) }
-    ensures filled_2 { Filled plane.now width height depth (by * (width / 8) + (bx + 8)) dirs.new vars.new }
+    ensures filled_2 { Filled (plane_in_full plane.now) depth (by * (plane.now.width / 8) + (bx + 8)) dirs.new vars.new }
     ensures a_len_2 { (length a.new ≡ 512) × (length s.new ≡ 512) }
 {
-    direction_lanes::lanes(s, a, plane, width, height, bx * 8, by * 8, depth);
+    direction_lanes::lanes(s, a, plane, bx * 8, by * 8, depth);
     let f = direction_eight::eight(s);
     let directions = f.directions;
     let variances = f.variances;
-    let at = by * (width / 8) + bx;
+    let at = by * (plane.width / 8) + bx;
     for l in 0..8usize {
         dirs[at + l] = directions[l];
         vars[at + l] = variances[l];

@@ -9,18 +9,15 @@ direction_at p depth cols b = block_direction p depth (b / cols * 8) (b % cols *
 abbrev pub variance_at : Plane → ℕ → ℕ → ℕ → ℕ
 variance_at p depth cols b = block_variance p depth (b / cols * 8) (b % cols * 8)
 
--- sides up to 4096, depth 8 to 12, every sample below 2 ^ depth, one entry per block in each list
-pub record PassIn (s : List ℕ) (w h depth : ℕ) (dirs vars : List ℕ) : Type 0 where
-  pub size : length s ≡ w * h
-  pub dirs-size : length dirs ≡ h / 8 * (w / 8)
-  pub vars-size : length vars ≡ h / 8 * (w / 8)
-  pub w-high : w ≤ 4096
-  pub h-high : h ≤ 4096
+-- depth 8 to 12, every sample below 2 ^ depth, one entry per block in each list
+pub record PassIn (p : Plane) (depth : ℕ) (dirs vars : List ℕ) : Type 0 where
+  pub dirs-size : length dirs ≡ p.height / 8 * (p.width / 8)
+  pub vars-size : length vars ≡ p.height / 8 * (p.width / 8)
   pub depth_low : 8 ≤ depth
   pub depth-high : depth ≤ 12
-  pub low : (k : ℕ) → get_or s k 0 < 2 ^ depth
+  pub low : (k : ℕ) → get_or p.samples k 0 < 2 ^ depth
 
 -- the first n entries of the lists are those of the first n blocks
-pub record Filled (s : List ℕ) (w h depth n : ℕ) (dirs vars : List ℕ) : Type 0 where
-  pub dirs-are : take n dirs ≡ upto (direction_at (record { samples = s; width = w; height = h }) depth (w / 8)) n
-  pub vars-are : take n vars ≡ upto (variance_at (record { samples = s; width = w; height = h }) depth (w / 8)) n
+pub record Filled (p : Plane) (depth n : ℕ) (dirs vars : List ℕ) : Type 0 where
+  pub dirs-are : take n dirs ≡ upto (direction_at p depth (p.width / 8)) n
+  pub vars-are : take n vars ≡ upto (variance_at p depth (p.width / 8)) n

@@ -4,6 +4,7 @@ ghost use Rattle.cdef_spec.specs.Answers.{read_direction};
 ghost use Rattle.cdef_spec.specs.BlockCalls.{direction_outcome};
 
 use cdef_spec::DirectionAnswer;
+use cdef_spec::full::FullPlane;
 
 // The direction and the variance of the 8 by 8 block at (x, y). Only the block, cropped to the plane, is examined.
 pub fn direction(
@@ -20,6 +21,11 @@ pub fn direction(
     if no != 0 {
         return DirectionAnswer::NoDirection(no);
     }
-    let f = direction_block::cdef_direction(plane, width, height, x, y, depth);
+    let plane = FullPlane {
+        samples: plane,
+        width,
+        height,
+    };
+    let f = direction_block::cdef_direction(&plane, x, y, depth);
     DirectionAnswer::Direction(f.direction, f.variance)
 }

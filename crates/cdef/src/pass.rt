@@ -4,6 +4,7 @@ ghost use Rattle.cdef_spec.specs.Answers.{read_answer};
 ghost use Rattle.cdef_spec.specs.FrameCalls.{direction_pass_outcome};
 
 use cdef_spec::Answer;
+use cdef_spec::full::FullPlane;
 
 // The direction and the variance of each 8 by 8 block of a luma plane.
 pub fn direction_pass(
@@ -21,6 +22,15 @@ pub fn direction_pass(
     if no != 0 {
         return Answer::Refused(no);
     }
-    pass_plane::direction_pass(dirs, vars, plane, width, height, depth);
+    pass_plane::direction_pass(
+        dirs,
+        vars,
+        &FullPlane {
+            samples: plane,
+            width,
+            height,
+        },
+        depth,
+    );
     Answer::Done
 }

@@ -11,11 +11,7 @@ use cdef_spec::{DampingChoice, SignalledDamping, WorkingDamping};
 pub fn cdef_damping(index: u32) -> SignalledDamping
     ensures { result ≡ quality_damping index }
 {
-    let mut step = index / 64;
-    if 3 < step {
-        step = 3;
-    }
-    SignalledDamping(3 + step as u8)
+    SignalledDamping(3 + (index / 64).min(3) as u8)
 }
 
 // The figure in force: the signalled damping given, or 3 where none is stated.

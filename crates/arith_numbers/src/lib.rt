@@ -18,9 +18,8 @@ pub fn squared_difference(a: u16, b: u16) -> u32
     requires { (a < 4096) × (b < 4096) }
     ensures { result ≡ squared_difference a b }
 {
-    let d = if a < b { b - a } else { a - b };
-    let w = (d % 4096) as u32;
-    w * w
+    let d = (a.abs_diff(b) % 4096) as u32;
+    d * d
 }
 
 // a - b.

@@ -3,6 +3,7 @@ use Rattle.std.specs.Prelude.{◌≡◌, refl, Bool, true, false, cond, ℕ, zer
 use Rattle.std.proofs.Common.{sym, ap, ◌∙◌, arith, lt-ltb, le-ltb, ltb-true, ltb-false}
 use Rattle.std.proofs.Math.Decide.{dec_lt}
 use Rattle.std.specs.Int.Signed.{lt_z}
+use Rattle.cdef_spec.specs.SignedLaws.{size-neg}
 use Rattle.arith_sample.specs.Sample.{size_of, con_of, under_of, held_of}
 use Rattle.arith_sample.specs.SampleLaws.{con-below, con-above}
 
@@ -64,3 +65,11 @@ size-under z l h k = go (lt_z (pos l) z)
     go : (t : Bool) → nat_abs (cond t (pos l) z) ≤ 32767
     go true = k
     go false = h
+
+pub size-held : (z : ℤ) (l : ℕ) → nat_abs z ≤ 32767 → l ≤ 32767 → nat_abs (held_of z l) ≤ 32767
+unfolding held_of
+size-held z l h k = go (lt_z (under_of z l) (neg_ℤ (pos l)))
+  where
+    go : (t : Bool) → nat_abs (cond t (neg_ℤ (pos l)) (under_of z l)) ≤ 32767
+    go true = omega (arith, size-neg (pos l))
+    go false = size-under z l h k

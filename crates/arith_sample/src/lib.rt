@@ -14,14 +14,14 @@ pub fn least(a: u16, b: u16) -> u16
     requires { (a ≤ 32767) × (b ≤ 32767) }
     ensures { result ≡ min a b }
 {
-    if (a as i16) < (b as i16) { a } else { b }
+    a.min(b)
 }
 
 pub fn most(a: u16, b: u16) -> u16
     requires { (a ≤ 32767) × (b ≤ 32767) }
     ensures { result ≡ max a b }
 {
-    if (a as i16) < (b as i16) { b } else { a }
+    a.max(b)
 }
 
 // The difference of two samples, and its magnitude.
@@ -36,27 +36,23 @@ fn magnitude(d: i16) -> u16
     requires { nat_abs d ≤ 32767 }
     ensures { result ≡ nat_abs d }
 {
-    if d < 0 {
-        return (0 - d) as u16;
-    }
-    d as u16
+    d.unsigned_abs()
 }
 
-// A number held to -l..l.
+// A number held to -l..l. `clamp` would test both bounds: that they don't cross is known here, not to it.
 fn held(d: i16, l: u16) -> i16
     requires { (nat_abs d ≤ 32767) × (l ≤ 32767) }
     ensures { result ≡ held_of d l }
 {
-    let v = at_most(d, l);
-    let low = 0 - (l as i16);
-    if v < low { low } else { v }
+    let low = -(l as i16);
+    low.max(d.min(l as i16))
 }
 
 // s - t, or 0 where t is the greater.
 pub fn less(s: u16, t: u16) -> u16
     ensures { result ≡ s - t }
 {
-    if s < t { 0 } else { s - t }
+    s.saturating_sub(t)
 }
 
 // A tap's constrained difference from the centre: the difference held to what its size leaves of the strength.
@@ -98,7 +94,7 @@ pub fn at_least(v: i16, lo: u16) -> i16
     requires { (nat_abs v ≤ 32767) × (lo ≤ 32767) }
     ensures { result ≡ over_of v lo }
 {
-    if v < (lo as i16) { lo as i16 } else { v }
+    (lo as i16).max(v)
 }
 
 // At most hi.
@@ -106,7 +102,7 @@ pub fn at_most(v: i16, hi: u16) -> i16
     requires { (nat_abs v ≤ 32767) × (hi ≤ 32767) }
     ensures { result ≡ under_of v hi }
 {
-    if (hi as i16) < v { hi as i16 } else { v }
+    v.min(hi as i16)
 }
 
 // The centre plus the rounded sum, clipped.

@@ -14,7 +14,7 @@ pub fn log2_floor(v: u32) -> u32
     if v == 0 {
         return 0;
     }
-    31 - u32::leading_zeros(v)
+    v.ilog2()
 }
 
 // The magnitude of a constrained difference of magnitude a.
@@ -25,20 +25,8 @@ pub fn constrain_mag(a: u32, strength: u32, damping: u32) -> u32
     if strength == 0 {
         return 0;
     }
-    let l = log2_floor(strength);
-    let mut shift = 0;
-    if l < damping {
-        shift = damping - l;
-    }
-    let shifted = a >> shift;
-    if strength <= shifted {
-        return 0;
-    }
-    let left = strength - shifted;
-    if a < left {
-        return a;
-    }
-    left
+    let shift = damping.saturating_sub(log2_floor(strength));
+    a.min(strength.saturating_sub(a >> shift))
 }
 
 // The constrained difference: its magnitude, with the difference's sign.
@@ -46,13 +34,11 @@ pub fn constrain_spec(diff: i32, strength: u32, damping: WorkingDamping) -> i32
     requires { (nat_abs diff ≤ 65535) × (damping.0 ≤ 31) }
     ensures { result ≡ constrain diff strength damping.0 }
 {
-    let d = damping.0 as u32;
+    let m = constrain_mag(diff.unsigned_abs(), strength, damping.0 as u32) as i32;
     if diff < 0 {
-        let m = constrain_mag((0 - diff) as u32, strength, d);
-        0 - (m as i32)
-    } else {
-        constrain_mag(diff as u32, strength, d) as i32
+        return -m;
     }
+    m
 }
 
 // The primary strength of a luma block, adjusted by its variance.
@@ -63,9 +49,6 @@ pub fn adjust_pri(pri: u32, var: u32) -> u32
     if var == 0 {
         return 0;
     }
-    let mut l = log2_floor(var >> 6);
-    if 12 < l {
-        l = 12;
-    }
+    let l = log2_floor(var >> 6).min(12);
     (pri * (4 + l) + 8) >> 4
 }

@@ -10,9 +10,7 @@ ghost use Rattle.arith_totals.specs.Turns.{plain_of, Low};
 pub fn clear_totals(totals: &mut [i64])
     ensures { totals.new ≡ replicate (length totals.old) (pos 0) }
 {
-    for k in 0..totals.len() {
-        totals[k] = 0;
-    }
+    totals.fill(0);
 }
 
 // Adds a distance to the total of unit u.
@@ -20,7 +18,7 @@ pub fn add_at(totals: &mut [i64], u: usize, n: u64)
     requires { (u < length totals.old) × (n < 2 ^ 53) × ((t : List ℕ) × (totals.old ≡ signed t) × Small t) }
     ensures { (t : List ℕ) → totals.old ≡ signed t → totals.new ≡ signed (add_at t u n) }
 {
-    totals[u] = totals[u] + n as i64;
+    totals[u] += n as i64;
 }
 
 // Adds twelve distances to twelve totals, from `base` on.
@@ -28,7 +26,7 @@ pub fn add_twelve(totals: &mut [i64], base: usize, distances: [u64; 12])
     requires { (base + 12 ≤ length totals.old) × Low totals.old × ((t : ℕ) → t < 12 → get_or distances t 0 < 2 ^ 53) }
     ensures { totals.new ≡ signed (add_turns (plain_of totals.old) base (λ t. get_or distances t 0) 12) }
 {
-    for t in 0..12usize {
-        totals[base + t] = totals[base + t] + distances[t] as i64;
+    for (t, distance) in distances.iter().enumerate() {
+        totals[base + t] += *distance as i64;
     }
 }

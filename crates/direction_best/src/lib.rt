@@ -12,10 +12,9 @@ pub fn best(cost: &[u32; 8]) -> Found
 {
     let mut direction = 0usize;
     let mut most = 0u32;
-    for d in 0..8usize {
-        let c = cost[d];
-        if most < c {
-            most = c;
+    for (d, c) in cost.iter().enumerate() {
+        if most < *c {
+            most = *c;
             direction = d;
         }
     }

@@ -5,6 +5,8 @@ ghost use Rattle.std.specs.Prelude.{◌≡◌, ◌+◌, ◌*◌, ◌≤◌, ◌<
 ghost use Rattle.arith_sample.specs.Bounds.{Within};
 ghost use Rattle.direction_lines.specs.Lines.{turned_of, pad_at, padded_of, pair_at, line_at, lines_of};
 
+use std::array;
+
 // The line sums of the eight directions; past a direction's last line they are 0.
 #[derive(Drop)]
 pub struct Partials {
@@ -88,9 +90,5 @@ pub fn lines(z: &[i16; 192], first: usize, one: usize, two: usize) -> [i16; 16]
     requires { (first + 3 * two + one ≤ 176) × Within z.now 128 }
     ensures { result ≡ lines_of z.now first one two }
 {
-    let mut l = [0i16; 16];
-    for n in 0..16usize {
-        l[n] = line(z, first + n, one, two);
-    }
-    l
+    array::from_fn(|n| line(z, first + n, one, two))
 }

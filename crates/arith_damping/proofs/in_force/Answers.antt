@@ -3,12 +3,6 @@ use Rattle.cdef_spec.specs.Document01.{in_force}
 use borrow.Author.Rules.{rules}
 use Rattle.arith_damping.proofs.in_force.Goals as goal
 
-pub enum_known-choice : goal.enum_known-choice
-enum_known-choice c = search rules
-
-pub enum_told-1 : goal.enum_told-1
-enum_told-1 c = search rules
-
 pub returns-in-Given : goal.returns-in-Given
 returns-in-Given c = unfold in_force in search rules
 

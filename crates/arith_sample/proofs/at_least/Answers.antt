@@ -1,20 +1,12 @@
 -- `arith_sample::at_least` meets its contract.
-use mathlib.Core.Path.{sym, ◌∙◌}
-use Rattle.arith_sample.specs.SampleLaws.{over-lo, over-in}
-use Rattle.arith_sample.proofs.Sums16.{back, back-nat}
-use borrow.Author.Rules.{rules}
+use mathlib.Core.Path.{◌≡◌, ◌∙◌}
+use Rattle.arith_sample.specs.Sample.{over_of}
+use Rattle.arith_sample.proofs.Sums16.{back, back-nat, size-over}
 use Rattle.arith_sample.proofs.at_least.Goals as goal
 
-pub overflow_cast-lo : goal.overflow_cast-lo
-overflow_cast-lo c = search rules
-
-pub overflow_cast-result : goal.overflow_cast-result
-overflow_cast-result c = search rules
-
-pub returns-then-v-lo : goal.returns-then-v-lo
-returns-then-v-lo c = let s = c.before in
-    back-nat s.args.lo s.requires.1 ∙ sym (over-lo s.args.v s.args.lo (rw (back s.args.v s.requires.0, back-nat s.args.lo s.requires.1) at c.if-v-lo.true))
-
-pub returns-else-v-lo : goal.returns-else-v-lo
-returns-else-v-lo c = let s = c.before in
-    back s.args.v s.requires.0 ∙ sym (over-in s.args.v s.args.lo (rw (back s.args.v s.requires.0, back-nat s.args.lo s.requires.1) at c.if-v-lo.false))
+pub returns : goal.returns
+unfolding over_of
+returns c =
+    let a = c.args in
+    let e : c.max.result ≡ over_of a.v a.lo = c.max.ensures.value ∙ rw (back-nat a.lo c.requires.1, back a.v c.requires.0) in
+    rw e (back (over_of a.v a.lo) (size-over a.v a.lo 32767 c.requires.0 c.requires.1))

@@ -1,20 +1,13 @@
 -- `arith_sample::at_most` meets its contract.
-use mathlib.Core.Path.{sym, ◌∙◌}
-use Rattle.arith_sample.specs.SampleLaws.{under-hi, under-in}
+use mathlib.Core.Path.{◌≡◌, ◌∙◌}
+use Rattle.arith_sample.specs.Sample.{under_of}
+use Rattle.arith_sample.specs.HeldLaws.{size-under}
 use Rattle.arith_sample.proofs.Sums16.{back, back-nat}
-use borrow.Author.Rules.{rules}
 use Rattle.arith_sample.proofs.at_most.Goals as goal
 
-pub overflow_cast-hi : goal.overflow_cast-hi
-overflow_cast-hi c = search rules
-
-pub overflow_cast-result : goal.overflow_cast-result
-overflow_cast-result c = search rules
-
-pub returns-then-hi-v : goal.returns-then-hi-v
-returns-then-hi-v c = let s = c.before in
-    back-nat s.args.hi s.requires.1 ∙ sym (under-hi s.args.v s.args.hi (rw (back s.args.v s.requires.0, back-nat s.args.hi s.requires.1) at c.if-hi-v.true))
-
-pub returns-else-hi-v : goal.returns-else-hi-v
-returns-else-hi-v c = let s = c.before in
-    back s.args.v s.requires.0 ∙ sym (under-in s.args.v s.args.hi (rw (back s.args.v s.requires.0, back-nat s.args.hi s.requires.1) at c.if-hi-v.false))
+pub returns : goal.returns
+unfolding under_of
+returns c =
+    let a = c.args in
+    let e : c.min.result ≡ under_of a.v a.hi = c.min.ensures.value ∙ rw (back-nat a.hi c.requires.1, back a.v c.requires.0) in
+    rw e (back (under_of a.v a.hi) (size-under a.v a.hi c.requires.0 c.requires.1))

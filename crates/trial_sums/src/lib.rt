@@ -80,7 +80,7 @@ fn side(q: Pair, r: Pair, c: u16, s: u16, sh: u32) -> i16
 // The secondary sums of the near taps, weighed by 2. Both strengths in one loop: a loop for each is 7 % slower in the whole trial,
 // and one function for the near and the far taps, weighed and added after, 9 %.
 fn near_sums(t: &[u16], at: usize, o: Taps, f: Strength, g: Strength) -> SecSums
-    requires { Around (length t.now) at 16 o × Held t.now × InRange f × InRange g }
+    requires { Around (length t.now) at 16 o × Held t.now × (f.s ≤ 240) × (f.sh ≤ 15) × (g.s ≤ 240) × (g.sh ≤ 15) }
     ensures { NearKnown t.now at o f.s f.sh g.s g.sh result }
 {
     let mut s1 = [0i16; 16];
@@ -98,7 +98,7 @@ fn near_sums(t: &[u16], at: usize, o: Taps, f: Strength, g: Strength) -> SecSums
 
 // The secondary sums of two strengths: the near taps, and the far ones, weighed by 1.
 pub fn sec_sums(t: &[u16], at: usize, o: Taps, f: Strength, g: Strength) -> SecSums
-    requires { Around (length t.now) at 16 o × Held t.now × InRange f × InRange g }
+    requires { Around (length t.now) at 16 o × Held t.now × (f.s ≤ 240) × (f.sh ≤ 15) × (g.s ≤ 240) × (g.sh ≤ 15) }
     ensures { SecKnown t.now at o f.s f.sh g.s g.sh result }
 {
     let near = near_sums(t, at, o, f, g);

@@ -21,10 +21,10 @@ abbrev Upto-After-side-in-loop-j : Type 0
 Upto-After-side-in-loop-j = steps.After-side2 tie.the-claims reads.Pre reads.Post goal.the-invariant-loop-j goal.the-decreases-loop-j
 
 side-s : (c : Upto-After-side) → let p = c.before.before.before.before.before in let a = p.before.before.args in let k = a.at + p.loop-j.j in Is c.side.result (side_of (pair_of a.t.now k a.o.q0) (pair_of a.t.now k a.o.r0) (get_or a.t.now k 0) a.f.s a.f.sh) 960
-side-s c = let p = c.before.before.before.before.before in record { is = c.side.ensures ∙ rw (c.before.before.load-a.ensures, c.before.load-b.ensures); small = size-side _ _ _ _ _ p.before.before.requires.2.s }
+side-s c = let p = c.before.before.before.before.before in record { is = c.side.ensures ∙ rw (c.before.before.load-a.ensures, c.before.load-b.ensures); small = size-side _ _ _ _ _ p.before.before.requires.2 }
 
 side-z : (c : Upto-After-side-in-loop-j) → let p = c.before.before.before.before.before.before.before in let a = p.before.before.args in let k = a.at + p.loop-j.j in Is c.side-in-loop-j.result (side_of (pair_of a.t.now k a.o.q0) (pair_of a.t.now k a.o.r0) (get_or a.t.now k 0) a.g.s a.g.sh) 960
-side-z c = let p = c.before.before.before.before.before.before.before in record { is = c.side-in-loop-j.ensures ∙ rw (c.before.before.before.before.load-a.ensures, c.before.before.before.load-b.ensures); small = size-side _ _ _ _ _ p.before.before.requires.3.s }
+side-z c = let p = c.before.before.before.before.before.before.before in record { is = c.side-in-loop-j.ensures ∙ rw (c.before.before.before.before.load-a.ensures, c.before.before.before.load-b.ensures); small = size-side _ _ _ _ _ p.before.before.requires.4 }
 
 pub loop-j-init : goal.loop-j-init
 loop-j-init c = (sym (upto-none _), sym (upto-none _), refl, refl, omega arith)
@@ -45,7 +45,7 @@ pub load-b-requires : goal.load-b-requires
 load-b-requires c = let s = c.before.before.before.before.before in (reached-all s.requires.0 c.before.before.before.loop-j.j (omega arith)).r0
 
 pub side-requires : goal.side-requires
-side-requires c = let s = c.before.before.before.before.before.before in (held-pair _ _ _ _ s.requires.1 c.before.load-a.ensures, held-pair _ _ _ _ s.requires.1 c.load-b.ensures, s.requires.1.all _, s.requires.2.s, s.requires.2.sh)
+side-requires c = let s = c.before.before.before.before.before.before in (held-pair _ _ _ _ s.requires.1 c.before.load-a.ensures, held-pair _ _ _ _ s.requires.1 c.load-b.ensures, s.requires.1.all _, s.requires.2, s.requires.3)
 
 pub scale-requires : goal.scale-requires
 scale-requires c = scale_ok {t = 2} (side-s c.before) (omega arith) (omega arith) (omega arith) (omega arith)
@@ -57,7 +57,7 @@ pub bounds-s1-j : goal.bounds-s1-j
 bounds-s1-j c = omega arith
 
 pub side-requires-in-loop-j : goal.side-requires-in-loop-j
-side-requires-in-loop-j c = let s = c.before.before.before.before.before.before.before.before in (held-pair _ _ _ _ s.requires.1 c.before.before.before.load-a.ensures, held-pair _ _ _ _ s.requires.1 c.before.before.load-b.ensures, s.requires.1.all _, s.requires.3.s, s.requires.3.sh)
+side-requires-in-loop-j c = let s = c.before.before.before.before.before.before.before.before in (held-pair _ _ _ _ s.requires.1 c.before.before.before.load-a.ensures, held-pair _ _ _ _ s.requires.1 c.before.before.load-b.ensures, s.requires.1.all _, s.requires.4, s.requires.5)
 
 pub scale-requires-in-loop-j : goal.scale-requires-in-loop-j
 scale-requires-in-loop-j c = scale_ok {t = 2} (side-z c.before) (omega arith) (omega arith) (omega arith) (omega arith)

@@ -36,24 +36,24 @@ pub load-b-requires : goal.load-b-requires
 load-b-requires c = (reached-all c.requires.0 c.loop-j.j (omega arith)).r1
 
 pub side-requires : goal.side-requires
-side-requires c = (held-pair _ _ _ _ c.requires.1 c.load-a.ensures, held-pair _ _ _ _ c.requires.1 c.load-b.ensures, c.requires.1.all _, c.requires.2.s, c.requires.2.sh)
+side-requires c = (held-pair _ _ _ _ c.requires.1 c.load-a.ensures, held-pair _ _ _ _ c.requires.1 c.load-b.ensures, c.requires.1.all _, c.requires.2, c.requires.3)
 
 pub add-requires : goal.add-requires
 add-requires c = let a = c.args in let j = c.loop-j.j in
-    add_ok (near a.t.now a.at a.o a.f.s a.f.sh _ j c.near_sums-near.ensures.s1-is (omega arith) c.requires.2.s) (far a.t.now (a.at + j) a.o a.f.s a.f.sh _ _ _ c.side.ensures c.load-a.ensures c.load-b.ensures c.requires.2.s) (omega arith)
+    add_ok (near a.t.now a.at a.o a.f.s a.f.sh _ j c.near_sums-near.ensures.s1-is (omega arith) c.requires.2) (far a.t.now (a.at + j) a.o a.f.s a.f.sh _ _ _ c.side.ensures c.load-a.ensures c.load-b.ensures c.requires.2) (omega arith)
 
 pub side-requires-in-loop-j : goal.side-requires-in-loop-j
-side-requires-in-loop-j c = (held-pair _ _ _ _ c.requires.1 c.load-a.ensures, held-pair _ _ _ _ c.requires.1 c.load-b.ensures, c.requires.1.all _, c.requires.3.s, c.requires.3.sh)
+side-requires-in-loop-j c = (held-pair _ _ _ _ c.requires.1 c.load-a.ensures, held-pair _ _ _ _ c.requires.1 c.load-b.ensures, c.requires.1.all _, c.requires.4, c.requires.5)
 
 pub add-requires-in-loop-j : goal.add-requires-in-loop-j
 add-requires-in-loop-j c = let a = c.args in let j = c.loop-j.j in
-    add_ok (near a.t.now a.at a.o a.g.s a.g.sh _ j c.near_sums-near.ensures.s2-is (omega arith) c.requires.3.s) (far a.t.now (a.at + j) a.o a.g.s a.g.sh _ _ _ c.side-in-loop-j.ensures c.load-a.ensures c.load-b.ensures c.requires.3.s) (omega arith)
+    add_ok (near a.t.now a.at a.o a.g.s a.g.sh _ j c.near_sums-near.ensures.s2-is (omega arith) c.requires.4) (far a.t.now (a.at + j) a.o a.g.s a.g.sh _ _ _ c.side-in-loop-j.ensures c.load-a.ensures c.load-b.ensures c.requires.4) (omega arith)
 
 pub loop-j-preserved : goal.loop-j-preserved
 unfolding sec_raw
 loop-j-preserved c = let a = c.args in let j = c.loop-j.j in let i = c.loop-j.invariant in (
-  upto-more _ _ _ _ i.0 (omega (arith, i.2)) (back_is (add_is (near a.t.now a.at a.o a.f.s a.f.sh _ j c.near_sums-near.ensures.s1-is (omega arith) c.requires.2.s) (far a.t.now (a.at + j) a.o a.f.s a.f.sh _ _ _ c.side.ensures c.load-a.ensures c.load-b.ensures c.requires.2.s) (omega arith) c.add.ensures) (omega arith)),
-  upto-more _ _ _ _ i.1 (omega (arith, i.3)) (back_is (add_is (near a.t.now a.at a.o a.g.s a.g.sh _ j c.near_sums-near.ensures.s2-is (omega arith) c.requires.3.s) (far a.t.now (a.at + j) a.o a.g.s a.g.sh _ _ _ c.side-in-loop-j.ensures c.load-a.ensures c.load-b.ensures c.requires.3.s) (omega arith) c.add-in-loop-j.ensures) (omega arith)),
+  upto-more _ _ _ _ i.0 (omega (arith, i.2)) (back_is (add_is (near a.t.now a.at a.o a.f.s a.f.sh _ j c.near_sums-near.ensures.s1-is (omega arith) c.requires.2) (far a.t.now (a.at + j) a.o a.f.s a.f.sh _ _ _ c.side.ensures c.load-a.ensures c.load-b.ensures c.requires.2) (omega arith) c.add.ensures) (omega arith)),
+  upto-more _ _ _ _ i.1 (omega (arith, i.3)) (back_is (add_is (near a.t.now a.at a.o a.g.s a.g.sh _ j c.near_sums-near.ensures.s2-is (omega arith) c.requires.4) (far a.t.now (a.at + j) a.o a.g.s a.g.sh _ _ _ c.side-in-loop-j.ensures c.load-a.ensures c.load-b.ensures c.requires.4) (omega arith) c.add-in-loop-j.ensures) (omega arith)),
   simp length-set i.2,
   simp length-set i.3,
   omega arith,

@@ -36,8 +36,8 @@ pub fn cut_taken(plane: &[u16], width: usize, height: usize, x: usize, y: usize,
     requires width_bound { (width ≤ 4096) × (height ≤ 4096) × (x < width) × (y < height) × (depth ≤ 12) }
     ensures { result ≡ cut_taken (record { samples = plane.now; width = width; height = height }) depth y x }
 {
-    let cols = arith_numbers::lesser(8, width - x);
-    let rows = arith_numbers::lesser(8, height - y);
+    let cols = 8usize.min(width - x);
+    let rows = 8usize.min(height - y);
     if rows + cols < 16 {
         return block_bits(plane, width, y, x, rows, cols) >> (depth as u32) == 0;
     }

@@ -44,10 +44,10 @@ fn levels_edge(plane: &FullPlane<'_>, x: usize, y: usize, depth: u8) -> [i16; 64
     let shift = (depth - 8) as u32;
     let mut b = [0i16; 64];
     for i in 0..8usize {
-        let row = arith_numbers::lesser(y + i, plane.height - 1) * plane.width;
+        let row = (y + i).min(plane.height - 1) * plane.width;
         let to = i * 8;
         for j in 0..8usize {
-            let at = row + arith_numbers::lesser(x + j, plane.width - 1);
+            let at = row + (x + j).min(plane.width - 1);
             b[to + j] = level(plane.samples[at], shift);
         }
     }

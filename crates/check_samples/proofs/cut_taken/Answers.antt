@@ -22,20 +22,20 @@ bits-say s w h d y x rows cols bits hy hx er ec eb = shifted_none bits d ∙ rw 
 
 pub block_bits-requires : goal.block_bits-requires
 block_bits-requires c = let a = c.args in
-    let f = c.lesser-cols.ensures in
-    let g = c.lesser-rows.ensures in
+    let f = c.min-cols.ensures in
+    let g = c.min-rows.ensures in
     (omega (arith, g), row_in a.width a.height _ a.y a.x _ _ c.requires.plane_len (omega (arith, g)) (omega (arith, f)))
 
 pub returns-then-rows-cols-lt16 : goal.returns-then-rows-cols-lt16
-returns-then-rows-cols-lt16 c = bits-say _ _ _ _ _ _ _ _ _ c.requires.width_bound.3 c.requires.width_bound.2 c.lesser-rows.ensures c.lesser-cols.ensures c.block_bits.ensures
+returns-then-rows-cols-lt16 c = bits-say _ _ _ _ _ _ _ _ _ c.requires.width_bound.3 c.requires.width_bound.2 c.min-rows.ensures c.min-cols.ensures c.block_bits.ensures
 
 pub block_bits-requires-2 : goal.block_bits-requires-2
 block_bits-requires-2 c = let a = c.args in
-    let f = c.lesser-cols.ensures in
-    let g = c.lesser-rows.ensures in
+    let f = c.min-cols.ensures in
+    let g = c.min-rows.ensures in
     (omega (arith, f, g), row_in a.width a.height _ a.y a.x 8 8 c.requires.plane_len (omega (arith, f, g)) (omega (arith, f, g)))
 
 pub returns : goal.returns
-returns c = let f = c.lesser-cols.ensures in
-    let g = c.lesser-rows.ensures in
+returns c = let f = c.min-cols.ensures in
+    let g = c.min-rows.ensures in
     bits-say _ _ _ _ _ _ 8 8 _ c.requires.width_bound.3 c.requires.width_bound.2 (omega (arith, f, g)) (omega (arith, f, g)) c.block_bits-2.ensures

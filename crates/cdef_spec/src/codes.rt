@@ -7,11 +7,19 @@ use crate::Refusal;
 use std::error::Error;
 use std::fmt;
 
+impl From<Refusal> for u8 {
+    ghost from_gives = { λ r n. n ≡ error_code r };
+
+    fn from(refusal: Refusal) -> u8 {
+        refusal as u8
+    }
+}
+
 impl From<Refusal> for u32 {
     ghost from_gives = { λ r n. n ≡ error_code r };
 
     fn from(refusal: Refusal) -> u32 {
-        refusal as u32
+        u32::from(u8::from(refusal))
     }
 }
 

@@ -5,7 +5,7 @@ use Rattle.cdef_spec.specs.contracts.Refusal.{the_type}
 use Rattle.cdef_spec.specs.declared.Refusal.{Refusal}
 use Rattle.cdef_spec.specs.declared.Refusal.TheVariants.{Depth, Sides, Subsampling, PlaneLength, Position, Destination, Lengths, Values, Samples}
 use Rattle.cdef_spec.specs.Answers.{error_code}
-use Rattle.cdef_spec.proofs.codes.U32FromRefusal.from.Goals as goal
+use Rattle.cdef_spec.proofs.codes.U8FromRefusal.from.Goals as goal
 
 placed : (r : Refusal) → tag_of the_type r + 1 ≡ error_code r
 unfolding error_code

@@ -5,9 +5,8 @@ ghost use Rattle.arith_sample.specs.Upto.{upto};
 ghost use Rattle.arith_sample.specs.Bounds.{Held};
 ghost use Rattle.filter_rows.specs.Sums.{Near6, InRange, pri_at, sec_at};
 
-use std::array;
-
 use crate::{Strength, Taps, both};
+use std::array;
 
 // The sample at k, filtered with the primary strength.
 fn pri_at(w: &[u16; 144], k: usize, t: Taps, f: Strength) -> u16

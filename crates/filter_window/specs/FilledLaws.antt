@@ -152,14 +152,14 @@ module _ (s : List ℕ) (w h : ℕ) (b : Block) (q : InPlane s w h b) (r c : Spa
         let l : e ≤ length s = omega (arith, edge-in) in
         let m : length ys ≡ k = rw ey (length-between s a e l ∙ omega arith) in
         let before = filled-skip p b (i * 12) n out f (omega arith) (omega (arith, hr.to, hc.from, q.bh)) (λ v x y. by-place v _ (
-            let t : v / 12 ≡ i = omega (arith, hc.from) in
-            let u : v % 12 ≡ v - i * 12 = omega (arith, hc.from) in
-            rw (t, u) (col-before s w h b i (v - i * 12) (omega (arith, hc.from)) r c hr hc lo hi (omega arith)))) in
+        let t : v / 12 ≡ i = omega (arith, hc.from) in
+        let u : v % 12 ≡ v - i * 12 = omega (arith, hc.from) in
+        rw (t, u) (col-before s w h b i (v - i * 12) (omega (arith, hc.from)) r c hr hc lo hi (omega arith)))) in
         let there = filled_run p b n k out ys before (omega (arith, hr.to, hc.to, hc.from, q.bh, q.bw, q.x-in)) m (λ j g.
-            let z : a + j ≡ (b.y + i - 2) * w + (b.x + (c.lo + j) - 2) = omega (arith, hc.from) in
-            let u : n + j ≡ i * 12 + (c.lo + j) = omega arith in
-            rw ey (get_or-between s a e j 0 (omega arith) ∙ rw (z, u) (sym (looked s w h b i (c.lo + j) (omega (arith, hc.to, q.bw)) r c hr hc lo hi (omega arith) (omega arith))))) in
+        let z : a + j ≡ (b.y + i - 2) * w + (b.x + (c.lo + j) - 2) = omega (arith, hc.from) in
+        let u : n + j ≡ i * 12 + (c.lo + j) = omega arith in
+        rw ey (get_or-between s a e j 0 (omega arith) ∙ rw (z, u) (sym (looked s w h b i (c.lo + j) (omega (arith, hc.to, q.bw)) r c hr hc lo hi (omega arith) (omega arith))))) in
         filled-skip p b (n + k) ((i + 1) * 12) _ there (omega (arith, hc.to, hc.from, q.bw, q.x-in)) (omega (arith, hr.to, q.bh)) (λ v x y. by-place v _ (
-            let t : v / 12 ≡ i = omega (arith, hc.from) in
-            let u : v % 12 ≡ v - i * 12 = omega (arith, hc.from) in
-            rw (t, u) (col-after s w h b i (v - i * 12) (omega arith) r c hr hc lo hi (omega (arith, hc.from, hc.to, q.x-in)) (omega (arith, hc.from, hc.to, q.x-in)))))
+        let t : v / 12 ≡ i = omega (arith, hc.from) in
+        let u : v % 12 ≡ v - i * 12 = omega (arith, hc.from) in
+        rw (t, u) (col-after s w h b i (v - i * 12) (omega arith) r c hr hc lo hi (omega (arith, hc.from, hc.to, q.x-in)) (omega (arith, hc.from, hc.to, q.x-in)))))

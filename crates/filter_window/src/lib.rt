@@ -38,8 +38,9 @@ fn window_part(src: &FullPlane<'_>, b: Block) -> [u16; 144]
     for i in rows.lo..rows.hi {
         let to = i * 12;
         let from = (b.y + i - 2) * src.width + (b.x + cols.lo - 2);
-        out[to + cols.lo..to + cols.hi]
-            .copy_from_slice(&src.samples[from..from + (cols.hi - cols.lo)]);
+        out[to + cols.lo..to + cols.hi].copy_from_slice(
+            &src.samples[from..from + (cols.hi - cols.lo)],
+        );
     }
     out
 }

@@ -44,13 +44,23 @@ fn filter_inside(
     let dir = dir as usize;
     if bw == 8 {
         rows::eight_wide(
-            dst, to, src.samples, w, at, bh, dir, depth, f.s, f.sh, f.w0, g.s, g.sh,
+            dst,
+            to,
+            src.samples,
+            w,
+            at,
+            bh,
+            dir,
+            depth,
+            f.s,
+            f.sh,
+            f.w0,
+            g.s,
+            g.sh,
         );
         return;
     }
-    plane_fours::rows(
-        dst, to, src.samples, w, at, dir, f.s, f.sh, f.w0, g.s, g.sh,
-    );
+    plane_fours::rows(dst, to, src.samples, w, at, dir, f.s, f.sh, f.w0, g.s, g.sh);
     if bh == 4 {
         return;
     }
@@ -78,7 +88,18 @@ pub fn filter_block(dst: &mut [u16], y0: usize, src: &FullPlane<'_>, b: Block, q
 {
     if plane_inside::inside(src.width, src.height, b.x, b.y, b.width, b.height) {
         filter_inside(
-            dst, y0, src, b.x, b.y, b.width, b.height, q.pri, q.sec, q.dir, q.damping.0, q.depth,
+            dst,
+            y0,
+            src,
+            b.x,
+            b.y,
+            b.width,
+            b.height,
+            q.pri,
+            q.sec,
+            q.dir,
+            q.damping.0,
+            q.depth,
         );
         return;
     }

@@ -118,15 +118,17 @@ fn sec_down(
 fn high_four(a0: u8, b0: u8, a1: u8, b1: u8, c: u8) -> u8
     ensures { (result ≡ high_four a0 b0 a1 b1 c) × (result + c ≤ 255) }
 {
-    (plane_byte::less(a0, c).max(plane_byte::less(b0, c)))
-        .max(plane_byte::less(a1, c).max(plane_byte::less(b1, c)))
+    (plane_byte::less(a0, c).max(plane_byte::less(b0, c))).max(plane_byte::less(a1, c).max(
+        plane_byte::less(b1, c),
+    ))
 }
 
 fn low_four(a0: u8, b0: u8, a1: u8, b1: u8, c: u8) -> u8
     ensures { (result ≡ low_four a0 b0 a1 b1 c) × (result ≤ c) }
 {
-    (plane_byte::less(c, a0).max(plane_byte::less(c, b0)))
-        .max(plane_byte::less(c, a1).max(plane_byte::less(c, b1)))
+    (plane_byte::less(c, a0).max(plane_byte::less(c, b0))).max(plane_byte::less(c, a1).max(
+        plane_byte::less(c, b1),
+    ))
 }
 
 // The sample from its sums, clipped.
@@ -165,9 +167,11 @@ pub fn both(
         + sec_up(a2, b2, a3, b3, a4, b4, a5, b5, c, s2, sh2);
     let down = pri_down(a0, b0, a1, b1, c, s, sh, odd)
         + sec_down(a2, b2, a3, b3, a4, b4, a5, b5, c, s2, sh2);
-    let high = high_four(a0, b0, a1, b1, c)
-        .max(high_four(a2, b2, a3, b3, c).max(high_four(a4, b4, a5, b5, c)));
-    let low = low_four(a0, b0, a1, b1, c)
-        .max(low_four(a2, b2, a3, b3, c).max(low_four(a4, b4, a5, b5, c)));
+    let high = high_four(a0, b0, a1, b1, c).max(high_four(a2, b2, a3, b3, c).max(high_four(
+        a4, b4, a5, b5, c,
+    )));
+    let low = low_four(a0, b0, a1, b1, c).max(low_four(a2, b2, a3, b3, c).max(low_four(
+        a4, b4, a5, b5, c,
+    )));
     clipped(c, up, down, high, low)
 }

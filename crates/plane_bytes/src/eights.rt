@@ -9,7 +9,7 @@ ghost use Rattle.plane_bytes.specs.Eights.{AllByte, Strong8, eight_at, centre_ru
 use crate::lanes;
 use filter_rows::Taps;
 
-// Two rows of eight, from k on.
+// Two rows of eight, from k on. By copy_from_slice or array::from_fn a block took longer.
 fn gather(src: &[u16], w: usize, k: usize) -> [u16; 16]
     requires { (k + (w + 8) ≤ length src.now) × (w ≤ 4096) }
     ensures { result ≡ centre_run8 src.now w k }

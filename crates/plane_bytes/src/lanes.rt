@@ -3,9 +3,8 @@ ghost use Rattle.std.specs.Prelude.{◌≡◌, ◌<◌, ◌≤◌, slice_index};
 ghost use Rattle.arith_sample.specs.Upto.{upto};
 ghost use Rattle.plane_bytes.specs.Byte.{Mask, both_of};
 
-use std::array;
-
 use crate::byte;
+use std::array;
 
 // The samples filtered with both strengths.
 pub fn both(

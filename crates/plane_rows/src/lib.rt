@@ -11,12 +11,11 @@ ghost use Rattle.plane_taps.specs.Steps.{taps_in};
 ghost use Rattle.plane_taps.specs.Reach.{Around};
 ghost use Rattle.plane_rows.specs.Rows.{Strong, pri_in, sec_in, placed, placed_rows, Stored};
 
-use std::array;
-
 use filter_limits::Pair;
 use filter_rows::{Strength, Taps};
 use plane_taps::load::load;
 use plane_taps::plain;
+use std::array;
 
 // Sample j of the eight from k on, filtered with both strengths.
 fn both_at(src: &[u16], k: usize, j: usize, t: Taps, f: Strength, g: Strength) -> u16

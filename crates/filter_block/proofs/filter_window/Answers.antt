@@ -11,7 +11,6 @@ use Rattle.filter_kernel.specs.Kernel.{taps_of, pri_of, sec_of}
 use Rattle.filter_kernel.specs.PlaceLaws.{taps-near}
 use Rattle.filter_kernel.specs.ShapeLaws.{pri-in, sec-in}
 use Rattle.filter_block.specs.Store.{window_tap, block_tap}
-use borrow.Author.Rules.{rules}
 use Rattle.filter_block.proofs.filter_window.Goals as goal
 
 glue : (l last : List ℕ) (m : ℕ) (w : List ℕ) (q : FilterParams) (t : Taps) (f g : Strength) (d y x cols rows n k : ℕ) → d ≡ max 1 q.damping.0 → t ≡ taps_of q.dir → f ≡ pri_of q.pri d q.depth → g ≡ sec_of q.sec d → cols ≡ n → rows ≡ k → last ≡ put_block l m (window_tap w t f g y x) y x cols rows → last ≡ put_block l m (block_tap w q y x) y x n k

@@ -1,7 +1,7 @@
 -- `filter_window::window_part` meets its contract.
 use Rattle.std.proofs.Common.{arith, refl, ◌≡◌}
 use Rattle.cdef_spec.specs.Lent.{plane_in_full}
-use Rattle.filter_window.specs.FilledLaws.{edge-first, edge-last, edge-row, edge-in, in-plane}
+use Rattle.filter_window.specs.FilledLaws.{edge-first, edge-last, edge-row, in-plane}
 use Rattle.filter_window.proofs.window_part.Goals as goal
 
 pub loop-i-init : goal.loop-i-init

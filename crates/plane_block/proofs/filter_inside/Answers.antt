@@ -1,5 +1,5 @@
 -- `plane_block::filter_inside` meets its contract.
-use Rattle.std.proofs.Common.{◌≡◌, refl, sym, ◌∙◌, arith, ⊎_elim, mul-le-mul, List, ℕ, ◌+◌, ◌-◌, ◌*◌, ◌^◌, ◌≤◌, ◌<◌}
+use Rattle.std.proofs.Common.{◌≡◌, refl, ◌∙◌, arith, ⊎_elim, mul-le-mul, List, ℕ, ◌+◌, ◌-◌, ◌*◌, ◌^◌, ◌≤◌, ◌<◌}
 use Rattle.std.specs.Prelude.{max}
 use Rattle.cdef_spec.specs.declared.full.FullPlane.{FullPlane}
 use Rattle.cdef_spec.specs.declared.Block.{Block}
@@ -7,11 +7,8 @@ use Rattle.cdef_spec.specs.declared.FilterParams.{FilterParams}
 use Rattle.cdef_spec.specs.Standard.{Tap}
 use Rattle.cdef_spec.specs.LoopForm.{put_block}
 use Rattle.cdef_spec.specs.Lent.{plane_in_full}
-use Rattle.arith_sample.specs.Bounds.{Held}
-use Rattle.arith_sample.specs.Upto.{upto}
 use Rattle.filter_rows.specs.declared.Strength.{Strength}
 use Rattle.filter_window.specs.Spans.{BeginsIn}
-use Rattle.filter_window.specs.Window.{window_at}
 use Rattle.filter_window.specs.WindowLaws.{window-held}
 use Rattle.filter_kernel.specs.Kernel.{pri_of, sec_of}
 use Rattle.filter_block.specs.Store.{Usable}

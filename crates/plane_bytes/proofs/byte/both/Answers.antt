@@ -1,5 +1,5 @@
 -- `plane_bytes::byte::both` meets its contract.
-use Rattle.std.proofs.Common.{◌≡◌, ℕ, ◌+◌, ◌≤◌, max, ◌∙◌, arith, rules}
+use Rattle.std.proofs.Common.{◌≡◌, ℕ, ◌+◌, ◌≤◌, max, ◌∙◌, arith}
 use Rattle.plane_bytes.specs.Byte.{both_of}
 use Rattle.plane_bytes.proofs.byte.both.Goals as goal
 

@@ -1,6 +1,5 @@
 -- `plane_bytes::byte::clipped` meets its contract.
 use Rattle.plane_bytes.specs.Byte.{clipped_of}
-use Rattle.std.proofs.Common.{rules}
 use Rattle.plane_bytes.proofs.byte.clipped.Goals as goal
 
 pub returns : goal.returns

@@ -1,5 +1,5 @@
 -- `plane_bytes::byte::high_four` meets its contract.
-use Rattle.std.proofs.Common.{◌≡◌, ◌∙◌, rules}
+use Rattle.std.proofs.Common.{◌≡◌, ◌∙◌}
 use Rattle.plane_bytes.specs.Byte.{high_four}
 use Rattle.plane_bytes.specs.ByteBounds.{high_le}
 use Rattle.plane_bytes.proofs.byte.high_four.Goals as goal

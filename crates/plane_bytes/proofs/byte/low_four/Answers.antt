@@ -1,5 +1,5 @@
 -- `plane_bytes::byte::low_four` meets its contract.
-use Rattle.std.proofs.Common.{◌≡◌, ◌∙◌, rules}
+use Rattle.std.proofs.Common.{◌≡◌, ◌∙◌}
 use Rattle.plane_bytes.specs.Byte.{low_four}
 use Rattle.plane_bytes.specs.ByteBounds.{low-le}
 use Rattle.plane_bytes.proofs.byte.low_four.Goals as goal

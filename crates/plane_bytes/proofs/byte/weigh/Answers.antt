@@ -1,6 +1,5 @@
 -- `plane_bytes::byte::weigh` meets its contract.
 use Rattle.plane_bytes.specs.ByteBounds.{weigh-ok}
-use Rattle.std.proofs.Common.{rules}
 use Rattle.plane_bytes.proofs.byte.weigh.Goals as goal
 
 pub returns : goal.returns

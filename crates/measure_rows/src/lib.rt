@@ -20,7 +20,5 @@ pub fn rows_of<'a>(scratch: &'a [u16], plane: &'a [u16], filters: bool, start: u
 pub fn clear_scratch(scratch: &mut [u16])
     ensures { scratch.new ≡ replicate (length scratch.old) 0 }
 {
-    for k in 0..scratch.len() {
-        scratch[k] = 0;
-    }
+    scratch.fill(0);
 }

@@ -1,5 +1,5 @@
 -- What is wrong with a file. Definitions only.
-use Rattle.std.specs.Prelude.{ℕ, ◌*◌, cond, List, eqb, length, Option, Some, None, option_and_then, is_none}
+use Rattle.std.specs.Prelude.{ℕ, ◌*◌, cond, List, eqb, length, Option, Some, None, is_none}
 use Rattle.still_pgm.specs.declared.header.Header.{Header}
 use Rattle.still_pgm.specs.declared.format.Fault.{Fault}
 use Rattle.still_pgm.specs.declared.format.Fault.TheVariants.{NoHeader, Maximum, Size, Length}

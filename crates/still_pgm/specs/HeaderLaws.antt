@@ -1,6 +1,6 @@
 -- The parts of a header put together.
 use lib.Pointwise.{pointwise}
-use Rattle.std.specs.Prelude.{◌≡◌, refl, Bool, true, false, ◌&&◌, eqb, take, cond, List, [], ◌∷◌, ℕ, ◌+◌, ◌<◌, min, length, drop, get_or, Option, Some, None, option_and_then}
+use Rattle.std.specs.Prelude.{◌≡◌, refl, Bool, true, false, ◌&&◌, eqb, take, List, [], ◌∷◌, ℕ, ◌<◌, min, length, drop, Some, None}
 use Rattle.std.proofs.Common.{arith, length-drop, ne_eqb, eq-eqb}
 use Rattle.still_pgm.specs.declared.header.Header.{Header}
 use Rattle.still_text.specs.Text.{digit_count, decimal, most, is_blank, blanks}

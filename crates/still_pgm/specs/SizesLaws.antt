@@ -1,12 +1,11 @@
 -- Laws of the sizes that are accepted, and of what is wrong with a file.
-use Rattle.std.specs.Prelude.{◌≡◌, refl, Bool, cond, leb, eqb, Option, Some, None, is_none}
+use Rattle.std.specs.Prelude.{◌≡◌, refl, Bool, cond, leb, eqb, Some, None, is_none}
 use Rattle.std.proofs.Math.Bool.{true, false}
-use Prim.Native.Nat.{ℕ, ◌+◌, ◌*◌, ◌≤◌, ◌<◌}
+use Prim.Native.Nat.{ℕ, ◌*◌, ◌≤◌, ◌<◌}
 use Rattle.std.proofs.Common.{mul-le-mul, le_trans, arith}
 use borrow.Author.Tests.{eq-eqb, ne_eqb, eqb-true, leb-true}
 use Rattle.still_pgm.specs.declared.header.Header.{Header}
-use Rattle.still_pgm.specs.declared.format.Fault.{Fault}
-use Rattle.still_pgm.specs.declared.format.Fault.TheVariants.{NoHeader, Maximum, Size, Length}
+use Rattle.still_pgm.specs.declared.format.Fault.TheVariants.{Maximum, Size, Length}
 use Rattle.still_text.specs.TextLaws.{and_both}
 use Rattle.still_pgm.specs.Sizes.{depth_of, step_of, padded, is_side, is_taken}
 use Rattle.still_pgm.specs.Faults.{fault_in}

@@ -1,5 +1,5 @@
 -- `still_pgm::decode::decode` meets its contract.
-use Rattle.std.proofs.Common.{◌*◌, ◌≤◌, ◌≡◌, rules, refl, ℕ, ◌++◌, List, length, take, sym, ◌∙◌, arith}
+use Rattle.std.proofs.Common.{◌*◌, ◌≤◌, ◌≡◌, rules, refl, ℕ, ◌++◌, List, length, take, ◌∙◌, arith}
 use Rattle.std.proofs.Math.Seq.{take_all}
 use Rattle.std.proofs.lemmas.List.{take-append-le}
 use Rattle.still_pgm.specs.SizesLaws.{taken}

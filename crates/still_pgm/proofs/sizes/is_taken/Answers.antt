@@ -1,7 +1,7 @@
 -- `still_pgm::sizes::is_taken` meets its contract.
-use Rattle.std.proofs.Common.{◌*◌, ◌≤◌, ◌≡◌, true, sym, ◌∙◌, arith}
+use Rattle.std.proofs.Common.{◌*◌, ◌≤◌, sym, ◌∙◌, arith}
 use Rattle.still_pgm.specs.SizesLaws.{side-range, padded-room}
-use Rattle.still_pgm.specs.Sizes.{is_side, is_taken}
+use Rattle.still_pgm.specs.Sizes.{is_taken}
 use Rattle.still_pgm.proofs.sizes.is_taken.Goals as goal
 
 pub returns-then-not-is_side : goal.returns-then-not-is_side

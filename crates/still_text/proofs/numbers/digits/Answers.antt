@@ -1,5 +1,5 @@
 -- `still_text::numbers::digits` meets its contract.
-use Rattle.std.proofs.Common.{rules, true, ◌≡◌, ◌+◌, ◌≤◌, ◌<◌, ◌*◌, ◌-◌, ℕ, List, min, drop, length, sym, ap, ◌∙◌, arith, refl}
+use Rattle.std.proofs.Common.{rules, true, ◌≡◌, ◌+◌, ◌≤◌, ◌*◌, ◌-◌, ℕ, List, min, drop, length, sym, ap, ◌∙◌, arith}
 use Rattle.still_text.specs.Text.{most, decimal, digit_count, is_digit}
 use Rattle.still_text.specs.TextLaws.{digits_end, digits_stop, digits_more, digit_yes, digit_no, digit_range, capped_once}
 use Rattle.still_text.proofs.numbers.digits.Goals as goal

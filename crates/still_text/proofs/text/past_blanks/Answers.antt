@@ -1,6 +1,6 @@
 -- `still_text::text::past_blanks` meets its contract.
 use Rattle.std.proofs.Common.{sym, ◌∙◌}
-use Rattle.still_text.specs.TextLaws.{blanks_end, blanks_stop, blanks_more}
+use Rattle.still_text.specs.TextLaws.{blanks_stop, blanks_more}
 use Rattle.still_text.proofs.text.past_blanks.Goals as goal
 
 pub returns-then-not-is_passed : goal.returns-then-not-is_passed

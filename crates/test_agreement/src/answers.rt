@@ -1,29 +1,60 @@
-// What applying returns for a list of one pair n times, for a flat luma picture of 64 by 128: two units.
-ghost use Rattle.std.specs.Prelude.{◌≤◌};
-
+// What applying returns for a list of one pair so many times, for a flat luma picture of 64 by 128: two units.
 use cdef_spec::{Answer, DampingChoice, SignalledDamping, UnitPair};
+use std::alloc::{AllocError, Global};
 use std::io;
 
-pub fn lines(rt: &impl Print) -> io::Result<()> {
-    applied(rt, 0, 4, 2)?;
-    applied(rt, 1, 4, 2)?;
-    applied(rt, 2, 4, 2)?;
-    applied(rt, 3, 4, 2)?;
-    applied(rt, 2, 16, 0)?;
-    applied(rt, 2, 0, 3)?;
-    applied(rt, 3, 16, 3)?;
-    applied(rt, 2, 4, 2)?;
-    applied(rt, 4096, 4, 2)?;
-    applied(rt, 4097, 4, 2)?;
-    applied(rt, 4100, 4, 2)
+// How often each pair stands in its list; the last are more pairs than any picture has units.
+const LISTS: [(usize, UnitPair); 11] = [
+    (0, FIRST),
+    (1, FIRST),
+    (2, FIRST),
+    (3, FIRST),
+    (2, PRIMARY_ABOVE),
+    (2, SECONDARY_ABOVE),
+    (3, BOTH_ABOVE),
+    (2, FIRST),
+    (4096, FIRST),
+    (4097, FIRST),
+    (4100, FIRST),
+];
+
+const FIRST: UnitPair = UnitPair {
+    primary: 4,
+    secondary: 2,
+};
+
+// Strengths out of range.
+const PRIMARY_ABOVE: UnitPair = UnitPair {
+    primary: 16,
+    secondary: 0,
+};
+
+const SECONDARY_ABOVE: UnitPair = UnitPair {
+    primary: 0,
+    secondary: 3,
+};
+
+const BOTH_ABOVE: UnitPair = UnitPair {
+    primary: 16,
+    secondary: 3,
+};
+
+pub fn lines(rt: &(impl Print + AllocGlobal)) -> io::Result<()> {
+    for (times, pair) in LISTS {
+        let primary = pair.primary;
+        let secondary = pair.secondary;
+        print!(rt; "pair {primary}, {secondary}, times {times}: ")?;
+        match applied(rt.alloc(), times, pair)? {
+            Answer::Done => println!(rt; "done")?,
+            Answer::Refused(n) => println!(rt; "error code {n}")?,
+        }
+    }
+    Ok(())
 }
 
-// The last are more pairs than any picture has units.
-fn applied(rt: &impl Print, n: usize, primary: u8, secondary: u8) -> io::Result<()>
-    requires { n ≤ 4100 }
-{
-    let pair = UnitPair { primary, secondary };
-    let answer = testlib_lend::apply_luma(
+fn applied(alloc: Global, times: usize, pair: UnitPair) -> Result<Answer, AllocError> {
+    let pairs = vec![in alloc; pair; times]?;
+    Ok(cdef::applying::apply_luma(
         &mut [0u16; 8192],
         &[100u16; 8192],
         64,
@@ -32,19 +63,7 @@ fn applied(rt: &impl Print, n: usize, primary: u8, secondary: u8) -> io::Result<
         &[0u8; 128],
         &[0u8; 128],
         &[0u32; 128],
-        n,
-        [pair; 4100],
+        &pairs,
         DampingChoice::Given(SignalledDamping(5)),
-    );
-    line(rt, n, pair, answer)
-}
-
-fn line(rt: &impl Print, n: usize, pair: UnitPair, answer: Answer) -> io::Result<()> {
-    print::pair(rt, pair.primary, pair.secondary)?;
-    print::labelled(rt, ", times ", n as u64)?;
-    print::text(rt, ": ")?;
-    match answer {
-        Answer::Done => print::text(rt, "done\n"),
-        Answer::Refused(q) => print::refused(rt, q),
-    }
+    ))
 }

@@ -5,66 +5,67 @@
 
 mod agreed; // agreed.rt: the three calls on a picture
 mod answers; // answers.rt: applying with some pairs
-mod chroma; // chroma.rt: a chroma picture
-mod luma; // luma.rt: a luma picture
+mod inputs; // inputs.rt: what the three calls are given
 
 use agree_lists::Agreement;
-use cdef_spec::{DampingChoice, SignalledDamping};
+use agreed::Form;
+use cdef_spec::{DampingAnswer, DampingChoice, SignalledDamping};
 use std::io;
+use testlib_pictures::picture::Picture;
 use testlib_pictures::report;
+use testlib_pictures::table::{PICTURES, UNSTATED};
 
 fn main(rt: HostRuntime) -> io::Result<()> {
-    print::text(&rt, "pairs as two lists\n")?;
-    pictures(&rt, false)?;
-    print::text(&rt, "pairs as one slice\n")?;
-    pictures(&rt, true)?;
-    print::text(
-        &rt,
-        "tried with no damping stated, applied with damping 3\n",
-    )?;
-    unstated(&rt, 7)?;
-    unstated(&rt, 8)?;
-    print::text(&rt, "lists of other lengths\n")?;
+    println!(rt; "pairs as two lists")?;
+    pictures(&rt, Form::TwoLists)?;
+    println!(rt; "pairs as one slice")?;
+    pictures(&rt, Form::OneSlice)?;
+    println!(rt; "tried with no damping stated, applied with damping 3")?;
+    for picture in &UNSTATED {
+        unstated(&rt, picture)?;
+    }
+    println!(rt; "lists of other lengths")?;
     answers::lines(&rt)
 }
 
-// Pictures 0 to 6.
-fn pictures(rt: &impl Print, as_pairs: bool) -> io::Result<()> {
-    for picture in 0..7u32 {
-        let found = agreed::picture(as_pairs, picture, agreed::stated(picture));
-        totals(rt, picture, found.tried, found.measured)?;
+fn pictures(rt: &(impl Print + AllocGlobal), form: Form) -> io::Result<()> {
+    for picture in &PICTURES {
+        let found = agreed::picture(rt.alloc(), form, picture, stated(picture))?;
+        report::totals(rt, picture, &found.tried, &found.measured)?;
         outcome(rt, found.answer)?;
     }
     Ok(())
 }
 
+// Luma is given a signalled damping, chroma that of quality index 120, by its call.
+// An index that the call rejected would become the error code, 8, as a damping, which the calls reject.
+fn stated(picture: &Picture) -> DampingChoice {
+    if picture.is_luma() {
+        return DampingChoice::Given(SignalledDamping(5));
+    }
+    match cdef_blocks::numbers::damping(120) {
+        DampingAnswer::Damping(damping) => DampingChoice::Given(damping),
+        DampingAnswer::NoDamping(n) => DampingChoice::Given(SignalledDamping(n)),
+    }
+}
+
 // The totals tried with no damping stated, and those measured after applying with damping 3.
-fn unstated(rt: &impl Print, picture: u32) -> io::Result<()> {
-    let applied = agreed::picture(false, picture, DampingChoice::Given(SignalledDamping(3)));
-    let found = agreed::picture(false, picture, DampingChoice::Unstated);
-    totals(rt, picture, found.tried, applied.measured)?;
+fn unstated(rt: &(impl Print + AllocGlobal), picture: &Picture) -> io::Result<()> {
+    let three = DampingChoice::Given(SignalledDamping(3));
+    let applied = agreed::picture(rt.alloc(), Form::TwoLists, picture, three)?;
+    let found = agreed::picture(rt.alloc(), Form::TwoLists, picture, DampingChoice::Unstated)?;
+    report::totals(rt, picture, &found.tried, &applied.measured)?;
     outcome(rt, applied.answer)?;
     outcome(rt, found.answer)
 }
 
-fn totals(rt: &impl Print, picture: u32, tried: [i64; 72], measured: [i64; 6]) -> io::Result<()> {
-    report::heading(rt, picture)?;
-    report::units(rt, picture, &tried, &measured)
-}
-
-fn outcome(rt: &impl Print, a: Agreement) -> io::Result<()> {
-    match a {
-        Agreement::Agreed => print::text(rt, "all agree\n"),
-        Agreement::NotTrialPairs => refusal(rt, 0, 0),
-        Agreement::TryingRefused(n) => refusal(rt, 1, n),
-        Agreement::ApplyingRefused(n) => refusal(rt, 2, n),
-        Agreement::MeasuringRefused(n) => refusal(rt, 3, n),
+// The calls by number: 0 where a pair is none of the twelve, 1 trying, 2 applying, 3 measuring.
+fn outcome(rt: &impl Print, answer: Agreement) -> io::Result<()> {
+    match answer {
+        Agreement::Agreed => println!(rt; "all agree"),
+        Agreement::NotTrialPairs => println!(rt; "different: call 0, error code 0"),
+        Agreement::TryingRefused(n) => println!(rt; "different: call 1, error code {n}"),
+        Agreement::ApplyingRefused(n) => println!(rt; "different: call 2, error code {n}"),
+        Agreement::MeasuringRefused(n) => println!(rt; "different: call 3, error code {n}"),
     }
-}
-
-// call: 0 where a pair is none of the twelve, 1 trying, 2 applying, 3 measuring.
-fn refusal(rt: &impl Print, call: u64, n: u8) -> io::Result<()> {
-    print::labelled(rt, "different: call ", call)?;
-    print::text(rt, ", ")?;
-    print::refused(rt, n)
 }

@@ -3,27 +3,26 @@
 // data/README.md gives the layout of the files and where they come from.
 #![tactic(auto)]
 
-mod planes; // planes.rt: the planes of a file, filtered and compared
+mod planes; // planes.rt: the planes of a frame, filtered and compared
 
 use std::rt::Files;
 use std::{fs, io};
+use testlib_frame::frame::Frame;
 
 fn main(rt: HostRuntime) -> io::Result<()> {
     let list = fs::read_to_string(&rt, "files.txt")?;
-    files(&rt, list.as_str())
-}
-
-fn files(rt: &(impl Files + Print + Eprint), list: &str) -> io::Result<()> {
     for path in list.lines() {
-        frame(rt, path)?;
+        file(&rt, path)?;
     }
     Ok(())
 }
 
-fn frame(rt: &(impl Files + Print + Eprint), path: &str) -> io::Result<()> {
-    let mut space = testlib_lines::file_space();
-    let n = testlib_lines::read_file(rt, path, &mut space)?;
-    print::text(rt, path)?;
-    planes::compared(rt, &space[..n])?;
-    print::text(rt, "\n")
+fn file(rt: &(impl Files + Print + Eprint + AllocGlobal), path: &str) -> io::Result<()> {
+    let bytes = testlib_lines::read_file(rt, path)?;
+    print!(rt; "{path}")?;
+    match Frame::parse(&bytes) {
+        Ok(frame) => planes::compared(rt, &frame)?,
+        Err(_) => print!(rt; ": not a frame")?,
+    }
+    println!(rt;)
 }

@@ -1,190 +1,122 @@
-// The planes of a file, filtered and compared with the recorded ones.
-ghost use Rattle.std.specs.Prelude.{◌≤◌, ◌<◌, ◌≡◌, length};
-
+// The planes of a frame, filtered and compared with the recorded ones.
 use cdef_spec::{Answer, DampingChoice, SignalledDamping};
+use std::alloc::{AllocError, Global};
 use std::io;
-use testlib_frame::{lists, planes};
+use testlib_frame::frame::{Component, Frame};
 
-pub fn compared(rt: &impl Print, file: &[u8]) -> io::Result<()> {
-    if !testlib_frame::is_frame(file) {
-        return print::text(rt, ": not a frame");
-    }
-    number(rt, file, testlib_frame::WIDTH)?;
-    number(rt, file, testlib_frame::HEIGHT)?;
-    number(rt, file, testlib_frame::DEPTH)?;
-    number(rt, file, testlib_frame::SX)?;
-    number(rt, file, testlib_frame::SY)?;
-    all_planes(rt, file)
+// The directions and the variances of a frame's blocks, which are luma's before CDEF, and what the call for them returned.
+#[derive(Drop)]
+struct Directions {
+    dirs: Vec<u8>,
+    vars: Vec<u32>,
+    answer: Answer,
 }
 
-fn number(rt: &impl Print, file: &[u8], k: usize) -> io::Result<()>
-    requires { k < 16 }
-{
-    said(rt, testlib_frame::number(file, k))
-}
-
-fn said(rt: &impl Print, n: usize) -> io::Result<()> {
-    print::labelled(rt, " ", n as u64)
-}
-
-fn all_planes(rt: &impl Print, file: &[u8]) -> io::Result<()> {
-    let mut skip = [0u8; 4800];
-    let mut dirs = [0u8; 4800];
-    let mut vars = [0u32; 4800];
-    let n = lists::fill(file, lists::SKIPS, lists::LUMA, &mut skip);
-    let m = lists::fill(file, lists::SKIPS, lists::LUMA, &mut dirs);
-    let v = lists::variances(file, &vars);
-    said(rt, n)?;
-    each(rt, file, &skip[..n], &mut dirs[..m], &mut vars[..v])
-}
-
-// Luma, and both chroma planes where there are any.
-fn each(
-    rt: &impl Print,
-    file: &[u8],
-    skip: &[u8],
-    dirs: &mut [u8],
-    vars: &mut [u32],
-) -> io::Result<()> {
-    plane(rt, file, 0, skip, dirs, vars)?;
-    if testlib_frame::number(file, testlib_frame::MONOCHROME) == 0 {
-        plane(rt, file, 1, skip, dirs, vars)?;
-        plane(rt, file, 2, skip, dirs, vars)?;
+pub fn compared(rt: &(impl Print + AllocGlobal), frame: &Frame<'_>) -> io::Result<()> {
+    let header = frame.header;
+    print!(rt;
+        " {} {} {} {} {} {}",
+        header.width,
+        header.height,
+        header.depth,
+        header.sx,
+        header.sy,
+        frame.skip.len()
+    )?;
+    let found = directed(rt.alloc(), frame)?;
+    plane(rt, frame, Component::Y, &found)?;
+    if !header.monochrome {
+        plane(rt, frame, Component::U, &found)?;
+        plane(rt, frame, Component::V, &found)?;
     }
     Ok(())
 }
 
-// Reads a plane twice; what is not filtered keeps what went in.
+fn directed(alloc: Global, frame: &Frame<'_>) -> Result<Directions, AllocError> {
+    let header = frame.header;
+    let luma = frame.before(alloc, Component::Y)?;
+    let mut dirs = vec![in alloc; 0u8; frame.skip.len()]?;
+    let mut vars = vec![in alloc; 0u32; frame.skip.len()]?;
+    let answer = cdef::pass::direction_pass(
+        &mut dirs,
+        &mut vars,
+        &luma,
+        usize::from(header.width),
+        usize::from(header.height),
+        header.depth,
+    );
+    Ok(Directions { dirs, vars, answer })
+}
+
+// Filters a plane and compares it; what is not filtered keeps what went in.
 fn plane(
-    rt: &impl Print,
-    file: &[u8],
-    plane: u32,
-    skip: &[u8],
-    dirs: &mut [u8],
-    vars: &mut [u32],
-) -> io::Result<()>
-    requires { plane ≤ 2 }
-{
-    let mut before = planes::space();
-    let mut after = planes::space();
-    let n = planes::read(file, plane, &mut before);
-    let m = planes::read(file, plane, &mut after);
-    filtered(
-        rt,
-        file,
-        plane,
-        &mut after[..m],
-        &before[..n],
-        skip,
-        dirs,
-        vars,
-    )
+    rt: &(impl Print + AllocGlobal),
+    frame: &Frame<'_>,
+    component: Component,
+    found: &Directions,
+) -> io::Result<()> {
+    let before = frame.before(rt.alloc(), component)?;
+    let mut filtered = before.clone()?;
+    let code = code(applied(rt.alloc(), frame, component, found, &before, &mut filtered)?);
+    let after = frame.after(rt.alloc(), component)?;
+    let different = filtered
+        .iter()
+        .zip(&after)
+        .filter(|(ours, theirs)| ours != theirs)
+        .count();
+    print!(rt; " {code} {} {different}", filtered.len())
 }
 
-// Filters a plane and compares it.
-fn filtered(
-    rt: &impl Print,
-    file: &[u8],
-    plane: u32,
-    after: &mut [u16],
-    before: &[u16],
-    skip: &[u8],
-    dirs: &mut [u8],
-    vars: &mut [u32],
-) -> io::Result<()>
-    requires { plane ≤ 2 }
-{
-    code(rt, called(file, plane, after, before, skip, dirs, vars))?;
-    said(rt, after.len())?;
-    said(rt, planes::different(file, plane + 3, after))
-}
-
-// Directions and variances are luma's before CDEF; chroma takes the directions as they are.
-fn called(
-    file: &[u8],
-    plane: u32,
-    after: &mut [u16],
-    before: &[u16],
-    skip: &[u8],
-    dirs: &mut [u8],
-    vars: &mut [u32],
-) -> Answer {
-    if plane != 0 {
-        return chroma(file, after, before, skip, dirs);
-    }
-    if let Answer::Refused(n) = directed(file, before, dirs, vars) {
-        return Answer::Refused(n);
-    }
-    luma(file, after, before, skip, dirs, vars)
-}
-
-// Prints an error code, 0 where the work is done.
-fn code(rt: &impl Print, answer: Answer) -> io::Result<()> {
+// An error code, 0 where the work is done.
+fn code(answer: Answer) -> u8 {
     match answer {
-        Answer::Done => said(rt, 0),
-        Answer::Refused(n) => said(rt, n as usize),
+        Answer::Done => 0,
+        Answer::Refused(n) => n,
     }
 }
 
-fn damping(file: &[u8]) -> DampingChoice {
-    DampingChoice::Given(SignalledDamping(testlib_frame::small(file, testlib_frame::DAMPING)))
-}
-
-fn directed(file: &[u8], before: &[u16], dirs: &mut [u8], vars: &mut [u32]) -> Answer {
-    cdef::pass::direction_pass(
-        dirs,
-        vars,
-        before,
-        testlib_frame::number(file, testlib_frame::WIDTH),
-        testlib_frame::number(file, testlib_frame::HEIGHT),
-        testlib_frame::small(file, testlib_frame::DEPTH),
-    )
-}
-
-fn luma(
-    file: &[u8],
-    after: &mut [u16],
+fn applied(
+    alloc: Global,
+    frame: &Frame<'_>,
+    component: Component,
+    found: &Directions,
     before: &[u16],
-    skip: &[u8],
-    dirs: &[u8],
-    vars: &[u32],
-) -> Answer {
-    let mut pris = [0u8; 80];
-    let n = lists::fill(file, lists::PRIMARIES, lists::LUMA, &mut pris);
-    let mut secs = [0u8; 80];
-    let m = lists::fill(file, lists::SECONDARIES, lists::LUMA, &mut secs);
-    cdef_lists::apply_luma(
-        after,
+    dst: &mut [u16],
+) -> Result<Answer, AllocError> {
+    let header = frame.header;
+    let pris = frame.primaries(alloc, component)?;
+    let secs = frame.secondaries(alloc, component)?;
+    let damping = DampingChoice::Given(SignalledDamping(header.damping));
+    if component != Component::Y {
+        return Ok(cdef_lists::apply_chroma(
+            dst,
+            before,
+            usize::from(header.width),
+            usize::from(header.height),
+            header.sx,
+            header.sy,
+            header.depth,
+            frame.skip,
+            &found.dirs,
+            &pris,
+            &secs,
+            damping,
+        ));
+    }
+    if let Answer::Refused(n) = found.answer {
+        return Ok(Answer::Refused(n));
+    }
+    Ok(cdef_lists::apply_luma(
+        dst,
         before,
-        testlib_frame::number(file, testlib_frame::WIDTH),
-        testlib_frame::number(file, testlib_frame::HEIGHT),
-        testlib_frame::small(file, testlib_frame::DEPTH),
-        skip,
-        dirs,
-        vars,
-        &pris[..n],
-        &secs[..m],
-        damping(file),
-    )
-}
-
-fn chroma(file: &[u8], after: &mut [u16], before: &[u16], skip: &[u8], dirs: &[u8]) -> Answer {
-    let mut pris = [0u8; 80];
-    let n = lists::fill(file, lists::PRIMARIES, lists::CHROMA, &mut pris);
-    let mut secs = [0u8; 80];
-    let m = lists::fill(file, lists::SECONDARIES, lists::CHROMA, &mut secs);
-    cdef_lists::apply_chroma(
-        after,
-        before,
-        testlib_frame::number(file, testlib_frame::WIDTH),
-        testlib_frame::number(file, testlib_frame::HEIGHT),
-        testlib_frame::small(file, testlib_frame::SX),
-        testlib_frame::small(file, testlib_frame::SY),
-        testlib_frame::small(file, testlib_frame::DEPTH),
-        skip,
-        dirs,
-        &pris[..n],
-        &secs[..m],
-        damping(file),
-    )
+        usize::from(header.width),
+        usize::from(header.height),
+        header.depth,
+        frame.skip,
+        &found.dirs,
+        &found.vars,
+        &pris,
+        &secs,
+        damping,
+    ))
 }

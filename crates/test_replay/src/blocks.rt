@@ -1,128 +1,214 @@
 // The calls on a block.
-ghost use Rattle.std.specs.Prelude.{◌≤◌, length};
-
-use crate::numbers;
+use crate::case::{Case, code};
 use cdef_spec::{Block, DirectionAnswer, FilterParams, TrialWay, WorkingDamping};
-use testlib_lines::samples;
-
-// The most samples of a plane or of a destination that a case can have here.
-const MOST: usize = 8192;
+use testlib_lines::numbers::{LineError, Numbers};
 
 // depth width height x y code direction variance, and the plane
-pub fn direction(line: &[u8]) -> bool {
-    let mut plane = [0u16; MOST];
-    let n = samples::taken(line, testlib_lines::place(line, 8), MOST, &mut plane);
-    match cdef_blocks::direction::direction(
-        &plane[..n],
-        testlib_lines::size(line, 1),
-        testlib_lines::size(line, 2),
-        testlib_lines::size(line, 3),
-        testlib_lines::size(line, 4),
-        testlib_lines::byte(line, 0),
-    ) {
-        DirectionAnswer::Direction(d, v) => found(line, 0, d as u64, v as u64),
-        DirectionAnswer::NoDirection(n) => found(line, n as u64, 0, 0),
+#[derive(Drop)]
+pub struct Direction {
+    depth: u8,
+    width: usize,
+    height: usize,
+    x: usize,
+    y: usize,
+    stored: (u32, (u8, u32)),
+    plane: Vec<u16>,
+}
+
+impl Case for Direction {
+    fn parse(mut line: Numbers<'_>) -> Result<Self, LineError> {
+        Ok(Direction {
+            depth: line.number()?,
+            width: line.number()?,
+            height: line.number()?,
+            x: line.number()?,
+            y: line.number()?,
+            stored: (line.number()?, (line.number()?, line.number()?)),
+            plane: line.rest()?,
+        })
+    }
+
+    fn holds(self) -> bool {
+        let returned = match cdef_blocks::direction::direction(
+            &self.plane,
+            self.width,
+            self.height,
+            self.x,
+            self.y,
+            self.depth,
+        ) {
+            DirectionAnswer::Direction(direction, variance) => (0, (direction, variance)),
+            DirectionAnswer::NoDirection(n) => (u32::from(n), (0, 0)),
+        };
+        returned == self.stored
     }
 }
 
-fn found(line: &[u8], code: u64, direction: u64, variance: u64) -> bool {
-    testlib_lines::is(line, 5, code)
-        && testlib_lines::is(line, 6, direction)
-        && testlib_lines::is(line, 7, variance)
+fn block(line: &mut Numbers<'_>) -> Result<Block, LineError> {
+    Ok(Block {
+        x: line.number()?,
+        y: line.number()?,
+        width: line.number()?,
+        height: line.number()?,
+    })
 }
 
-// x y width height of the block, behind three numbers
-fn block(line: &[u8]) -> Block {
-    Block {
-        x: testlib_lines::size(line, 3),
-        y: testlib_lines::size(line, 4),
-        width: testlib_lines::size(line, 5),
-        height: testlib_lines::size(line, 6),
-    }
-}
-
-fn params(line: &[u8]) -> FilterParams {
-    FilterParams {
-        pri: testlib_lines::word(line, 9),
-        sec: testlib_lines::word(line, 10),
-        dir: testlib_lines::byte(line, 11),
-        damping: WorkingDamping(testlib_lines::byte(line, 12)),
-        depth: testlib_lines::byte(line, 0),
-    }
+// As many samples as two sides say; no line has as many as do not fit.
+fn area(line: &mut Numbers<'_>, width: usize, height: usize) -> Result<Vec<u16>, LineError> {
+    line.samples(width.checked_mul(height).ok_or(LineError::Missing)?)
 }
 
 // depth width height x y bw bh y0 dst_rows pri sec dir damping code,
 // and the plane, the destination before and the destination after, as large as the sizes say
-pub fn filter(line: &[u8]) -> bool {
-    let mut plane = [0u16; MOST];
-    let mut dst = [0u16; MOST];
-    let planes = testlib_lines::place(line, 14);
-    let n = samples::taken(line, planes, testlib_lines::area(line, 1, 2), &mut plane);
-    let before = testlib_lines::behind(line, planes, n);
-    let m = samples::taken(line, before, testlib_lines::area(line, 1, 8), &mut dst);
-    let after = testlib_lines::behind(line, before, m);
-    filtered(line, after, &mut dst[..m], &plane[..n])
+#[derive(Drop)]
+pub struct Filter {
+    width: usize,
+    height: usize,
+    block: Block,
+    y0: usize,
+    params: FilterParams,
+    code: u32,
+    plane: Vec<u16>,
+    before: Vec<u16>,
+    after: Vec<u16>,
 }
 
-fn filtered(line: &[u8], after: usize, dst: &mut [u16], plane: &[u16]) -> bool
-    requires { after ≤ length line.now }
-{
-    let answer = cdef_blocks::filter::filter_block(
-        dst,
-        testlib_lines::size(line, 7),
-        plane,
-        testlib_lines::size(line, 1),
-        testlib_lines::size(line, 2),
-        block(line),
-        params(line),
-    );
-    testlib_lines::is(line, 13, numbers::code(answer))
-        && samples::same_in_blocks(line, after, 64, 0, dst)
+impl Case for Filter {
+    fn parse(mut line: Numbers<'_>) -> Result<Self, LineError> {
+        let depth = line.number()?;
+        let width = line.number()?;
+        let height = line.number()?;
+        let block = block(&mut line)?;
+        let y0 = line.number()?;
+        let rows = line.number()?;
+        let params = FilterParams {
+            pri: line.number()?,
+            sec: line.number()?,
+            dir: line.number()?,
+            damping: WorkingDamping(line.number()?),
+            depth,
+        };
+        Ok(Filter {
+            width,
+            height,
+            block,
+            y0,
+            params,
+            code: line.number()?,
+            plane: area(&mut line, width, height)?,
+            before: area(&mut line, width, rows)?,
+            after: line.rest()?,
+        })
+    }
+
+    fn holds(self) -> bool {
+        let mut dst = self.before;
+        let done = cdef_blocks::filter::filter_block(
+            &mut dst,
+            self.y0,
+            &self.plane,
+            self.width,
+            self.height,
+            self.block,
+            self.params,
+        );
+        code(done) == self.code && dst == self.after
+    }
 }
 
 // depth width height x y bw bh luma variance dir damping places held code,
 // and the plane, and the twelve trial blocks where the code is 0
-pub fn trial(line: &[u8]) -> bool {
-    let mut plane = [0u16; MOST];
-    let held = (testlib_lines::number(line, 12) % 65536) as u16;
-    let mut out = [held; 1024];
-    let planes = testlib_lines::place(line, 14);
-    let n = samples::taken(line, planes, testlib_lines::area(line, 1, 2), &mut plane);
-    let after = testlib_lines::behind(line, planes, n);
-    let places = samples::least(testlib_lines::size(line, 11), &out);
-    tried(line, after, &mut out[..places], &plane[..n])
+#[derive(Drop)]
+pub struct Trial {
+    depth: u8,
+    width: usize,
+    height: usize,
+    block: Block,
+    way: TrialWay,
+    dir: u8,
+    damping: WorkingDamping,
+    places: Vec<u16>,
+    held: u16,
+    code: u32,
+    plane: Vec<u16>,
+    blocks: Vec<u16>,
 }
 
-fn tried(line: &[u8], after: usize, out: &mut [u16], plane: &[u16]) -> bool
-    requires { after ≤ length line.now }
-{
-    let answer = cdef_blocks::trial::trial(
-        out,
-        plane,
-        testlib_lines::size(line, 1),
-        testlib_lines::size(line, 2),
-        block(line),
-        way(line),
-        testlib_lines::byte(line, 9),
-        WorkingDamping(testlib_lines::byte(line, 10)),
-        testlib_lines::byte(line, 0),
-    );
-    let held = testlib_lines::number(line, 12);
-    testlib_lines::is(line, 13, numbers::code(answer))
-        && samples::same_in_blocks(line, after, stored(line), held, out)
-}
-
-// The samples of each trial block that a line has stored: none where the call is rejected.
-fn stored(line: &[u8]) -> usize {
-    if testlib_lines::is(line, 13, 0) {
-        return testlib_lines::area(line, 5, 6);
+fn way(line: &mut Numbers<'_>) -> Result<TrialWay, LineError> {
+    let luma: u8 = line.number()?;
+    let variance = line.number()?;
+    match luma {
+        0 => Ok(TrialWay::Chroma),
+        _ => Ok(TrialWay::Luma(variance)),
     }
-    0
 }
 
-fn way(line: &[u8]) -> TrialWay {
-    if testlib_lines::is(line, 7, 0) {
-        return TrialWay::Chroma;
+impl Case for Trial {
+    fn parse(mut line: Numbers<'_>) -> Result<Self, LineError> {
+        let depth = line.number()?;
+        let width = line.number()?;
+        let height = line.number()?;
+        let block = block(&mut line)?;
+        let way = way(&mut line)?;
+        let dir = line.number()?;
+        let damping = WorkingDamping(line.number()?);
+        let count = line.number()?;
+        let held = line.number()?;
+        let places = vec![in line.alloc(); held; count]?;
+        Ok(Trial {
+            depth,
+            width,
+            height,
+            block,
+            way,
+            dir,
+            damping,
+            places,
+            held,
+            code: line.number()?,
+            plane: area(&mut line, width, height)?,
+            blocks: line.rest()?,
+        })
     }
-    TrialWay::Luma(testlib_lines::word(line, 8))
+
+    fn holds(self) -> bool {
+        let each = self.stored_each();
+        let mut out = self.places;
+        let done = cdef_blocks::trial::trial(
+            &mut out,
+            &self.plane,
+            self.width,
+            self.height,
+            self.block,
+            self.way,
+            self.dir,
+            self.damping,
+            self.depth,
+        );
+        code(done) == self.code && is_stored(&out, each, &self.blocks, self.held)
+    }
+}
+
+impl Trial {
+    // The samples of each trial block that a line has stored: none where the call is rejected.
+    fn stored_each(&self) -> usize {
+        if self.code == 0 {
+            return self.block.width.saturating_mul(self.block.height);
+        }
+        0
+    }
+}
+
+// A list in groups of 64: whether the first `each` of each 64 are those of the blocks in order and no more, and every other is `held`.
+fn is_stored(out: &[u16], each: usize, blocks: &[u16], held: u16) -> bool {
+    let mut left = blocks.iter();
+    let same = out.iter().enumerate().all(|(k, &sample)| {
+        let expected = if k % 64 < each {
+            left.next().copied()
+        } else {
+            Some(held)
+        };
+        expected == Some(sample)
+    });
+    same && left.next().is_none()
 }

@@ -1,41 +1,79 @@
 // Applying in chroma to a picture of 8 by 8 samples of luma.
-use crate::numbers;
+use crate::case::{Case, code};
 use cdef_spec::{DampingChoice, SignalledDamping};
-use testlib_lines::samples;
+use testlib_lines::numbers::{LineError, Numbers};
 
 // depth sx sy dir pri sec damping place code sample, and the plane: the sample at a place after applying;
 // dir is luma's, and the damping is 0 where none is stated
-pub fn apply(line: &[u8]) -> bool {
-    let mut plane = [0u16; 64];
-    let mut dst = [0u16; 64];
-    let planes = testlib_lines::place(line, 10);
-    let n = samples::taken(line, planes, 64, &mut plane);
-    let m = samples::taken(line, planes, 64, &mut dst);
-    applied(line, &mut dst[..m], &plane[..n])
-}
-
-fn applied(line: &[u8], dst: &mut [u16], plane: &[u16]) -> bool {
-    let answer = cdef_lists::apply_chroma(
-        dst,
-        plane,
-        8,
-        8,
-        testlib_lines::byte(line, 1),
-        testlib_lines::byte(line, 2),
-        testlib_lines::byte(line, 0),
-        &[0],
-        &[testlib_lines::byte(line, 3)],
-        &[testlib_lines::byte(line, 4)],
-        &[testlib_lines::byte(line, 5)],
-        damping(testlib_lines::byte(line, 6)),
-    );
-    testlib_lines::is(line, 8, numbers::code(answer))
-        && testlib_lines::is(line, 9, samples::at(dst, testlib_lines::size(line, 7)))
+#[derive(Drop)]
+pub struct ApplyChroma {
+    depth: u8,
+    sx: u8,
+    sy: u8,
+    dir: u8,
+    pri: u8,
+    sec: u8,
+    damping: DampingChoice,
+    place: usize,
+    code: u32,
+    sample: u16,
+    plane: Vec<u16>,
+    dst: Vec<u16>,
 }
 
 fn damping(stored: u8) -> DampingChoice {
-    if stored == 0 {
-        return DampingChoice::Unstated;
+    match stored {
+        0 => DampingChoice::Unstated,
+        _ => DampingChoice::Given(SignalledDamping(stored)),
     }
-    DampingChoice::Given(SignalledDamping(stored))
+}
+
+impl Case for ApplyChroma {
+    fn parse(mut line: Numbers<'_>) -> Result<Self, LineError> {
+        let depth = line.number()?;
+        let sx = line.number()?;
+        let sy = line.number()?;
+        let dir = line.number()?;
+        let pri = line.number()?;
+        let sec = line.number()?;
+        let damping = damping(line.number()?);
+        let place = line.number()?;
+        let code = line.number()?;
+        let sample = line.number()?;
+        let plane = line.rest()?;
+        let dst = plane.clone()?;
+        Ok(ApplyChroma {
+            depth,
+            sx,
+            sy,
+            dir,
+            pri,
+            sec,
+            damping,
+            place,
+            code,
+            sample,
+            plane,
+            dst,
+        })
+    }
+
+    fn holds(self) -> bool {
+        let mut dst = self.dst;
+        let answer = cdef_lists::apply_chroma(
+            &mut dst,
+            &self.plane,
+            8,
+            8,
+            self.sx,
+            self.sy,
+            self.depth,
+            &[0],
+            &[self.dir],
+            &[self.pri],
+            &[self.sec],
+            self.damping,
+        );
+        code(answer) == self.code && dst.get(self.place) == Some(&self.sample)
+    }
 }

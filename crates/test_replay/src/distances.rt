@@ -1,44 +1,75 @@
 // The calls on two blocks.
-// depth width height x y code answer, and the original plane and the other one, as many samples each
+use crate::case::Case;
+use cdef_blocks::distance;
 use cdef_spec::DistanceAnswer;
-use testlib_lines::samples;
+use testlib_lines::numbers::{LineError, Numbers};
 
-// The most samples of both planes that a case can have here.
-const MOST: usize = 8400;
-
-// plain: the answer is the sum of squared differences, and not the weighted distance.
-pub fn same(line: &[u8], plain: bool) -> bool {
-    let mut both = [0u16; MOST];
-    let mut other = [0u16; MOST];
-    let planes = testlib_lines::place(line, 7);
-    let n = samples::taken(line, planes, MOST, &mut both);
-    let half = samples::least(n / 2, &both);
-    let m = samples::taken(
-        line,
-        testlib_lines::behind(line, planes, half),
-        MOST,
-        &mut other,
-    );
-    answered(line, asked(line, plain, &both[..half], &other[..m]))
+// depth width height x y code answer, and the original plane and the other one, as many samples each
+#[derive(Drop)]
+struct Planes {
+    depth: u8,
+    width: usize,
+    height: usize,
+    x: usize,
+    y: usize,
+    stored: (u32, i64),
+    samples: Vec<u16>,
 }
 
-fn answered(line: &[u8], answer: DistanceAnswer) -> bool {
-    match answer {
-        DistanceAnswer::Distance(d) => testlib_lines::is(line, 5, 0)
-            && d == testlib_lines::number(line, 6) as i64,
-        DistanceAnswer::NoDistance(n) => testlib_lines::is(line, 5, n as u64)
-            && testlib_lines::is(line, 6, 0),
+impl Planes {
+    fn parse(mut line: Numbers<'_>) -> Result<Self, LineError> {
+        Ok(Planes {
+            depth: line.number()?,
+            width: line.number()?,
+            height: line.number()?,
+            x: line.number()?,
+            y: line.number()?,
+            stored: (line.number()?, line.number()?),
+            samples: line.rest()?,
+        })
+    }
+
+    fn original_and_other(&self) -> (&[u16], &[u16]) {
+        self.samples.split_at(self.samples.len() / 2)
+    }
+
+    fn is_stored(&self, answer: DistanceAnswer) -> bool {
+        let returned = match answer {
+            DistanceAnswer::Distance(d) => (0, d),
+            DistanceAnswer::NoDistance(n) => (u32::from(n), 0),
+        };
+        returned == self.stored
     }
 }
 
-fn asked(line: &[u8], plain: bool, original: &[u16], other: &[u16]) -> DistanceAnswer {
-    let width = testlib_lines::size(line, 1);
-    let height = testlib_lines::size(line, 2);
-    let x = testlib_lines::size(line, 3);
-    let y = testlib_lines::size(line, 4);
-    let depth = testlib_lines::byte(line, 0);
-    if plain {
-        return cdef_blocks::distance::squares(original, other, width, height, x, y, depth);
+// The answer is the weighted distance.
+#[derive(Drop)]
+pub struct Distance(Planes);
+
+impl Case for Distance {
+    fn parse(line: Numbers<'_>) -> Result<Self, LineError> {
+        Ok(Distance(Planes::parse(line)?))
     }
-    cdef_blocks::distance::distance(original, other, width, height, x, y, depth)
+
+    fn holds(self) -> bool {
+        let p = &self.0;
+        let (original, other) = p.original_and_other();
+        p.is_stored(distance::distance(original, other, p.width, p.height, p.x, p.y, p.depth))
+    }
+}
+
+// The answer is the sum of squared differences.
+#[derive(Drop)]
+pub struct Squares(Planes);
+
+impl Case for Squares {
+    fn parse(line: Numbers<'_>) -> Result<Self, LineError> {
+        Ok(Squares(Planes::parse(line)?))
+    }
+
+    fn holds(self) -> bool {
+        let p = &self.0;
+        let (original, other) = p.original_and_other();
+        p.is_stored(distance::squares(original, other, p.width, p.height, p.x, p.y, p.depth))
+    }
 }

@@ -1,68 +1,111 @@
 // The calls on numbers.
-use cdef_spec::{Answer, DampingAnswer, DifferenceAnswer, StrengthAnswer, WorkingDamping};
-
-// A number by its sign and size as an i32; one that is too large is the least i32.
-fn as_i32(minus: bool, size: u64) -> i32 {
-    if 0x7fff_ffff < size {
-        return -0x8000_0000;
-    }
-    if minus {
-        return 0 - size as i32;
-    }
-    size as i32
-}
-
-// The number that k numbers precede, which may have a sign.
-fn signed(line: &[u8], k: usize) -> i32 {
-    let at = testlib_lines::place(line, k);
-    if testlib_lines::byte_at(line, at) == b'-' {
-        return as_i32(true, testlib_lines::value_at(line, at + 1));
-    }
-    as_i32(false, testlib_lines::value_at(line, at))
-}
-
-// An answer as an error code; 0 where the work is done.
-pub fn code(answer: Answer) -> u64 {
-    match answer {
-        Answer::Done => 0,
-        Answer::Refused(n) => n as u64,
-    }
-}
+use crate::case::Case;
+use cdef_blocks::numbers;
+use cdef_spec::{DampingAnswer, DifferenceAnswer, StrengthAnswer, WorkingDamping};
+use testlib_lines::numbers::{LineError, Numbers};
 
 // difference strength damping code answer
-pub fn constrain(line: &[u8]) -> bool {
-    let difference = signed(line, 0);
-    let damping = WorkingDamping(testlib_lines::byte(line, 2));
-    match cdef_blocks::numbers::constrain(difference, testlib_lines::word(line, 1), damping) {
-        DifferenceAnswer::Difference(d) => testlib_lines::is(line, 3, 0)
-            && d == signed(line, 4)
-            && testlib_lines::place(line, 5) == line.len(),
-        DifferenceAnswer::NoDifference(n) => testlib_lines::ends(line, 3, n, 0),
+#[derive(Clone, Copy)]
+pub struct Constrain {
+    difference: i32,
+    strength: u32,
+    damping: WorkingDamping,
+    stored: (u32, i32),
+}
+
+impl Case for Constrain {
+    fn parse(mut line: Numbers<'_>) -> Result<Self, LineError> {
+        let case = Constrain {
+            difference: line.number()?,
+            strength: line.number()?,
+            damping: WorkingDamping(line.number()?),
+            stored: (line.number()?, line.number()?),
+        };
+        line.end()?;
+        Ok(case)
+    }
+
+    fn holds(self) -> bool {
+        let returned = match numbers::constrain(self.difference, self.strength, self.damping) {
+            DifferenceAnswer::Difference(d) => (0, d),
+            DifferenceAnswer::NoDifference(n) => (u32::from(n), 0),
+        };
+        returned == self.stored
     }
 }
 
 // strength variance code answer
-pub fn adjust(line: &[u8]) -> bool {
-    match cdef_blocks::numbers::adjust(testlib_lines::word(line, 0), testlib_lines::word(line, 1)) {
-        StrengthAnswer::Strength(s) => testlib_lines::ends(line, 2, 0, s as u64),
-        StrengthAnswer::NoStrength(n) => testlib_lines::ends(line, 2, n, 0),
+#[derive(Clone, Copy)]
+pub struct Adjust {
+    strength: u32,
+    variance: u32,
+    stored: (u32, u32),
+}
+
+impl Case for Adjust {
+    fn parse(mut line: Numbers<'_>) -> Result<Self, LineError> {
+        let case = Adjust {
+            strength: line.number()?,
+            variance: line.number()?,
+            stored: (line.number()?, line.number()?),
+        };
+        line.end()?;
+        Ok(case)
+    }
+
+    fn holds(self) -> bool {
+        let returned = match numbers::adjust(self.strength, self.variance) {
+            StrengthAnswer::Strength(s) => (0, s),
+            StrengthAnswer::NoStrength(n) => (u32::from(n), 0),
+        };
+        returned == self.stored
     }
 }
 
 // index code answer
-pub fn damping(line: &[u8]) -> bool {
-    match cdef_blocks::numbers::damping(testlib_lines::word(line, 0)) {
-        DampingAnswer::Damping(d) => testlib_lines::ends(line, 1, 0, d.0 as u64),
-        DampingAnswer::NoDamping(n) => testlib_lines::ends(line, 1, n, 0),
+#[derive(Clone, Copy)]
+pub struct Damping {
+    index: u32,
+    stored: (u32, u8),
+}
+
+impl Case for Damping {
+    fn parse(mut line: Numbers<'_>) -> Result<Self, LineError> {
+        let case = Damping {
+            index: line.number()?,
+            stored: (line.number()?, line.number()?),
+        };
+        line.end()?;
+        Ok(case)
+    }
+
+    fn holds(self) -> bool {
+        let returned = match numbers::damping(self.index) {
+            DampingAnswer::Damping(d) => (0, d.0),
+            DampingAnswer::NoDamping(n) => (u32::from(n), 0),
+        };
+        returned == self.stored
     }
 }
 
 // v code answer: nothing is rejected
-pub fn log2(line: &[u8]) -> bool {
-    testlib_lines::ends(
-        line,
-        1,
-        0,
-        arith_strength::log2_floor(testlib_lines::word(line, 0)) as u64,
-    )
+#[derive(Clone, Copy)]
+pub struct Log2Floor {
+    v: u32,
+    stored: (u32, u32),
+}
+
+impl Case for Log2Floor {
+    fn parse(mut line: Numbers<'_>) -> Result<Self, LineError> {
+        let case = Log2Floor {
+            v: line.number()?,
+            stored: (line.number()?, line.number()?),
+        };
+        line.end()?;
+        Ok(case)
+    }
+
+    fn holds(self) -> bool {
+        (0, arith_strength::log2_floor(self.v)) == self.stored
+    }
 }

@@ -1,50 +1,107 @@
-// The samples of a synthetic picture: slopes and squares with grain. The original has the same slopes and squares and other grain.
+// What makes a picture, and its samples and pairs.
 ghost use Rattle.std.specs.Prelude.{◌≤◌, ◌<◌};
 
-// 0 to 255, by a position and a seed.
-fn noise(k: usize, seed: u32) -> u32
-    requires { seed ≤ 1000 }
-    ensures { result ≤ 255 }
-{
-    let a = ((k % 65536) as u32 * 40503 + seed * 9973) % 65536;
-    let b = (a * 25173 + 13849) % 65536;
-    b / 256
+use crate::samples;
+use cdef_spec::{UnitPair, Visible};
+use std::alloc::{AllocError, Global};
+
+pub const WIDTH: usize = 72;
+
+pub const HEIGHT: usize = 136;
+
+pub const UNITS: usize = 6;
+
+pub const VISIBLE: Visible = Visible {
+    width: 70,
+    height: 131,
+};
+
+// Which plane of a picture it is; of chroma, with the subsampling flags.
+#[derive(Clone, Copy, Debug, PartialEq, Eq)]
+pub enum Layout {
+    Luma,
+    Chroma { sx: u8, sy: u8 },
 }
 
-// Slopes with squares of 6 by 5 on them.
-fn texture(x: usize, y: usize) -> u32
-    ensures { result ≤ 159 }
-{
-    let slope = ((x % 96 * 2 + y % 96) % 96) as u32;
-    if (x / 6 % 2 + y / 5 % 2) % 2 == 0 {
-        return slope;
+// The directions of the blocks: those of the luma picture with the same grain, or each of the eight in turn.
+#[derive(Clone, Copy, Debug, PartialEq, Eq)]
+pub enum Directions {
+    Found,
+    EachInTurn,
+}
+
+// What is printed of a picture, and what makes it; the grain also chooses the pairs.
+#[derive(Clone, Copy)]
+pub struct Picture {
+    pub title: &'static str,
+    pub layout: Layout,
+    pub depth: u8,
+    pub grain: u8,
+    pub directions: Directions,
+}
+
+impl Picture {
+    pub fn is_luma(&self) -> bool {
+        self.layout == Layout::Luma
     }
-    slope + 64
-}
 
-// A value of 8 bits at depth 8 or, with two more bits, at depth 10.
-fn at_depth(value: u32, fine: u32, depth: u8) -> u16
-    requires { (value ≤ 255) × (fine ≤ 255) }
-{
-    if depth == 8 {
-        return value as u16;
+    // Its width and its samples.
+    fn shape(&self) -> (usize, usize)
+        ensures { 0 < result.0 }
+    {
+        match self.layout {
+            Layout::Luma => (WIDTH, WIDTH * HEIGHT),
+            Layout::Chroma { sx, sy } => {
+                let width = if sx == 0 { WIDTH } else { WIDTH / 2 };
+                let height = if sy == 0 { HEIGHT } else { HEIGHT / 2 };
+                (width, width * height)
+            }
+        }
     }
-    (value * 4 + fine % 4) as u16
-}
 
-fn sample(k: usize, width: usize, depth: u8, seed: u32) -> u16
-    requires { (0 < width) × (seed ≤ 1000) }
-{
-    let grain = noise(k, seed);
-    let value = 26 + texture(k % width, k / width) + grain % 36;
-    at_depth(value, grain, depth)
-}
+    // The seed of its grain, which in chroma is not luma's.
+    fn seed(&self) -> u16
+        ensures { result ≤ 455 }
+    {
+        let grain = u16::from(self.grain);
+        if self.is_luma() { grain } else { grain + 200 }
+    }
 
-// Fills a plane with rows of the width.
-pub fn fill(plane: &mut [u16], width: usize, depth: u8, seed: u32)
-    requires { (0 < width) × (seed ≤ 1000) }
-{
-    for k in 0..plane.len() {
-        plane[k] = sample(k, width, depth, seed);
+    pub fn snapshot(&self, alloc: Global) -> Result<Vec<u16>, AllocError> {
+        let (width, count) = self.shape();
+        samples::plane(alloc, count, width, self.depth, self.seed())
+    }
+
+    // The picture that it was before coding.
+    pub fn original(&self, alloc: Global) -> Result<Vec<u16>, AllocError> {
+        let (width, count) = self.shape();
+        samples::plane(alloc, count, width, self.depth, self.seed() + 100)
+    }
+
+    // The luma picture with the same grain.
+    pub fn luma(&self, alloc: Global) -> Result<Vec<u16>, AllocError> {
+        samples::plane(
+            alloc,
+            WIDTH * HEIGHT,
+            WIDTH,
+            self.depth,
+            u16::from(self.grain),
+        )
+    }
+
+    // The trial number of a unit; each of the twelve comes up in some picture.
+    pub fn trial(&self, unit: usize) -> usize
+        ensures { result < 12 }
+    {
+        (unit % 12 * 5 + usize::from(self.grain) * 2 + 1) % 12
+    }
+
+    pub fn pair(&self, unit: usize) -> UnitPair {
+        arith_trials::trial_pair(self.trial(unit))
+    }
+
+    // The pair of each unit.
+    pub fn pairs(&self, alloc: Global) -> Result<Vec<UnitPair>, AllocError> {
+        (0..UNITS).map(|unit| self.pair(unit)).collect(alloc)
     }
 }

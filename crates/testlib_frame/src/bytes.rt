@@ -1,0 +1,59 @@
+// A file's bytes, read one part after the other.
+ghost use Rattle.std.specs.Prelude.{◌≡◌, length, IfOk};
+
+use std::num::TryFromIntError;
+
+// Why a file is not a frame.
+#[derive(Clone, Copy, Debug, PartialEq, Eq)]
+pub enum FrameError {
+    // It does not begin with CDEFRAW1.
+    Mark,
+
+    // A number of its header is outside the range that is read here.
+    Number,
+
+    // It is not as long as its header says.
+    Length,
+}
+
+impl From<TryFromIntError> for FrameError {
+    fn from(_e: TryFromIntError) -> FrameError {
+        FrameError::Number
+    }
+}
+
+// What of a file has not been read.
+#[derive(Clone, Copy)]
+pub struct Bytes<'a> {
+    rest: &'a [u8],
+}
+
+impl<'a> Bytes<'a> {
+    pub fn new(file: &'a [u8]) -> Self {
+        Bytes { rest: file }
+    }
+
+    // The next so many bytes.
+    pub fn take(&mut self, count: usize) -> Result<&'a [u8], FrameError>
+        ensures { IfOk result (λ bytes. length bytes.now ≡ count) }
+    {
+        let (bytes, rest) = self.rest.split_at_checked(count).ok_or(FrameError::Length)?;
+        self.rest = rest;
+        Ok(bytes)
+    }
+
+    // The next four bytes as a number, the low one first.
+    pub fn word(&mut self) -> Result<u32, FrameError> {
+        let (bytes, rest) = self.rest.split_first_chunk().ok_or(FrameError::Length)?;
+        self.rest = rest;
+        Ok(u32::from_le_bytes(*bytes))
+    }
+
+    // That nothing is left.
+    pub fn end(self) -> Result<(), FrameError> {
+        if self.rest.is_empty() {
+            return Ok(());
+        }
+        Err(FrameError::Length)
+    }
+}

@@ -1,0 +1,135 @@
+// The flags, the strengths and the samples of a file.
+ghost use Rattle.std.specs.Prelude.{◌≡◌, ◌*◌, length, IfOk};
+
+use crate::bytes::{Bytes, FrameError};
+use crate::header::Header;
+use std::alloc::{AllocError, Global};
+
+// Which plane of a frame.
+#[derive(Clone, Copy, Debug, PartialEq, Eq)]
+pub enum Component {
+    Y,
+    U,
+    V,
+}
+
+// The planes of a frame as a file stores them. Of a monochrome frame U and V are empty.
+#[derive(Clone, Copy)]
+struct Planes<'a> {
+    y: &'a [u8],
+    u: &'a [u8],
+    v: &'a [u8],
+}
+
+impl<'a> Planes<'a> {
+    fn read(file: &mut Bytes<'a>, header: Header) -> Result<Self, FrameError> {
+        let luma = header.bytes_of(header.luma_samples());
+        let chroma = header.bytes_of(header.chroma_samples());
+        Ok(Planes {
+            y: file.take(luma)?,
+            u: file.take(chroma)?,
+            v: file.take(chroma)?,
+        })
+    }
+
+    fn of(&self, component: Component) -> &'a [u8] {
+        match component {
+            Component::Y => self.y,
+            Component::U => self.u,
+            Component::V => self.v,
+        }
+    }
+}
+
+// A frame: per block a skip flag, and the planes before and after CDEF. A set is primary << 2 | coded secondary; indices has the set of each unit.
+#[derive(Clone, Copy)]
+pub struct Frame<'a> {
+    pub header: Header,
+    luma_sets: &'a [u8],
+    chroma_sets: &'a [u8],
+    indices: &'a [u8],
+    pub skip: &'a [u8],
+    before: Planes<'a>,
+    after: Planes<'a>,
+}
+
+// A coded secondary strength of 3 means 4.
+fn secondary(set: u8) -> u8 {
+    match set % 4 {
+        3 => 4,
+        coded => coded,
+    }
+}
+
+impl<'a> Frame<'a> {
+    pub fn parse(bytes: &'a [u8]) -> Result<Self, FrameError>
+        ensures { IfOk result (λ f. length f.skip.now ≡ f.header.blocks.columns * f.header.blocks.rows) }
+    {
+        let mut file = Bytes::new(bytes);
+        if file.take(8)? != b"CDEFRAW1".as_slice() {
+            return Err(FrameError::Mark);
+        }
+        let header = Header::read(&mut file)?;
+        let frame = Frame {
+            header,
+            luma_sets: file.take(8)?,
+            chroma_sets: file.take(8)?,
+            indices: file.take(header.units.count())?,
+            skip: file.take(header.blocks.count())?,
+            before: Planes::read(&mut file, header)?,
+            after: Planes::read(&mut file, header)?,
+        };
+        file.end()?;
+        Ok(frame)
+    }
+
+    // The set at an index; 0 where no index was signalled, or CDEF is off in the sequence.
+    fn set(&self, component: Component, index: u8) -> u8 {
+        if !self.header.enabled {
+            return 0;
+        }
+        let sets = if component == Component::Y {
+            self.luma_sets
+        } else {
+            self.chroma_sets
+        };
+        sets.get(usize::from(index)).copied().unwrap_or(0)
+    }
+
+    // The primary strength of each unit.
+    pub fn primaries(&self, alloc: Global, component: Component) -> Result<Vec<u8>, AllocError> {
+        self.indices
+            .iter()
+            .map(|&index| self.set(component, index) / 4)
+            .collect(alloc)
+    }
+
+    // The secondary strength of each unit.
+    pub fn secondaries(&self, alloc: Global, component: Component) -> Result<Vec<u8>, AllocError> {
+        self.indices
+            .iter()
+            .map(|&index| secondary(self.set(component, index)))
+            .collect(alloc)
+    }
+
+    // The samples of a plane before CDEF, and after it.
+    pub fn before(&self, alloc: Global, component: Component) -> Result<Vec<u16>, AllocError> {
+        self.samples(alloc, self.before.of(component))
+    }
+
+    pub fn after(&self, alloc: Global, component: Component) -> Result<Vec<u16>, AllocError> {
+        self.samples(alloc, self.after.of(component))
+    }
+
+    // One byte a sample at depth 8, else two, the low one first.
+    fn samples(&self, alloc: Global, bytes: &[u8]) -> Result<Vec<u16>, AllocError> {
+        if self.header.depth == 8 {
+            return bytes.iter().map(|&sample| u16::from(sample)).collect(alloc);
+        }
+        let (pairs, _) = bytes.as_chunks();
+        pairs
+            .iter()
+            .map(|&pair| u16::from_le_bytes(pair))
+            .collect(alloc)
+    }
+}

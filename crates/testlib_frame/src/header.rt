@@ -1,0 +1,104 @@
+// The numbers at the head of a file.
+ghost use Rattle.std.specs.Prelude.{◌≡◌, ◌*◌, ◌^◌, ◌<◌};
+
+use crate::bytes::{Bytes, FrameError};
+
+// The sixteen numbers, but for the visible sides, the bits of an index and the base index, which nothing here needs.
+#[derive(Clone, Copy, Debug, PartialEq, Eq)]
+pub struct Header {
+    pub depth: u8,
+    pub sx: u8,
+    pub sy: u8,
+    pub monochrome: bool,
+    pub width: u16,
+    pub height: u16,
+    pub damping: u8,
+    pub units: Grid,
+    pub blocks: Grid,
+    pub enabled: bool,
+}
+
+// Columns and rows, of units or of blocks.
+#[derive(Clone, Copy, Debug, PartialEq, Eq)]
+pub struct Grid {
+    pub columns: u16,
+    pub rows: u16,
+}
+
+impl Grid {
+    fn read(file: &mut Bytes<'_>) -> Result<Self, FrameError> {
+        Ok(Grid {
+            columns: u16::try_from(file.word()?)?,
+            rows: u16::try_from(file.word()?)?,
+        })
+    }
+
+    pub fn count(self) -> usize
+        ensures { result ≡ self.columns * self.rows }
+    {
+        usize::from(self.columns) * usize::from(self.rows)
+    }
+}
+
+// A side of luma as a side of chroma.
+fn halved(side: u16, flag: u8) -> u16 {
+    if flag == 0 { side } else { side / 2 }
+}
+
+impl Header {
+    pub fn read(file: &mut Bytes<'_>) -> Result<Self, FrameError> {
+        let depth = u8::try_from(file.word()?)?;
+        let sx = u8::try_from(file.word()?)?;
+        let sy = u8::try_from(file.word()?)?;
+        let monochrome = file.word()? != 0;
+        let width = u16::try_from(file.word()?)?;
+        let height = u16::try_from(file.word()?)?;
+        let _visible = file.take(8)?;
+        let damping = u8::try_from(file.word()?)?;
+        let _bits = file.word()?;
+        let units = Grid::read(file)?;
+        let blocks = Grid::read(file)?;
+        let _base = file.word()?;
+        let enabled = file.word()? % 2 == 1;
+        Ok(Header {
+            depth,
+            sx,
+            sy,
+            monochrome,
+            width,
+            height,
+            damping,
+            units,
+            blocks,
+            enabled,
+        })
+    }
+
+    // The samples of the luma plane, and of a chroma plane.
+    pub fn luma_samples(&self) -> usize
+        ensures bound { result < 2 ^ 32 }
+        ensures value { result ≡ self.now.width * self.now.height }
+    {
+        usize::from(self.width) * usize::from(self.height)
+    }
+
+    pub fn chroma_samples(&self) -> usize
+        ensures bound { result < 2 ^ 32 }
+    {
+        if self.monochrome {
+            return 0;
+        }
+        usize::from(halved(self.width, self.sx)) * usize::from(halved(self.height, self.sy))
+    }
+
+    // The bytes of so many samples.
+    pub fn bytes_of(&self, samples: usize) -> usize
+        requires { samples < 2 ^ 32 }
+    {
+        if self.depth == 8 {
+            samples
+        } else {
+            2 * samples
+        }
+    }
+}

@@ -1,60 +1,36 @@
 // The calls for the distance of two blocks.
 ghost use Rattle.std.specs.Prelude.{◌≡◌};
-ghost use Rattle.cdef_spec.specs.Answers.{read_distance};
+ghost use Rattle.cdef_spec.specs.Lent.{plane_in};
+ghost use Rattle.cdef_spec.specs.Answers.{read};
 ghost use Rattle.cdef_spec.specs.BlockCalls.{distance_outcome, squares_outcome};
 
-use cdef_spec::DistanceAnswer;
-use cdef_spec::full::FullPlane;
+use cdef_spec::{Plane, Refusal};
 
 // The weighted distance of the 8 by 8 blocks at (x, y); plain squares where they cross the right or bottom edge.
 pub fn distance(
-    orig: &[u16],
+    orig: &Plane<'_>,
     other: &[u16],
-    width: usize,
-    height: usize,
     x: usize,
     y: usize,
     depth: u8,
-) -> DistanceAnswer
-    ensures { read_distance result ≡ distance_outcome (record { samples = orig.now; width = width; height = height }) other.now
-        depth y x }
+) -> Result<i64, Refusal>
+    ensures { read result ≡ distance_outcome (plane_in orig.now) other.now depth y x }
 {
-    let no = check_block::distance::distance_no(orig, other, width, height, x, y, depth);
-    if no != 0 {
-        return DistanceAnswer::NoDistance(no);
-    }
-    let c = distance_weight::constants_of(depth);
-    let plane = FullPlane {
-        samples: orig,
-        width,
-        height,
-    };
-    let d = distance_block::cdef_dist_8x8(&plane, other, x, y, c);
-    DistanceAnswer::Distance(d as i64)
+    let full = check_block::distance::distance_no(orig, other, x, y, depth)?;
+    let constants = distance_weight::constants_of(depth);
+    Ok(distance_block::cdef_dist_8x8(&full, other, x, y, constants) as i64)
 }
 
 // The plain squares, that is the sum of squared differences (SSE), of the 8 by 8 blocks at (x, y), cropped to the plane.
 pub fn squares(
-    orig: &[u16],
+    orig: &Plane<'_>,
     other: &[u16],
-    width: usize,
-    height: usize,
     x: usize,
     y: usize,
     depth: u8,
-) -> DistanceAnswer
-    ensures { read_distance result ≡ squares_outcome (record { samples = orig.now; width = width; height = height }) other.now
-        depth y x }
+) -> Result<i64, Refusal>
+    ensures { read result ≡ squares_outcome (plane_in orig.now) other.now depth y x }
 {
-    let no = check_block::distance::distance_no(orig, other, width, height, x, y, depth);
-    if no != 0 {
-        return DistanceAnswer::NoDistance(no);
-    }
-    let plane = FullPlane {
-        samples: orig,
-        width,
-        height,
-    };
-    let d = distance_block::block_sse_8x8(&plane, other, x, y);
-    DistanceAnswer::Distance(d as i64)
+    let full = check_block::distance::distance_no(orig, other, x, y, depth)?;
+    Ok(distance_block::block_sse_8x8(&full, other, x, y) as i64)
 }

@@ -30,7 +30,7 @@ pub extern "C" fn quern_apply_luma(
         snapshot.now pris.now secs.now dst.old).plane }
 {
     let d = arith_damping::choice_of(damping, unstated);
-    answer::number(cdef_lists::apply_luma(
+    answer::frame_number(cdef_lists::apply_luma(
         dst, snapshot, width, height, depth, skip, dirs, vars, pris, secs, d,
     ))
 }
@@ -58,7 +58,7 @@ pub extern "C" fn quern_apply_chroma(
         (choice_of damping unstated) snapshot.now pris.now secs.now dst.old).plane }
 {
     let d = arith_damping::choice_of(damping, unstated);
-    answer::number(cdef_lists::apply_chroma(
+    answer::frame_number(cdef_lists::apply_chroma(
         dst, snapshot, width, height, sx, sy, depth, skip, dirs, pris, secs, d,
     ))
 }

@@ -4,7 +4,7 @@ ghost use Rattle.cdef_spec.specs.Answers.{number_of};
 ghost use Rattle.cdef_spec.specs.BlockCalls.{direction_outcome};
 ghost use Rattle.cdef_c.specs.Values.{value_or};
 
-use cdef_spec::DirectionAnswer;
+use cdef_spec::Plane;
 
 // The direction and the variance of the 8 by 8 block at (x, y).
 #[unsafe(no_mangle)]
@@ -26,12 +26,17 @@ pub extern "C" fn quern_direction(
         ≡ (value_or (record { direction = direction.entry.now; variance = variance.old })
         (direction_outcome (record { samples = plane.now; width = width; height = height }) depth y x)).variance }
 {
-    match cdef_blocks::direction::direction(plane, width, height, x, y, depth) {
-        DirectionAnswer::Direction(d, v) => {
-            *direction = d;
-            *variance = v;
+    let plane = Plane {
+        samples: plane,
+        width,
+        height,
+    };
+    match cdef_blocks::direction::direction(&plane, x, y, depth) {
+        Ok(found) => {
+            *direction = found.direction;
+            *variance = found.variance;
             0
         }
-        DirectionAnswer::NoDirection(n) => n as u32,
+        Err(refusal) => u32::from(refusal),
     }
 }

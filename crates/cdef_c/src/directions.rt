@@ -22,5 +22,5 @@ pub extern "C" fn quern_direction_pass(
     ensures vars_after { vars.new ≡ (direction_pass_outcome (record { samples = plane.now; width = width; height = height }) depth
         dirs.old vars.old).vars }
 {
-    answer::number(cdef::pass::direction_pass(dirs, vars, plane, width, height, depth))
+    answer::frame_number(cdef::pass::direction_pass(dirs, vars, plane, width, height, depth))
 }

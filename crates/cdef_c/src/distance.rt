@@ -4,7 +4,8 @@ ghost use Rattle.cdef_spec.specs.Answers.{number_of};
 ghost use Rattle.cdef_spec.specs.BlockCalls.{distance_outcome, squares_outcome};
 ghost use Rattle.cdef_c.specs.Values.{value_or};
 
-use cdef_spec::DistanceAnswer;
+use crate::answer::give;
+use cdef_spec::Plane;
 
 // The weighted distance of the 8 by 8 blocks at (x, y).
 #[unsafe(no_mangle)]
@@ -23,13 +24,12 @@ pub extern "C" fn quern_distance(
     ensures out_after { out.new ≡ value_or out.old
         (distance_outcome (record { samples = orig.now; width = width; height = height }) other.now depth y x) }
 {
-    match cdef_blocks::distance::distance(orig, other, width, height, x, y, depth) {
-        DistanceAnswer::Distance(d) => {
-            *out = d;
-            0
-        }
-        DistanceAnswer::NoDistance(n) => n as u32,
-    }
+    let orig = Plane {
+        samples: orig,
+        width,
+        height,
+    };
+    give(cdef_blocks::distance::distance(&orig, other, x, y, depth), out)
 }
 
 // The plain squares of the 8 by 8 blocks at (x, y).
@@ -49,11 +49,10 @@ pub extern "C" fn quern_squares(
     ensures out_after { out.new ≡ value_or out.old
         (squares_outcome (record { samples = orig.now; width = width; height = height }) other.now depth y x) }
 {
-    match cdef_blocks::distance::squares(orig, other, width, height, x, y, depth) {
-        DistanceAnswer::Distance(d) => {
-            *out = d;
-            0
-        }
-        DistanceAnswer::NoDistance(n) => n as u32,
-    }
+    let orig = Plane {
+        samples: orig,
+        width,
+        height,
+    };
+    give(cdef_blocks::distance::squares(&orig, other, x, y, depth), out)
 }

@@ -4,7 +4,7 @@ ghost use Rattle.cdef_spec.specs.Answers.{number_of};
 ghost use Rattle.cdef_spec.specs.BlockCalls.{filter_outcome};
 
 use crate::answer;
-use cdef_spec::{Block, FilterParams, WorkingDamping};
+use cdef_spec::{Block, FilterParams, Plane, WorkingDamping};
 
 // Filters the block at (x, y), bw by bh, of a plane into a destination of whole rows, whose first is the plane's row y0.
 #[unsafe(no_mangle)]
@@ -31,18 +31,23 @@ pub extern "C" fn quern_filter_block(
         (record { x = x; y = y; width = bw; height = bh })
         (record { pri = pri; sec = sec; dir = dir; damping = record { 0 = damping }; depth = depth }) y0 dst.old).dst }
 {
+    let plane = Plane {
+        samples: plane,
+        width,
+        height,
+    };
     let block = Block {
-        x: x,
-        y: y,
+        x,
+        y,
         width: bw,
         height: bh,
     };
     let params = FilterParams {
-        pri: pri,
-        sec: sec,
-        dir: dir,
+        pri,
+        sec,
+        dir,
         damping: WorkingDamping(damping),
-        depth: depth,
+        depth,
     };
-    answer::number(cdef_blocks::filter::filter_block(dst, y0, plane, width, height, block, params))
+    answer::number(cdef_blocks::filter::filter_block(dst, y0, &plane, block, params))
 }

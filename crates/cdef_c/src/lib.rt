@@ -1,5 +1,5 @@
 // The C entries. A call returns its error code (RULES, Questions), 0 where the work is done, and writes only then.
-#![tactic(auto)]
+#![tactic(auto, unfolding(cdef_spec::specs::Lent::plane_in, cdef_spec::specs::Answers::read_found))]
 
 mod answer; // answer.rt: answers as error codes
 pub mod applying; // applying.rt: a plane filtered

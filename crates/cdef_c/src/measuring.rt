@@ -49,7 +49,7 @@ pub extern "C" fn quern_measure_luma(
         secondary: secondary,
     };
     let d = arith_damping::choice_of(damping, unstated);
-    answer::number(cdef::measuring::measure_luma(
+    answer::frame_number(cdef::measuring::measure_luma(
         totals, scratch, plane, original, width, height, visible, depth, skip, dirs, vars, pair, d,
     ))
 }
@@ -96,7 +96,7 @@ pub extern "C" fn quern_measure_chroma(
         secondary: secondary,
     };
     let d = arith_damping::choice_of(damping, unstated);
-    answer::number(cdef::measuring::measure_chroma(
+    answer::frame_number(cdef::measuring::measure_chroma(
         totals, scratch, plane, original, width, height, sx, sy, visible, depth, skip, dirs, pair,
         d,
     ))

@@ -5,10 +5,8 @@ ghost use Rattle.cdef_spec.specs.Answers.{number_of};
 ghost use Rattle.cdef_spec.specs.BlockCalls.{constrain_outcome, adjust_outcome, damping_outcome, luma_damping_outcome, chroma_damping_outcome};
 ghost use Rattle.cdef_c.specs.Values.{value_or};
 
-use cdef_spec::{
-    DampingAnswer, DifferenceAnswer, SignalledDamping, StrengthAnswer, WorkingAnswer,
-    WorkingDamping,
-};
+use crate::answer::give;
+use cdef_spec::{SignalledDamping, WorkingDamping};
 
 // Constrains a difference.
 #[unsafe(no_mangle)]
@@ -16,13 +14,7 @@ pub extern "C" fn quern_constrain(difference: i32, strength: u32, damping: u8, o
     ensures value { result ≡ number_of (constrain_outcome difference strength (record { 0 = damping })) }
     ensures out_after { out.new ≡ value_or out.old (constrain_outcome difference strength (record { 0 = damping })) }
 {
-    match cdef_blocks::numbers::constrain(difference, strength, WorkingDamping(damping)) {
-        DifferenceAnswer::Difference(d) => {
-            *out = d;
-            0
-        }
-        DifferenceAnswer::NoDifference(n) => n as u32,
-    }
+    give(cdef_blocks::numbers::constrain(difference, strength, WorkingDamping(damping)), out)
 }
 
 // Adjusts a primary strength by a variance.
@@ -31,13 +23,7 @@ pub extern "C" fn quern_adjust_pri(strength: u32, variance: u32, out: &mut u32) 
     ensures value { result ≡ number_of (adjust_outcome strength variance) }
     ensures out_after { out.new ≡ value_or out.old (adjust_outcome strength variance) }
 {
-    match cdef_blocks::numbers::adjust(strength, variance) {
-        StrengthAnswer::Strength(s) => {
-            *out = s;
-            0
-        }
-        StrengthAnswer::NoStrength(n) => n as u32,
-    }
+    give(cdef_blocks::numbers::adjust(strength, variance), out)
 }
 
 // The signalled damping of a quality index.
@@ -46,13 +32,7 @@ pub extern "C" fn quern_damping(index: u32, out: &mut u8) -> u32
     ensures value { result ≡ number_of (damping_outcome index) }
     ensures out_after { out.new ≡ (value_or (record { 0 = out.old }) (damping_outcome index)).0 }
 {
-    match cdef_blocks::numbers::damping(index) {
-        DampingAnswer::Damping(d) => {
-            *out = d.0;
-            0
-        }
-        DampingAnswer::NoDamping(n) => n as u32,
-    }
+    give(cdef_blocks::numbers::damping(index).map(|d| d.0), out)
 }
 
 // The working damping of a luma plane.
@@ -61,13 +41,7 @@ pub extern "C" fn quern_luma_damping(signalled: u8, depth: u8, out: &mut u8) -> 
     ensures value { result ≡ number_of (luma_damping_outcome (record { 0 = signalled }) depth) }
     ensures out_after { out.new ≡ (value_or (record { 0 = out.old }) (luma_damping_outcome (record { 0 = signalled }) depth)).0 }
 {
-    match cdef_blocks::numbers::luma_damping(SignalledDamping(signalled), depth) {
-        WorkingAnswer::Working(d) => {
-            *out = d.0;
-            0
-        }
-        WorkingAnswer::NoWorking(n) => n as u32,
-    }
+    give(cdef_blocks::numbers::luma_damping(SignalledDamping(signalled), depth).map(|d| d.0), out)
 }
 
 // The working damping of a chroma plane.
@@ -76,13 +50,7 @@ pub extern "C" fn quern_chroma_damping(signalled: u8, depth: u8, out: &mut u8) -
     ensures value { result ≡ number_of (chroma_damping_outcome (record { 0 = signalled }) depth) }
     ensures out_after { out.new ≡ (value_or (record { 0 = out.old }) (chroma_damping_outcome (record { 0 = signalled }) depth)).0 }
 {
-    match cdef_blocks::numbers::chroma_damping(SignalledDamping(signalled), depth) {
-        WorkingAnswer::Working(d) => {
-            *out = d.0;
-            0
-        }
-        WorkingAnswer::NoWorking(n) => n as u32,
-    }
+    give(cdef_blocks::numbers::chroma_damping(SignalledDamping(signalled), depth).map(|d| d.0), out)
 }
 
 // The place of the highest set bit, 0 for 0: returned itself, since nothing is rejected.

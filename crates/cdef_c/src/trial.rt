@@ -5,7 +5,7 @@ ghost use Rattle.cdef_spec.specs.Answers.{number_of};
 ghost use Rattle.cdef_spec.specs.BlockCalls.{trial_outcome};
 
 use crate::answer;
-use cdef_spec::{Block, TrialWay, WorkingDamping};
+use cdef_spec::{Block, Plane, TrialWay, WorkingDamping};
 
 // Twelve trial blocks of the block at (x, y), bw by bh, of a luma plane, with its variance.
 #[unsafe(no_mangle)]
@@ -28,16 +28,21 @@ pub extern "C" fn quern_trial_luma(
     ensures out_after { out.new ≡ (trial_outcome (record { samples = plane.now; width = width; height = height })
         (record { x = x; y = y; width = bw; height = bh }) (Luma variance) dir (record { 0 = damping }) depth out.old).out }
 {
+    let plane = Plane {
+        samples: plane,
+        width,
+        height,
+    };
     let block = Block {
-        x: x,
-        y: y,
+        x,
+        y,
         width: bw,
         height: bh,
     };
     let way = TrialWay::Luma(variance);
     let damping = WorkingDamping(damping);
     answer::number(cdef_blocks::trial::trial(
-        out, plane, width, height, block, way, dir, damping, depth,
+        out, &plane, block, way, dir, damping, depth,
     ))
 }
 
@@ -61,15 +66,20 @@ pub extern "C" fn quern_trial_chroma(
     ensures out_after { out.new ≡ (trial_outcome (record { samples = plane.now; width = width; height = height })
         (record { x = x; y = y; width = bw; height = bh }) Chroma dir (record { 0 = damping }) depth out.old).out }
 {
+    let plane = Plane {
+        samples: plane,
+        width,
+        height,
+    };
     let block = Block {
-        x: x,
-        y: y,
+        x,
+        y,
         width: bw,
         height: bh,
     };
     let way = TrialWay::Chroma;
     let damping = WorkingDamping(damping);
     answer::number(cdef_blocks::trial::trial(
-        out, plane, width, height, block, way, dir, damping, depth,
+        out, &plane, block, way, dir, damping, depth,
     ))
 }

@@ -37,7 +37,7 @@ pub extern "C" fn quern_try_luma(
         height: visible_height,
     };
     let d = arith_damping::choice_of(damping, unstated);
-    answer::number(cdef::trying::try_luma(
+    answer::frame_number(cdef::trying::try_luma(
         totals, snapshot, original, width, height, visible, depth, skip, dirs, vars, d,
     ))
 }
@@ -73,7 +73,7 @@ pub extern "C" fn quern_try_chroma(
         height: visible_height,
     };
     let d = arith_damping::choice_of(damping, unstated);
-    answer::number(cdef::trying::try_chroma(
+    answer::frame_number(cdef::trying::try_chroma(
         totals, snapshot, original, width, height, sx, sy, visible, depth, skip, dirs, d,
     ))
 }

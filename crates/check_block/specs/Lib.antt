@@ -6,3 +6,4 @@ pub mod DirectionLaws
 pub mod DistanceLaws
 pub mod TrialParts
 pub mod TrialPartLaws
+pub mod CornerLaws

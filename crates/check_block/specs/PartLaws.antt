@@ -35,33 +35,6 @@ plane-facts p depth d s f =
     let h = side-le p.height b.1 in
     record { deep = e.0; flat = e.1; w-low = w.0; wide = w.1; h-low = h.0; high = h.1; full_is = full-length p f }
 
--- the three tests, where all pass
-pub record PlaneYes (p : Plane) (depth : ℕ) : Type 0 where
-  pub one : depth_taken depth ≡ true
-  pub two : side_taken p.width && side_taken p.height ≡ true
-  pub four : full p ≡ true
-
-pub plane-taken : (p : Plane) (depth : ℕ) → first_no (plane_first p depth) ≡ 0 → PlaneYes p depth
-plane-taken p depth z =
-    let a = first-yes _ _ (λ e. omega arith) z in
-    let b = first-yes _ _ (λ e. omega arith) a.1 in
-    let c = first-yes _ _ (λ e. omega arith) b.1 in
-    record { one = a.0; two = b.0; four = c.0 }
-
-pub plane-yes : (p : Plane) (depth : ℕ) → first_no (plane_first p depth) ≡ 0 → PlaneFacts p depth
-plane-yes p depth z = let y = plane-taken p depth z in plane-facts p depth y.one y.two y.four
-
--- with more questions after these: their error code comes first, and where they pass the others are checked
-module _ (p : Plane) (depth : ℕ) (rest : List Question) where
-  plane-join : first_no (plane_first p depth ++ rest) ≡ cond (eqb (first_no (plane_first p depth)) 0) (first_no rest) (first_no (plane_first p depth))
-  plane-join = first-join (plane_first p depth) rest (more (λ e. omega arith) (more (λ e. omega arith) (more (λ e. omega arith) none)))
-
-  pub plane-stops : (n : ℕ) → n ≡ first_no (plane_first p depth) → (n ≡ 0 → ⊥) → n ≡ first_no (plane_first p depth ++ rest)
-  plane-stops n e h = sym (plane-join ∙ rw (← e, ne_eqb n 0 h))
-
-  pub plane-passed : first_no (plane_first p depth) ≡ 0 → first_no (plane_first p depth ++ rest) ≡ first_no rest
-  plane-passed z = plane-join ∙ rw z
-
 -- ---- 5
 
 pub record BlockFacts (p : Plane) (b : Block) : Type 0 where
@@ -139,43 +112,19 @@ module _ (p : Plane) (b : Block) (q : FilterParams) (y0 : ℕ) (dst : List ℕ) 
   unfolding filter_no
   filter-no = first-join (filter_first p b q y0 dst) (ask 9 (widened_taken p q.depth b) ∷ []) (more (λ e. omega arith) (more (λ e. omega arith) (more (λ e. omega arith) (more (λ e. omega arith) (more (λ e. omega arith) (more (λ e. omega arith) none))))))
 
-  pub filter-refused : (n : ℕ) → n ≡ first_no (filter_first p b q y0 dst) → (n ≡ 0 → ⊥) → (refused n ≡ (filter_outcome p b q y0 dst).answer) × (dst ≡ (filter_outcome p b q y0 dst).dst)
+  pub filter-refused : (n : ℕ) → n ≡ first_no (filter_first p b q y0 dst) → (n ≡ 0 → ⊥) → filter_outcome p b q y0 dst ≡ record { answer = refused n; dst = dst }
   unfolding filter_outcome result_of
-  filter-refused n e h = rw (filter-no, ← e, ne_eqb n 0 h) (rw (ne_eqb n 0 h), rw (ne_eqb n 0 h))
+  filter-refused n e h = rw (filter-no, ← e, ne_eqb n 0 h) (rw (ne_eqb n 0 h))
 
-  pub filter-samples : first_no (filter_first p b q y0 dst) ≡ 0 → (n : ℕ) → n ≡ first_no (ask 9 (widened_taken p q.depth b) ∷ []) → (n ≡ 0 → ⊥) → (refused n ≡ (filter_outcome p b q y0 dst).answer) × (dst ≡ (filter_outcome p b q y0 dst).dst)
+  pub filter-samples : first_no (filter_first p b q y0 dst) ≡ 0 → (n : ℕ) → n ≡ first_no (ask 9 (widened_taken p q.depth b) ∷ []) → (n ≡ 0 → ⊥) → filter_outcome p b q y0 dst ≡ record { answer = refused n; dst = dst }
   unfolding filter_outcome result_of
-  filter-samples z n e h = rw (filter-no, z, ← e, ne_eqb n 0 h) (refl, refl)
+  filter-samples z n e h = rw (filter-no, z, ← e, ne_eqb n 0 h)
 
   pub filter-done : first_no (filter_first p b q y0 dst) ≡ 0 → widened_taken p q.depth b ≡ true → (last : List ℕ)
       → last ≡ put_block dst p.width (λ r c. filtered p q (y0 + r) c) (b.y - y0) b.x (min b.width (p.width - b.x)) (min b.height (p.height - b.y))
-      → (taken nothing ≡ (filter_outcome p b q y0 dst).answer) × (last ≡ (filter_outcome p b q y0 dst).dst)
+      → filter_outcome p b q y0 dst ≡ record { answer = taken nothing; dst = last }
   unfolding filter_outcome result_of first_no
   filter-done z e last l =
       let f = filter-facts z in
-      rw (filter-no, z, e) (refl, l ∙ block-table p b q y0 dst f.block.x-in f.start)
-
--- ---- the first six, by the first three
-
-module _ (p : Plane) (b : Block) (q : FilterParams) (y0 : ℕ) (dst : List ℕ) where
-  abbrev later : List Question
-  later = ask 5 (block_taken p b) ∷ ask 6 (rows_taken p b y0 dst) ∷ ask 8 (params_taken q) ∷ []
-
-  pub six-plane : (n : ℕ) → n ≡ first_no (plane_first p q.depth) → (n ≡ 0 → ⊥) → n ≡ first_no (filter_first p b q y0 dst)
-  six-plane = plane-stops p q.depth later
-
-  module _ (z : first_no (plane_first p q.depth) ≡ 0) where
-    rest : first_no (filter_first p b q y0 dst) ≡ first_no later
-    rest = plane-passed p q.depth later z
-
-    pub six-block : block_taken p b ≡ false → 5 ≡ first_no (filter_first p b q y0 dst)
-    six-block e = sym (rest ∙ (unfold first_no in rw e))
-
-    pub six-rows : block_taken p b ≡ true → rows_taken p b y0 dst ≡ false → 6 ≡ first_no (filter_first p b q y0 dst)
-    six-rows e f = sym (rest ∙ (unfold first_no in rw (e, f)))
-
-    pub six-params : block_taken p b ≡ true → rows_taken p b y0 dst ≡ true → params_taken q ≡ false → 8 ≡ first_no (filter_first p b q y0 dst)
-    six-params e f g = sym (rest ∙ (unfold first_no in rw (e, f, g)))
-
-    pub six-yes : block_taken p b ≡ true → rows_taken p b y0 dst ≡ true → params_taken q ≡ true → 0 ≡ first_no (filter_first p b q y0 dst)
-    six-yes e f g = sym (rest ∙ (unfold first_no in rw (e, f, g)))
+      let t = l ∙ block-table p b q y0 dst f.block.x-in f.start in
+      rw (filter-no, z, e, t)

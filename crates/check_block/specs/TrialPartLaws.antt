@@ -12,9 +12,8 @@ use Rattle.cdef_spec.specs.Answers.{taken, refused, nothing, result_of}
 use Rattle.cdef_spec.specs.Questions.{Question, ask, first_no, block_taken, way_taken, working_taken, widened_taken}
 use Rattle.cdef_spec.specs.QuestionLaws.{first-yes, first-join, none, more}
 use Rattle.cdef_spec.specs.BlockCalls.{trial_no, trial_place, trial_outcome}
-use Rattle.check_block.specs.Parts.{plane_first}
 use Rattle.check_block.specs.TrialParts.{trial_first}
-use Rattle.check_block.specs.PartLaws.{PlaneFacts, plane-facts, BlockFacts, block-facts, plane-stops, plane-passed}
+use Rattle.check_block.specs.PartLaws.{PlaneFacts, plane-facts, BlockFacts, block-facts}
 use Rattle.check_values.specs.YesLaws.{working-le}
 
 pub record TrialFacts (p : Plane) (b : Block) (dir : ℕ) (damping : WorkingDamping) (depth : ℕ) (out : List ℕ) : Type 0 where
@@ -42,38 +41,15 @@ module _ (p : Plane) (b : Block) (way : TrialWay) (dir : ℕ) (damping : Working
   unfolding trial_no
   trial-no = first-join (trial_first p b way dir damping depth out) (ask 9 (widened_taken p depth b) ∷ []) (more (λ e. omega arith) (more (λ e. omega arith) (more (λ e. omega arith) (more (λ e. omega arith) (more (λ e. omega arith) (more (λ e. omega arith) none))))))
 
-  pub trial-refused : (n : ℕ) → n ≡ first_no (trial_first p b way dir damping depth out) → (n ≡ 0 → ⊥) → (refused n ≡ (trial_outcome p b way dir damping depth out).answer) × (out ≡ (trial_outcome p b way dir damping depth out).out)
+  pub trial-refused : (n : ℕ) → n ≡ first_no (trial_first p b way dir damping depth out) → (n ≡ 0 → ⊥) → trial_outcome p b way dir damping depth out ≡ record { answer = refused n; out = out }
   unfolding trial_outcome result_of
-  trial-refused n e h = rw (trial-no, ← e, ne_eqb n 0 h) (rw (ne_eqb n 0 h), rw (ne_eqb n 0 h))
+  trial-refused n e h = rw (trial-no, ← e, ne_eqb n 0 h) (rw (ne_eqb n 0 h))
 
-  pub trial-samples : first_no (trial_first p b way dir damping depth out) ≡ 0 → (n : ℕ) → n ≡ first_no (ask 9 (widened_taken p depth b) ∷ []) → (n ≡ 0 → ⊥) → (refused n ≡ (trial_outcome p b way dir damping depth out).answer) × (out ≡ (trial_outcome p b way dir damping depth out).out)
+  pub trial-samples : first_no (trial_first p b way dir damping depth out) ≡ 0 → (n : ℕ) → n ≡ first_no (ask 9 (widened_taken p depth b) ∷ []) → (n ≡ 0 → ⊥) → trial_outcome p b way dir damping depth out ≡ record { answer = refused n; out = out }
   unfolding trial_outcome result_of
-  trial-samples z n e h = rw (trial-no, z, ← e, ne_eqb n 0 h) (refl, refl)
+  trial-samples z n e h = rw (trial-no, z, ← e, ne_eqb n 0 h)
 
   pub trial-done : first_no (trial_first p b way dir damping depth out) ≡ 0 → widened_taken p depth b ≡ true → (last : List ℕ) → last ≡ table 768 (trial_place p b way dir damping depth out)
-      → (taken nothing ≡ (trial_outcome p b way dir damping depth out).answer) × (last ≡ (trial_outcome p b way dir damping depth out).out)
+      → trial_outcome p b way dir damping depth out ≡ record { answer = taken nothing; out = last }
   unfolding trial_outcome result_of first_no
-  trial-done z e last l = rw (trial-no, z, e) (refl, l)
-
-  -- ---- the first six, by the first three
-  abbrev later : List Question
-  later = ask 5 (block_taken p b) ∷ ask 7 (eqb (length out) 768) ∷ ask 8 (ltb dir 8 && (way_taken way && working_taken damping)) ∷ []
-
-  pub trial-plane : (n : ℕ) → n ≡ first_no (plane_first p depth) → (n ≡ 0 → ⊥) → n ≡ first_no (trial_first p b way dir damping depth out)
-  trial-plane = plane-stops p depth later
-
-  module _ (z : first_no (plane_first p depth) ≡ 0) where
-    rest : first_no (trial_first p b way dir damping depth out) ≡ first_no later
-    rest = plane-passed p depth later z
-
-    pub trial-block : block_taken p b ≡ false → 5 ≡ first_no (trial_first p b way dir damping depth out)
-    trial-block e = sym (rest ∙ (unfold first_no in rw e))
-
-    pub trial-long : block_taken p b ≡ true → eqb (length out) 768 ≡ false → 7 ≡ first_no (trial_first p b way dir damping depth out)
-    trial-long e f = sym (rest ∙ (unfold first_no in rw (e, f)))
-
-    pub trial-params : block_taken p b ≡ true → eqb (length out) 768 ≡ true → ltb dir 8 && (way_taken way && working_taken damping) ≡ false → 8 ≡ first_no (trial_first p b way dir damping depth out)
-    trial-params e f g = sym (rest ∙ (unfold first_no in rw (e, f, g)))
-
-    pub trial-yes : block_taken p b ≡ true → eqb (length out) 768 ≡ true → ltb dir 8 && (way_taken way && working_taken damping) ≡ true → 0 ≡ first_no (trial_first p b way dir damping depth out)
-    trial-yes e f g = sym (rest ∙ (unfold first_no in rw (e, f, g)))
+  trial-done z e last l = rw (trial-no, z, e, l)

@@ -23,8 +23,8 @@ module _ (p : Plane) (b : Block) (depth : ℕ) (f : PlaneFacts p depth) (g : Blo
   window-asked n w e h = rw (← window-taken-is p b depth g.x-in g.y-in g.bw g.bh, ← e) h
 
   -- where it passes, the samples are in range, and the window's entries are bounded
-  pub widened-so : (n : ℕ) → n ≡ first_no (ask 9 (widened_taken p depth b) ∷ []) → n ≡ 0 → widened_taken p depth b ≡ true
-  widened-so n e z = (first-yes _ _ (λ e. omega arith) (sym e ∙ z)).0
+  pub widened-so : (w : List ℕ) → w ≡ upto (window_at p b) 144 → 0 ≡ first_no (ask 9 (every 144 (λ k. sample_or_mark depth (get_or w k 0))) ∷ []) → widened_taken p depth b ≡ true
+  widened-so w e h = (first-yes _ _ (λ e. omega arith) (sym (window-asked 0 w e h))).0
 
   pub marked-so : widened_taken p depth b ≡ true → Marked (upto (window_at p b) 144)
   marked-so t = window-marked p b depth g.x-in g.y-in g.bw g.bh f.flat (window-taken-is p b depth g.x-in g.y-in g.bw g.bh ∙ t)

@@ -1,34 +1,44 @@
 // The checks of the distances.
-ghost use Rattle.std.specs.Prelude.{◌≡◌};
+ghost use Rattle.std.specs.Prelude.{◌≡◌, IfOk};
+ghost use Rattle.cdef_spec.specs.Lent.{plane_in, plane_in_full};
+ghost use Rattle.cdef_spec.specs.Answers.{code_of};
 ghost use Rattle.cdef_spec.specs.BlockCalls.{distance_no};
 
-// 1, 2, 4, 5 and 9 of an original and another plane: the error code of the first that fails, or 0.
-pub fn distance_no(
-    orig: &[u16],
+use crate::full_plane;
+use cdef_spec::full::FullPlane;
+use cdef_spec::{Plane, Refusal};
+
+// 1, 2, 4, 5 and 9 of an original and another plane of its sides.
+#[tactic(
+    auto,
+    unfolding(
+        cdef_spec::specs::Answers::code_of,
+        cdef_spec::specs::Answers::error_code,
+        cdef_spec::specs::Questions::first_no,
+        cdef_spec::specs::Lent::plane_in,
+        cdef_spec::specs::BlockCalls::distance_no
+    )
+)]
+pub fn distance_no<'a>(
+    orig: &Plane<'a>,
     other: &[u16],
-    width: usize,
-    height: usize,
     x: usize,
     y: usize,
     depth: u8,
-) -> u8
-    ensures { result ≡ distance_no (record { samples = orig.now; width = width; height = height }) other.now depth y x }
+) -> Result<FullPlane<'a>, Refusal>
+    ensures first_no { code_of result ≡ distance_no (plane_in orig.now) other.now depth y x }
+    ensures same { IfOk result (λ p. plane_in_full p ≡ plane_in orig.now) }
 {
-    let no = crate::plane_no(orig, width, height, depth);
-    if no != 0 {
-        return no;
+    let full = full_plane(orig, depth)?;
+    let second = full_plane(&Plane { samples: other, ..*orig }, depth)?;
+    if !check_sides::corner_taken(orig, x, y) {
+        return Err(Refusal::Position);
     }
-    if !check_sides::full(other, width, height) {
-        return 4;
+    if !check_samples::cut_taken(&full, x, y, depth) {
+        return Err(Refusal::Samples);
     }
-    if !check_sides::corner_taken(width, height, x, y) {
-        return 5;
+    if !check_samples::cut_taken(&second, x, y, depth) {
+        return Err(Refusal::Samples);
     }
-    if !check_samples::cut_taken(orig, width, height, x, y, depth) {
-        return 9;
-    }
-    if !check_samples::cut_taken(other, width, height, x, y, depth) {
-        return 9;
-    }
-    0
+    Ok(full)
 }

@@ -1,51 +1,49 @@
 // The checks of the block filter.
-ghost use Rattle.std.specs.Prelude.{◌≡◌, List, ℕ, ◌≤◌, ◌<◌};
-ghost use Rattle.cdef_spec.specs.Document01.{Plane};
+ghost use Rattle.std.specs.Prelude.{◌≡◌, ◌≤◌, ◌<◌, IfOk};
+ghost use Rattle.cdef_spec.specs.Lent.{plane_in, plane_in_full};
+ghost use Rattle.cdef_spec.specs.Answers.{code_of};
 ghost use Rattle.cdef_spec.specs.Questions.{first_no, rows_taken};
 ghost use Rattle.check_block.specs.Parts.{filter_first};
 
-use cdef_spec::{Block, FilterParams};
+use crate::{block_taken, full_plane};
+use cdef_spec::full::FullPlane;
+use cdef_spec::{Block, FilterParams, Plane, Refusal};
 
 // 6: a destination of whole rows that starts at or above the block and reaches its end, or the plane's.
-fn rows_taken(dst: &[u16], y0: usize, width: usize, height: usize, b: Block) -> bool
-    requires { (0 < width) × (b.y < height) × (height ≤ 4096) × (b.height ≤ 8) }
-    ensures { (s : List ℕ) → result ≡ rows_taken (record { samples = s; width = width; height = height }) b y0 dst.now }
+#[tactic(
+    auto,
+    unfolding(cdef_spec::specs::Questions::rows_taken, cdef_spec::specs::Lent::plane_in)
+)]
+fn rows_taken(dst: &[u16], y0: usize, plane: &Plane<'_>, b: Block) -> bool
+    requires sides { (0 < plane.now.width) × (plane.now.height ≤ 4096) }
+    requires block_in { (b.y < plane.now.height) × (b.height ≤ 8) }
+    ensures { result ≡ rows_taken (plane_in plane.now) b y0 dst.now }
 {
-    if dst.len() % width != 0 {
-        return false;
-    }
-    if b.y < y0 {
-        return false;
-    }
-    let below = b.y + b.height;
-    let end = if below < height { below } else { height };
-    end - y0 <= dst.len() / width
+    dst.len() % plane.width == 0
+        && y0 <= b.y
+        && (b.y + b.height).min(plane.height) - y0 <= dst.len() / plane.width
 }
 
 // 1, 2, 4, 5, 6 and 8 of the block filter.
-pub fn filter_no(
+pub fn filter_no<'a>(
     dst: &[u16],
     y0: usize,
-    plane: &[u16],
-    width: usize,
-    height: usize,
+    plane: &Plane<'a>,
     b: Block,
     q: FilterParams,
-) -> u8
-    ensures { result ≡ first_no (filter_first (record { samples = plane.now; width = width; height = height }) b q y0 dst.now) }
+) -> Result<FullPlane<'a>, Refusal>
+    ensures first_no { code_of result ≡ first_no (filter_first (plane_in plane.now) b q y0 dst.now) }
+    ensures same { IfOk result (λ p. plane_in_full p ≡ plane_in plane.now) }
 {
-    let no = crate::plane_no(plane, width, height, q.depth);
-    if no != 0 {
-        return no;
+    let full = full_plane(plane, q.depth)?;
+    if !block_taken(plane, b) {
+        return Err(Refusal::Position);
     }
-    if !crate::block_taken(width, height, b) {
-        return 5;
-    }
-    if !rows_taken(dst, y0, width, height, b) {
-        return 6;
+    if !rows_taken(dst, y0, plane, b) {
+        return Err(Refusal::Destination);
     }
     if !check_values::params_taken(q) {
-        return 8;
+        return Err(Refusal::Values);
     }
-    0
+    Ok(full)
 }

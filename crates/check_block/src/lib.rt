@@ -1,63 +1,87 @@
-// The checks of the calls on one block, in order: each returns the error code of the first that fails, or 0. No public function of the crate requires anything.
-#![tactic(auto)]
+// The checks of the calls on one block, in order: each returns why the first that fails does. No public function of the crate requires anything.
+#![tactic(
+    auto,
+    unfolding(
+        cdef_spec::specs::Answers::code_of,
+        cdef_spec::specs::Answers::error_code,
+        cdef_spec::specs::Questions::first_no,
+        cdef_spec::specs::BlockCalls::direction_no,
+        cdef_spec::specs::BlockCalls::distance_no
+    )
+)]
 
-ghost use Rattle.std.specs.Prelude.{◌≡◌, ◌&&◌, List, [], ◌∷◌, ℕ};
-ghost use Rattle.cdef_spec.specs.Document01.{Plane};
-ghost use Rattle.cdef_spec.specs.Questions.{ask, first_no, depth_taken, side_taken, full as full_plane, block_taken};
+ghost use Rattle.std.specs.Prelude.{◌≡◌, ◌≤◌, IfOk};
+ghost use Rattle.cdef_spec.specs.Lent.{plane_in, plane_in_full};
+ghost use Rattle.cdef_spec.specs.Answers.{code_of};
+ghost use Rattle.cdef_spec.specs.Questions.{first_no, block_taken};
 ghost use Rattle.cdef_spec.specs.BlockCalls.{direction_no};
+ghost use Rattle.check_block.specs.Parts.{plane_first};
 
-use cdef_spec::Block;
+use cdef_spec::full::FullPlane;
+use cdef_spec::{Block, Plane, Refusal};
 
 pub mod distance; // distance.rt: the checks of the distances
 pub mod filter; // filter.rt: the checks of the block filter
 pub mod trial; // trial.rt: the checks of the trial
 
 // 1, 2 and 4: the depth, the sides, the plane's length.
-pub fn plane_no(plane: &[u16], width: usize, height: usize, depth: u8) -> u8
-    ensures { result ≡ first_no (ask 1 (depth_taken depth) ∷ ask 2 (side_taken width && side_taken height) ∷ ask 4
-        (full_plane (record { samples = plane.now; width = width; height = height })) ∷ []) }
+#[tactic(
+    auto,
+    unfolding(
+        cdef_spec::specs::Answers::code_of,
+        cdef_spec::specs::Answers::error_code,
+        cdef_spec::specs::Questions::first_no,
+        cdef_spec::specs::Lent::plane_in,
+        cdef_spec::specs::Lent::plane_in_full
+    )
+)]
+pub fn full_plane<'a>(plane: &Plane<'a>, depth: u8) -> Result<FullPlane<'a>, Refusal>
+    ensures first_no { code_of result ≡ first_no (plane_first (plane_in plane.now) depth) }
+    ensures same { IfOk result (λ p. plane_in_full p ≡ plane_in plane.now) }
+    ensures in_range { IfOk result (λ p. (8 ≤ depth) × (depth ≤ 12) × (1 ≤ p.width) × (1 ≤ p.height)) }
 {
     if !check_sides::depth_taken(depth) {
-        return 1;
+        return Err(Refusal::Depth);
     }
-    if !check_sides::side_taken(width) {
-        return 2;
+    if !(check_sides::side_taken(plane.width) && check_sides::side_taken(plane.height)) {
+        return Err(Refusal::Sides);
     }
-    if !check_sides::side_taken(height) {
-        return 2;
+    if !check_sides::full(plane) {
+        return Err(Refusal::PlaneLength);
     }
-    if !check_sides::full(plane, width, height) {
-        return 4;
-    }
-    0
+    Ok(FullPlane {
+        samples: plane.samples,
+        width: plane.width,
+        height: plane.height,
+    })
 }
 
 // 5: a block that begins in the plane.
-pub fn block_taken(width: usize, height: usize, b: Block) -> bool
-    ensures { (s : List ℕ) → result ≡ block_taken (record { samples = s; width = width; height = height }) b }
+#[tactic(auto, unfolding(cdef_spec::specs::Questions::block_taken))]
+pub fn block_taken(plane: &Plane<'_>, b: Block) -> bool
+    ensures { result ≡ block_taken (plane_in plane.now) b }
 {
-    if !check_sides::corner_taken(width, height, b.x, b.y) {
-        return false;
-    }
-    if !check_sides::block_side_taken(b.width) {
-        return false;
-    }
-    check_sides::block_side_taken(b.height)
+    check_sides::corner_taken(plane, b.x, b.y)
+        && check_sides::block_side_taken(b.width)
+        && check_sides::block_side_taken(b.height)
 }
 
 // 1, 2, 4, 5 and 9 of the direction of a block.
-pub fn direction_no(plane: &[u16], width: usize, height: usize, x: usize, y: usize, depth: u8) -> u8
-    ensures { result ≡ direction_no (record { samples = plane.now; width = width; height = height }) depth y x }
+pub fn direction_no<'a>(
+    plane: &Plane<'a>,
+    x: usize,
+    y: usize,
+    depth: u8,
+) -> Result<FullPlane<'a>, Refusal>
+    ensures first_no { code_of result ≡ direction_no (plane_in plane.now) depth y x }
+    ensures same { IfOk result (λ p. plane_in_full p ≡ plane_in plane.now) }
 {
-    let no = plane_no(plane, width, height, depth);
-    if no != 0 {
-        return no;
+    let full = full_plane(plane, depth)?;
+    if !check_sides::corner_taken(plane, x, y) {
+        return Err(Refusal::Position);
     }
-    if !check_sides::corner_taken(width, height, x, y) {
-        return 5;
+    if !check_samples::cut_taken(&full, x, y, depth) {
+        return Err(Refusal::Samples);
     }
-    if !check_samples::cut_taken(plane, width, height, x, y, depth) {
-        return 9;
-    }
-    0
+    Ok(full)
 }

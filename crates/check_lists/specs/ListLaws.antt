@@ -8,6 +8,7 @@ use Prim.Native.Nat.{ℕ, zero, suc, ◌+◌, ◌*◌, ◌/◌, ◌^◌, ◌≤�
 use Rattle.std.proofs.Math.Numerals.{add-one}
 use borrow.Author.Tests.{lt-ltb, le-ltb}
 use Rattle.std.specs.Int.Bits.{bit_or}
+use Rattle.std.specs.List.{list_all}
 use Rattle.std.proofs.Math.Dec.{ltb}
 use Rattle.cdef_spec.specs.Words.{every}
 use Rattle.cdef_spec.specs.WordsLaws.{and-make}
@@ -62,42 +63,19 @@ module _ (f : ℕ → Bool) where
   all-every [] = refl
   all-every (x ∷ xs) = every_front (length xs) (λ k. f (get_or (x ∷ xs) k 0)) ∙ rw (all-every xs)
 
-  -- none checked yet, one more, and a failure at k
-  pub every-none : every 0 f ≡ true
-  unfolding every
-  every-none = refl
-
-  pub every_more : (k : ℕ) → every k f ≡ true → f k ≡ true → every (k + 1) f ≡ true
-  unfolding every
-  every_more k e h = rw (add-one k) (and-make e h)
-
-  pub no-at : (l : List ℕ) (k : ℕ) → k < length l → f (get_or l k 0) ≡ false → false ≡ all_taken f l
-  unfolding all_taken
-  no-at [] k h e = absurd (omega arith)
-  no-at (x ∷ xs) zero h e = rw e
-  no-at (x ∷ xs) (suc k) h e = go (f x) (no-at xs k (omega arith) e)
-    where
-      go : (b : Bool) → false ≡ all_taken f xs → false ≡ b && all_taken f xs
-      go true e = e
-      go false e = refl
-
-  -- at the end of the loop
-  pub yes-all : (l : List ℕ) (k : ℕ) → every k (λ j. f (get_or l j 0)) ≡ true → k ≡ length l → true ≡ all_taken f l
-  yes-all l k e h = sym e ∙ rw h (all-every l)
-
 pub below-taken : (m : ℕ) (l : List ℕ) → all_taken (λ x. ltb x m) l ≡ all_below m l
 unfolding all_below all_taken
 below-taken m [] = refl
 below-taken m (x ∷ xs) = rw (below-taken m xs)
 
-pub no-below : (m : ℕ) (l : List ℕ) (k : ℕ) → k < length l → m ≤ get_or l k 0 → false ≡ all_below m l
-no-below m l k h e = no-at (λ x. ltb x m) l k h (le-ltb (get_or l k 0) m e) ∙ below-taken m l
+-- what `all` answers, of these tests
+pub all-taken : (f : ℕ → Bool) (l : List ℕ) → list_all f l ≡ all_taken f l
+unfolding all_taken
+all-taken f [] = refl
+all-taken f (x ∷ xs) = rw (all-taken f xs)
 
-pub more-below : (m : ℕ) (l : List ℕ) (k : ℕ) → every k (λ j. ltb (get_or l j 0) m) ≡ true → get_or l k 0 < m → every (k + 1) (λ j. ltb (get_or l j 0) m) ≡ true
-more-below m l k e h = every_more (λ j. ltb (get_or l j 0) m) k e (lt-ltb (get_or l k 0) m h)
-
-pub yes-below : (m : ℕ) (l : List ℕ) (k : ℕ) → every k (λ j. ltb (get_or l j 0) m) ≡ true → k ≡ length l → true ≡ all_below m l
-yes-below m l k e h = yes-all (λ x. ltb x m) l k e h ∙ below-taken m l
+pub all-below : (m : ℕ) (l : List ℕ) → list_all (λ x. ltb x m) l ≡ all_below m l
+all-below m l = all-taken (λ x. ltb x m) l ∙ below-taken m l
 
 -- the bits of the first k samples
 module _ (d : ℕ) (l : List ℕ) where

@@ -4,27 +4,17 @@
 ghost use Rattle.std.specs.Prelude.{◌≡◌, ◌^◌, ◌≤◌};
 ghost use Rattle.cdef_spec.specs.Questions.{all_below, all_taken, primary_taken, secondary_taken};
 
-// Every entry is below m.
+// Every entry is below m. One function for u8 and one for u32: a generic one could promise nothing of all_below, which is of numbers and not of a type parameter's values.
 pub fn all_below_u8(list: &[u8], m: u8) -> bool
     ensures { result ≡ all_below m list.now }
 {
-    for k in 0..list.len() {
-        if m <= list[k] {
-            return false;
-        }
-    }
-    true
+    list.iter().all(|x| *x < m)
 }
 
 pub fn all_below_u32(list: &[u32], m: u32) -> bool
     ensures { result ≡ all_below m list.now }
 {
-    for k in 0..list.len() {
-        if m <= list[k] {
-            return false;
-        }
-    }
-    true
+    list.iter().all(|x| *x < m)
 }
 
 // 9: every sample is below 2^depth. The bits of all samples are combined and tested once. The four quarters of the list are read side by side: four
@@ -48,22 +38,12 @@ pub fn samples_below(list: &[u16], depth: u8) -> bool
 pub fn all_primary(list: &[u8]) -> bool
     ensures { result ≡ all_taken primary_taken list.now }
 {
-    for k in 0..list.len() {
-        if 15 < list[k] {
-            return false;
-        }
-    }
-    true
+    list.iter().all(|n| check_values::primary_taken(*n))
 }
 
 // 8: every secondary strength is 0, 1, 2 or 4.
 pub fn all_secondary(list: &[u8]) -> bool
     ensures { result ≡ all_taken secondary_taken list.now }
 {
-    for k in 0..list.len() {
-        if !check_values::secondary_taken(list[k]) {
-            return false;
-        }
-    }
-    true
+    list.iter().all(|n| check_values::secondary_taken(*n))
 }

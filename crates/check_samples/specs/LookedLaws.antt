@@ -50,9 +50,9 @@ shifted_none a k = go (dec_lt a (2 ^ k))
         back z = let l : a < 1 * 2 ^ k = (div-lt_iff_lt-mul {y = 1} (pow_pos k)).0 (omega arith) in omega arith
 
 module _ (s : List ℕ) where
-  pub row-none : (at : ℕ) → 0 ≡ or_row s at 0
+  pub row_none : (at : ℕ) → 0 ≡ or_row s at 0
   unfolding or_row
-  row-none at = refl
+  row_none at = refl
 
   pub row_more : (at n : ℕ) → bit_or (or_row s at n) (get_or s (at + n) 0) ≡ or_row s at (n + 1)
   unfolding or_row

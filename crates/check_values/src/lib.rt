@@ -1,8 +1,23 @@
 // Questions 8 and 9 of single values: strengths, dampings, variances, the quality index, a difference. Each test has its definition's name.
-#![tactic(auto)]
+#![tactic(
+    auto,
+    unfolding(
+        cdef_spec::specs::Questions::strength_taken,
+        cdef_spec::specs::Questions::working_taken,
+        cdef_spec::specs::Questions::signalled_taken,
+        cdef_spec::specs::Questions::variance_taken,
+        cdef_spec::specs::Questions::index_taken,
+        cdef_spec::specs::Questions::difference_taken,
+        cdef_spec::specs::Questions::primary_taken,
+        cdef_spec::specs::Questions::secondary_taken,
+        cdef_spec::specs::Questions::pair_taken,
+        cdef_spec::specs::Questions::params_taken,
+        cdef_spec::specs::Questions::way_taken
+    )
+)]
 
 ghost use Rattle.std.specs.Prelude.{◌≡◌, ◌≤◌};
-ghost use Rattle.cdef_spec.specs.Questions.{strength_taken, working_taken, signalled_taken, variance_taken, index_taken, difference_taken, secondary_taken, pair_taken, params_taken, way_taken};
+ghost use Rattle.cdef_spec.specs.Questions.{strength_taken, working_taken, signalled_taken, variance_taken, index_taken, difference_taken, primary_taken, secondary_taken, pair_taken, params_taken, way_taken};
 
 use cdef_spec::{FilterParams, SignalledDamping, TrialWay, UnitPair, WorkingDamping};
 
@@ -27,10 +42,7 @@ pub fn working_taken(damping: WorkingDamping) -> bool
 pub fn signalled_taken(d: SignalledDamping) -> bool
     ensures { result ≡ signalled_taken d }
 {
-    if d.0 < 3 {
-        return false;
-    }
-    d.0 <= 6
+    matches!(d.0, 3..=6)
 }
 
 // 8: a variance, up to 860,160.
@@ -47,35 +59,32 @@ pub fn index_taken(index: u32) -> bool
     index <= 255
 }
 
-// 9: a difference, -4,095 to 4,095. Nothing is negated: the least i32 has no opposite.
+// 9: a difference, -4,095 to 4,095.
 pub fn difference_taken(difference: i32) -> bool
     ensures { result ≡ difference_taken difference }
 {
-    if difference < -4095 {
-        return false;
-    }
-    difference <= 4095
+    difference.unsigned_abs() <= 4095
+}
+
+// 8: a primary strength, 0 to 15.
+pub fn primary_taken(n: u8) -> bool
+    ensures { result ≡ primary_taken n }
+{
+    n <= 15
 }
 
 // 8: a secondary strength, 0, 1, 2 or 4.
-#[tactic(auto, unfolding(cdef_spec::specs::Questions::secondary_taken))]
 pub fn secondary_taken(n: u8) -> bool
     ensures { result ≡ secondary_taken n }
 {
-    if n <= 2 {
-        return true;
-    }
-    n == 4
+    matches!(n, 0..=2 | 4)
 }
 
 // 8: a pair's strengths.
 pub fn pair_taken(p: UnitPair) -> bool
     ensures { result ≡ pair_taken p }
 {
-    if 15 < p.primary {
-        return false;
-    }
-    secondary_taken(p.secondary)
+    primary_taken(p.primary) && secondary_taken(p.secondary)
 }
 
 // 8: working strengths up to 15 and 4 shifted left by depth - 8, a direction below 8, a working damping up to 31.
@@ -83,17 +92,8 @@ pub fn params_taken(q: FilterParams) -> bool
     requires { (8 ≤ q.depth) × (q.depth ≤ 12) }
     ensures { result ≡ params_taken q }
 {
-    let shift = (q.depth - 8) as u32;
-    if (15u32 << shift) < q.pri {
-        return false;
-    }
-    if (4u32 << shift) < q.sec {
-        return false;
-    }
-    if 7 < q.dir {
-        return false;
-    }
-    q.damping.0 <= 31
+    let shift = u32::from(q.depth - 8);
+    q.pri <= 15 << shift && q.sec <= 4 << shift && q.dir < 8 && working_taken(q.damping)
 }
 
 // 8: a variance, which only a luma trial has.

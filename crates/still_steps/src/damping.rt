@@ -3,7 +3,7 @@ ghost use Rattle.std.specs.Prelude.{min, ◌≡◌};
 ghost use Rattle.still_steps.specs.Damping.{read_text, damping_of};
 
 use cdef_blocks::numbers;
-use cdef_spec::{DampingAnswer, SignalledDamping};
+use cdef_spec::SignalledDamping;
 use still_text::numbers::number_of;
 use thiserror::Error;
 
@@ -36,8 +36,8 @@ pub fn damping_of(text: &[u8]) -> Result<SignalledDamping, DampingError>
     };
     match *letter {
         b'q' => match numbers::damping(n as u32) {
-            DampingAnswer::Damping(d) => Ok(d),
-            DampingAnswer::NoDamping(code) => Err(DampingError::Rejected(code)),
+            Ok(d) => Ok(d),
+            Err(refusal) => Err(DampingError::Rejected(u8::from(refusal))),
         },
         b'd' => Ok(SignalledDamping(small(n))),
         _ => Err(DampingError::NotDamping),

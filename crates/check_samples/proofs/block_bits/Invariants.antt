@@ -1,8 +1,7 @@
--- `check_samples::block_bits` meets its contract.
-use mathlib.Core.Path.{◌≡◌}
-use Prim.Native.Nat.{◌≤◌}
+-- The bits of the rows so far.
+use Rattle.std.proofs.Common.{◌≡◌}
 use Rattle.check_samples.specs.Looked.{or_rows}
 use Rattle.check_samples.proofs.block_bits.Given as goal
 
 abbrev pub invariant-loop-i : goal.invariant-loop-i
-invariant-loop-i l = (l.bits ≡ or_rows l.plane l.width l.y l.x l.cols l.i) × (l.i ≤ l.rows)
+invariant-loop-i l = l.bits ≡ or_rows l.plane.samples.now l.plane.width l.y l.x l.cols l.i

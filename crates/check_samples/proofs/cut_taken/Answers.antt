@@ -1,41 +1,30 @@
--- `check_samples::cut_taken` meets its contract.
-use mathlib.Core.Path.{◌≡◌, ◌∙◌}
-use mathlib.Core.List.{List}
-use Prim.Native.Nat.{ℕ, ◌+◌, ◌-◌, ◌*◌, ◌/◌, ◌^◌, ◌≤◌, ◌<◌, min}
-use native.Mathlib.Nat.{mul_comm, mul-le-mul_right}
-use native.Mathlib.Omega.{arith}
-use lib.Dec.{eqb}
-use Rattle.cdef_spec.specs.Questions.{cut_taken}
+-- The bits of the block, cropped to the plane, decide question 9.
+use Rattle.std.proofs.Common.{◌≡◌, ◌∙◌, ℕ, ◌-◌, arith, min}
+use Rattle.std.proofs.lemmas.Grind.{common_steps}
+use Rattle.std.specs.Ordering.{ord_min, nat_cmp}
+use Rattle.cdef_spec.specs.Lent.{plane_in_full}
 use Rattle.check_samples.specs.Looked.{or_rows}
 use Rattle.check_samples.specs.LookedLaws.{cut-bits, shifted_none}
 use Rattle.check_samples.proofs.cut_taken.Goals as goal
+use Rattle.check_samples.proofs.cut_taken.Goals.{then-rows-cols-lt16, else-rows-cols-lt16}
 
--- a row lies in the plane
-row_in : (w h n y x rows cols : ℕ) → n ≡ w * h → y + rows ≤ h → x + cols ≤ w → (i : ℕ) → i < rows → (y + i) * w + x + cols ≤ n
-row_in w h n y x rows cols e hy hx i hi =
-    let a : y + i + 1 ≤ h = omega arith in
-    omega (arith, mul-le-mul_right w a, mul_comm w h)
-
--- the bits of the block, cropped to the plane, decide question 9
-bits-say : (s : List ℕ) (w h d y x rows cols bits : ℕ) → y < h → x < w → rows ≡ min 8 (h - y) → cols ≡ min 8 (w - x) → bits ≡ or_rows s w y x cols rows → eqb (bits / 2 ^ d) 0 ≡ cut_taken (record { samples = s; width = w; height = h }) d y x
-bits-say s w h d y x rows cols bits hy hx er ec eb = shifted_none bits d ∙ rw (eb, er, ec) (cut-bits s w h d y x hy hx)
-
-pub block_bits-requires : goal.block_bits-requires
-block_bits-requires c = let a = c.args in
-    let f = c.min-cols.ensures in
-    let g = c.min-rows.ensures in
-    (omega (arith, g), row_in a.width a.height _ a.y a.x _ _ c.requires.plane_len (omega (arith, g)) (omega (arith, f)))
-
-pub returns-then-rows-cols-lt16 : goal.returns-then-rows-cols-lt16
-returns-then-rows-cols-lt16 c = bits-say _ _ _ _ _ _ _ _ _ c.requires.width_bound.3 c.requires.width_bound.2 c.min-rows.ensures c.min-cols.ensures c.block_bits.ensures
-
-pub block_bits-requires-2 : goal.block_bits-requires-2
-block_bits-requires-2 c = let a = c.args in
-    let f = c.min-cols.ensures in
-    let g = c.min-rows.ensures in
-    (omega (arith, f, g), row_in a.width a.height _ a.y a.x 8 8 c.requires.plane_len (omega (arith, f, g)) (omega (arith, f, g)))
+-- std's `min` of two numbers
+least-is : (a b : ℕ) → ord_min nat_cmp a b ≡ min a b
+least-is a b = grind (arith, common_steps)
 
 pub returns : goal.returns
-returns c = let f = c.min-cols.ensures in
-    let g = c.min-rows.ensures in
-    bits-say _ _ _ _ _ _ 8 8 _ c.requires.width_bound.3 c.requires.width_bound.2 (omega (arith, f, g)) (omega (arith, f, g)) c.block_bits-2.ensures
+unfolding plane_in_full
+returns c =
+    let a = c.args in
+    let p = a.plane.now in
+    let rows : c.min-rows.result ≡ min 8 (p.height - a.y) = c.min-rows.ensures ∙ least-is 8 (p.height - a.y) in
+    let cols : c.min-cols.result ≡ min 8 (p.width - a.x) = c.min-cols.ensures ∙ least-is 8 (p.width - a.x) in
+    let cut : c.if-rows-cols-lt16.bits ≡ or_rows p.samples.now p.width a.y a.x c.min-cols.result c.min-rows.result =
+        elim c.if-rows-cols-lt16.branch [
+          then-rows-cols-lt16 w ↦ w.bits-is ∙ w.block_bits-bits.ensures
+          | else-rows-cols-lt16 w ↦
+            let eight_rows : c.min-rows.result ≡ 8 = omega arith in
+            let eight_cols : c.min-cols.result ≡ 8 = omega arith in
+            rw (eight_rows, eight_cols) (w.bits-is ∙ w.block_bits-bits-else-rows-cols-lt16.ensures)
+        ] in
+    shifted_none c.if-rows-cols-lt16.bits a.depth ∙ rw (cut, rows, cols) (cut-bits p.samples.now p.width p.height a.depth a.y a.x c.requires.corner_in.1 c.requires.corner_in.0)

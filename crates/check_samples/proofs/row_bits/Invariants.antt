@@ -1,8 +1,7 @@
--- `check_samples::row_bits` meets its contract.
-use mathlib.Core.Path.{◌≡◌}
-use Prim.Native.Nat.{◌≤◌}
+-- The bits of the samples so far.
+use Rattle.std.proofs.Common.{◌≡◌}
 use Rattle.check_samples.specs.Looked.{or_row}
 use Rattle.check_samples.proofs.row_bits.Given as goal
 
 abbrev pub invariant-loop-j : goal.invariant-loop-j
-invariant-loop-j l = (l.bits ≡ or_row l.plane l.at l.j) × (l.j ≤ l.n)
+invariant-loop-j l = l.bits ≡ or_row l.plane l.at l.j

@@ -26,18 +26,18 @@ step : (f : ℕ → Bool) (bad r k : ℕ) → eqb bad 0 ≡ every k f → eqb r 
 unfolding every
 step f bad r k e g = both_zero bad r ∙ rw (e, g, add-one k)
 
-pub loop-k-init : goal.loop-k-init
+pub loop-v-init : goal.loop-v-init
 unfolding every
-loop-k-init c = (refl, omega arith, omega arith, top-is c.args.depth c.requires)
+loop-v-init c = (refl, omega arith, omega arith, top-is c.args.depth c.requires)
 
 pub wrong-bad-requires : goal.wrong-bad-requires
-wrong-bad-requires c = c.loop-k.invariant.3
+wrong-bad-requires c = c.loop-v.invariant.3
 
 pub overflow_add-bad : goal.overflow_add-bad
 overflow_add-bad c = omega (arith, c.wrong-bad.ensures.1)
 
-pub loop-k-preserved : goal.loop-k-preserved
-loop-k-preserved c = (step _ c.loop-k.bad c.wrong-bad.result _ c.loop-k.invariant.0 c.wrong-bad.ensures.0, omega (arith, c.wrong-bad.ensures.1), omega arith, c.loop-k.invariant.3)
+pub loop-v-preserved : goal.loop-v-preserved
+loop-v-preserved c = (step _ c.loop-v.bad c.wrong-bad.result _ c.loop-v.invariant.0 c.wrong-bad.ensures.0, omega (arith, c.wrong-bad.ensures.1), omega arith, c.loop-v.invariant.3)
 
 pub returns : goal.returns
-returns c = c.loop-k.invariant.0 ∙ (let e : c.loop-k.k ≡ 144 = omega arith in rw e)
+returns c = c.loop-v.invariant.0 ∙ (let e : c.loop-v.v-index ≡ 144 = omega arith in rw e)

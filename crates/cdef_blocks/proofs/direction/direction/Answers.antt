@@ -1,38 +1,25 @@
 -- `cdef_blocks::direction::direction` meets its contract.
-use Rattle.std.proofs.Common.{◌≡◌, ℕ, List, sym, ◌∙◌}
-use Rattle.cdef_spec.specs.Document01.{Plane}
+use Rattle.std.proofs.Common.{◌≡◌}
+use Rattle.cdef_spec.specs.Answers.{code_of, result_of, read_found}
+use Rattle.cdef_spec.specs.AnswerLaws.{zero-so}
 use Rattle.cdef_spec.specs.Lent.{plane_in_full}
-use Rattle.cdef_spec.specs.BlockCalls.{direction_no}
-use Rattle.check_block.specs.DirectionLaws.{direction-facts, direction-refused, direction-done}
+use Rattle.cdef_spec.specs.BlockCalls.{direction_no, direction_outcome}
+use Rattle.check_block.specs.CornerLaws.{passes}
+use Rattle.check_block.specs.DirectionLaws.{direction-facts}
 use Rattle.cdef_blocks.proofs.direction.direction.Goals as goal
 
-abbrev plane_of : List ℕ → ℕ → ℕ → Plane
-plane_of s w h = record { samples = s; width = w; height = h }
-
-pub returns-then-no-ne0 : goal.returns-then-no-ne0
-returns-then-no-ne0 c =
-    let p = plane_of c.args.plane.now c.args.width c.args.height in
-    direction-refused p c.args.depth c.args.y c.args.x _ c.direction_no-no.ensures c.if-no-ne0.true
-
-pub invariant_of-plane : goal.invariant_of-plane
-invariant_of-plane c =
-    let p = plane_of c.args.plane.now c.args.width c.args.height in
-    let zero : direction_no p c.args.depth c.args.y c.args.x ≡ 0 = sym c.direction_no-no.ensures ∙ c.if-no-ne0.false in
-    let q = (direction-facts p c.args.depth c.args.y c.args.x zero).plane in
-    record { full = q.full_is; sides = (q.wide, q.high) }
-
-pub cdef_direction-f-requires : goal.cdef_direction-f-requires
+pub cdef_direction-requires : goal.cdef_direction-requires
 unfolding plane_in_full
-cdef_direction-f-requires c =
-    let p = plane_of c.args.plane.now c.args.width c.args.height in
-    let zero : direction_no p c.args.depth c.args.y c.args.x ≡ 0 = sym c.direction_no-no.ensures ∙ c.if-no-ne0.false in
-    let f = direction-facts p c.args.depth c.args.y c.args.x zero in
+cdef_direction-requires c =
+    let a = c.args in
+    let p = plane_in_full c.in_ok-full.full in
+    let f = direction-facts p a.depth a.y a.x (passes (λ p. direction_no p a.depth a.y a.x) _ _ c.in_ok-full.ensures.same c.in_ok-full.ensures.first_no) in
     let q = f.plane in
     record { corner_on_plane = (f.x-in, f.y-in, q.deep, q.flat); samples_fit = f.cut }
 
 pub returns : goal.returns
-unfolding plane_in_full
+unfolding plane_in_full direction_outcome result_of read_found
 returns c =
-    let p = plane_of c.args.plane.now c.args.width c.args.height in
-    let zero : direction_no p c.args.depth c.args.y c.args.x ≡ 0 = sym c.direction_no-no.ensures ∙ c.if-no-ne0.false in
-    direction-done p c.args.depth c.args.y c.args.x zero _ _ c.cdef_direction-f.ensures.direction_value c.cdef_direction-f.ensures.variance_value
+    let a = c.args in
+    let z = passes (λ p. direction_no p a.depth a.y a.x) _ _ c.in_ok-full.ensures.same c.in_ok-full.ensures.first_no in
+    rw (← c.in_ok-full.ensures.same, z, c.cdef_direction.ensures.direction_value, c.cdef_direction.ensures.variance_value)

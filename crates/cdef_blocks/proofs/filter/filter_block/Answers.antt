@@ -1,76 +1,70 @@
 -- `cdef_blocks::filter::filter_block` meets its contract.
-use Rattle.std.proofs.Common.{arith, ◌≡◌, ℕ, List, [], ◌∷◌, true, sym, ◌∙◌}
-use Rattle.cdef_spec.specs.Answers.{read_answer}
-use Rattle.cdef_spec.specs.Lent.{plane_in_full}
-use Rattle.cdef_spec.specs.Document01.{Plane}
+use Rattle.std.proofs.Common.{◌≡◌, ◌∙◌, true, [], ◌∷◌, arith}
+use Rattle.cdef_spec.specs.Answers.{code_of, error_code, read_done}
+use Rattle.cdef_spec.specs.AnswerLaws.{coded}
+use Rattle.cdef_spec.specs.Lent.{plane_in, plane_in_full}
 use Rattle.cdef_spec.specs.Questions.{ask, first_no, widened_taken}
-use Rattle.filter_window.specs.FilledLaws.{begins-in}
 use Rattle.filter_block.specs.StoreLaws.{stored-block}
-use Rattle.check_block.specs.WindowLaws.{in-plane, window-asked, widened-so, held-so}
-use Rattle.check_block.specs.Parts.{filter_first}
 use Rattle.check_block.specs.PartLaws.{filter-facts, filter-refused, filter-samples, filter-done}
-use Rattle.cdef_answer.specs.JoinLaws.{filter-joined}
+use Rattle.check_block.specs.WindowLaws.{window-asked, widened-so, held-so}
+use Rattle.cdef_blocks.proofs.Told.{told}
+use Rattle.cdef_blocks.proofs.Passed.{filter-passes}
 use Rattle.cdef_blocks.proofs.filter.filter_block.Goals as goal
 
-abbrev plane_of : List ℕ → ℕ → ℕ → Plane
-plane_of s w h = record { samples = s; width = w; height = h }
-
-pub returns-then-no-ne0 : goal.returns-then-no-ne0
-unfolding read_answer
-returns-then-no-ne0 c =
-    let p = plane_of c.args.plane.now c.args.width c.args.height in
-    filter-joined _ _ _ (filter-refused p c.args.block c.args.params c.args.y0 c.args.dst.now _ c.filter_no-no.ensures c.if-no-ne0.true)
-
-pub invariant_of-full : goal.invariant_of-full
-invariant_of-full c =
-    let p = plane_of c.args.plane.now c.args.width c.args.height in
-    let zero : first_no (filter_first p c.args.block c.args.params c.args.y0 c.args.dst.now) ≡ 0 = sym c.filter_no-no.ensures ∙ c.if-no-ne0.false in
-    let f = filter-facts p c.args.block c.args.params c.args.y0 c.args.dst.now zero in
-    record { full = f.plane.full_is; sides = (f.plane.wide, f.plane.high) }
+pub returns-in_err-full : goal.returns-in_err-full
+unfolding code_of
+returns-in_err-full c =
+    let a = c.args in
+    rw (told c.from_residual.result _ c.from_residual.ensures.1) (filter-refused (plane_in a.plane.now) a.block a.params a.y0 a.dst.now _ c.in_err-full.ensures.first_no (coded _))
 
 pub window-win-requires : goal.window-win-requires
+unfolding plane_in_full
 window-win-requires c =
-    let p = plane_of c.args.plane.now c.args.width c.args.height in
-    let zero : first_no (filter_first p c.args.block c.args.params c.args.y0 c.args.dst.now) ≡ 0 = sym c.filter_no-no.ensures ∙ c.if-no-ne0.false in
-    let f = filter-facts p c.args.block c.args.params c.args.y0 c.args.dst.now zero in
-    begins-in _ _ (in-plane p c.args.block c.args.params.depth f.plane f.block)
+    let a = c.args in
+    let p = plane_in_full c.in_ok-full.full in
+    let f = filter-facts p a.block a.params a.y0 a.dst.now (filter-passes c.in_ok-full.full _ c.in_ok-full.ensures.same a.block a.params a.y0 a.dst.now c.in_ok-full.ensures.first_no) in
+    record { x-in = f.block.x-in; y-in = f.block.y-in; bw = f.block.bw; bh = f.block.bh }
 
-pub window_no-no9-requires : goal.window_no-no9-requires
-window_no-no9-requires c =
-    let p = plane_of c.args.plane.now c.args.width c.args.height in
-    let zero : first_no (filter_first p c.args.block c.args.params c.args.y0 c.args.dst.now) ≡ 0 = sym c.filter_no-no.ensures ∙ c.if-no-ne0.false in
-    let f = filter-facts p c.args.block c.args.params c.args.y0 c.args.dst.now zero in
-    f.plane.flat
+pub window_no-requires : goal.window_no-requires
+window_no-requires c =
+    let a = c.args in
+    let p = plane_in_full c.in_ok-full.full in
+    (filter-facts p a.block a.params a.y0 a.dst.now (filter-passes c.in_ok-full.full _ c.in_ok-full.ensures.same a.block a.params a.y0 a.dst.now c.in_ok-full.ensures.first_no)).plane.flat
 
-pub returns-then-no9-ne0 : goal.returns-then-no9-ne0
-unfolding read_answer plane_in_full
-returns-then-no9-ne0 c =
-    let p = plane_of c.args.plane.now c.args.width c.args.height in
-    let zero : first_no (filter_first p c.args.block c.args.params c.args.y0 c.args.dst.now) ≡ 0 = sym c.filter_no-no.ensures ∙ c.if-no-ne0.false in
-    let f = filter-facts p c.args.block c.args.params c.args.y0 c.args.dst.now zero in
-    let nine : c.window_no-no9.result ≡ first_no (ask 9 (widened_taken p c.args.params.depth c.args.block) ∷ []) = window-asked p c.args.block c.args.params.depth f.plane f.block _ _ c.window-win.ensures c.window_no-no9.ensures in
-    filter-joined _ _ _ (filter-samples p c.args.block c.args.params c.args.y0 c.args.dst.now zero _ nine c.if-no9-ne0.true)
+pub returns-in_err-window_no : goal.returns-in_err-window_no
+unfolding code_of
+returns-in_err-window_no c =
+    let a = c.args in
+    let p = plane_in_full c.in_ok-full.full in
+    let z = filter-passes c.in_ok-full.full _ c.in_ok-full.ensures.same a.block a.params a.y0 a.dst.now c.in_ok-full.ensures.first_no in
+    let f = filter-facts p a.block a.params a.y0 a.dst.now z in
+    let nine = window-asked p a.block a.params.depth f.plane f.block _ _ c.window-win.ensures c.in_err-window_no.ensures in
+    rw (← c.in_ok-full.ensures.same, told c.from_residual-in_err-window_no.result _ c.from_residual-in_err-window_no.ensures.1)
+    (filter-samples p a.block a.params a.y0 a.dst.now z _ nine (coded _))
 
 pub filter_window-requires : goal.filter_window-requires
-unfolding plane_in_full
+unfolding code_of plane_in_full
 filter_window-requires c =
-    let p = plane_of c.args.plane.now c.args.width c.args.height in
-    let zero : first_no (filter_first p c.args.block c.args.params c.args.y0 c.args.dst.now) ≡ 0 = sym c.filter_no-no.ensures ∙ c.if-no-ne0.false in
-    let f = filter-facts p c.args.block c.args.params c.args.y0 c.args.dst.now zero in
-    let nine : c.window_no-no9.result ≡ first_no (ask 9 (widened_taken p c.args.params.depth c.args.block) ∷ []) = window-asked p c.args.block c.args.params.depth f.plane f.block _ _ c.window-win.ensures c.window_no-no9.ensures in
-    let taken : widened_taken p c.args.params.depth c.args.block ≡ true = widened-so p c.args.block c.args.params.depth f.plane f.block _ nine c.if-no9-ne0.false in
+    let a = c.args in
+    let p = plane_in_full c.in_ok-full.full in
+    let f = filter-facts p a.block a.params a.y0 a.dst.now (filter-passes c.in_ok-full.full _ c.in_ok-full.ensures.same a.block a.params a.y0 a.dst.now c.in_ok-full.ensures.first_no) in
     let b = f.block in
-    record { x_lt_w = (b.x-in, b.y-in, f.plane.wide, f.plane.high, b.bw, b.bh); y0_le_y = (f.start, f.room); held = (rw c.window-win.ensures (held-so p c.args.block c.args.params.depth f.plane f.block taken), f.usable) }
+    let taken = widened-so p a.block a.params.depth f.plane b _ c.window-win.ensures c.in_ok-window_no.ensures in
+    record {
+      x_lt_w = (b.x-in, b.y-in, f.plane.wide, f.plane.high, b.bw, b.bh);
+      y0_le_y = (f.start, f.room);
+      held = (rw c.window-win.ensures (held-so p a.block a.params.depth f.plane b taken), f.usable);
+    }
 
 pub returns : goal.returns
-unfolding read_answer plane_in_full
+unfolding code_of read_done plane_in_full
 returns c =
-    let p = plane_of c.args.plane.now c.args.width c.args.height in
-    let zero : first_no (filter_first p c.args.block c.args.params c.args.y0 c.args.dst.now) ≡ 0 = sym c.filter_no-no.ensures ∙ c.if-no-ne0.false in
-    let f = filter-facts p c.args.block c.args.params c.args.y0 c.args.dst.now zero in
-    let nine : c.window_no-no9.result ≡ first_no (ask 9 (widened_taken p c.args.params.depth c.args.block) ∷ []) = window-asked p c.args.block c.args.params.depth f.plane f.block _ _ c.window-win.ensures c.window_no-no9.ensures in
-    let taken : widened_taken p c.args.params.depth c.args.block ≡ true = widened-so p c.args.block c.args.params.depth f.plane f.block _ nine c.if-no9-ne0.false in
-    filter-joined _ _ _ (filter-done p c.args.block c.args.params c.args.y0 c.args.dst.now zero taken _
+    let a = c.args in
+    let p = plane_in_full c.in_ok-full.full in
+    let z = filter-passes c.in_ok-full.full _ c.in_ok-full.ensures.same a.block a.params a.y0 a.dst.now c.in_ok-full.ensures.first_no in
+    let f = filter-facts p a.block a.params a.y0 a.dst.now z in
+    let b = f.block in
+    let taken = widened-so p a.block a.params.depth f.plane b _ c.window-win.ensures c.in_ok-window_no.ensures in
+    rw (← c.in_ok-full.ensures.same) (filter-done p a.block a.params a.y0 a.dst.now z taken _
     (c.filter_window.ensures ∙ rw c.window-win.ensures
-    (stored-block c.args.dst.now c.args.width p c.args.block c.args.params c.args.y0 _ _ f.start f.block.bh f.block.bw (omega arith) (omega arith) f.usable.dir
-    (held-so p c.args.block c.args.params.depth f.plane f.block taken))))
+    (stored-block a.dst.now p.width p a.block a.params a.y0 _ _ f.start b.bh b.bw (omega arith) (omega arith) f.usable.dir (held-so p a.block a.params.depth f.plane b taken))))

@@ -1,71 +1,65 @@
 -- `cdef_blocks::trial::trial` meets its contract.
-use Rattle.std.proofs.Common.{◌≡◌, ℕ, List, [], ◌∷◌, true, sym, ◌∙◌}
-use Rattle.cdef_spec.specs.Answers.{read_answer}
-use Rattle.cdef_spec.specs.Lent.{plane_in_full}
-use Rattle.cdef_spec.specs.Document01.{Plane}
+use Rattle.std.proofs.Common.{◌≡◌, ◌∙◌, true, [], ◌∷◌, arith}
+use Rattle.cdef_spec.specs.Answers.{code_of, error_code, read_done}
+use Rattle.cdef_spec.specs.AnswerLaws.{coded}
+use Rattle.cdef_spec.specs.Lent.{plane_in, plane_in_full}
 use Rattle.cdef_spec.specs.Questions.{ask, first_no, widened_taken}
-use Rattle.check_block.specs.TrialParts.{trial_first}
 use Rattle.check_block.specs.TrialPartLaws.{trial-facts, trial-refused, trial-samples, trial-done}
-use Rattle.filter_window.specs.FilledLaws.{begins-in}
-use Rattle.check_block.specs.WindowLaws.{in-plane, window-asked, widened-so, marked-so}
-use Rattle.cdef_answer.specs.JoinLaws.{trial-joined}
+use Rattle.check_block.specs.WindowLaws.{window-asked, widened-so, marked-so}
+use Rattle.cdef_blocks.proofs.Told.{told}
+use Rattle.cdef_blocks.proofs.Passed.{trial-passes}
 use Rattle.cdef_blocks.proofs.trial.trial.Goals as goal
 
-abbrev plane_of : List ℕ → ℕ → ℕ → Plane
-plane_of s w h = record { samples = s; width = w; height = h }
-
-pub returns-then-no-ne0 : goal.returns-then-no-ne0
-unfolding read_answer
-returns-then-no-ne0 c =
-    let p = plane_of c.args.plane.now c.args.width c.args.height in
-    trial-joined _ _ _ (trial-refused p c.args.block c.args.way c.args.dir c.args.damping c.args.depth c.args.out.now _ c.trial_no-no.ensures c.if-no-ne0.true)
-
-pub invariant_of-full : goal.invariant_of-full
-invariant_of-full c =
-    let p = plane_of c.args.plane.now c.args.width c.args.height in
-    let zero : first_no (trial_first p c.args.block c.args.way c.args.dir c.args.damping c.args.depth c.args.out.now) ≡ 0 = sym c.trial_no-no.ensures ∙ c.if-no-ne0.false in
-    let f = trial-facts p c.args.block c.args.way c.args.dir c.args.damping c.args.depth c.args.out.now zero in
-    record { full = f.plane.full_is; sides = (f.plane.wide, f.plane.high) }
+pub returns-in_err-full : goal.returns-in_err-full
+unfolding code_of
+returns-in_err-full c =
+    let a = c.args in
+    rw (told c.from_residual.result _ c.from_residual.ensures.1) (trial-refused (plane_in a.plane.now) a.block a.way a.dir a.damping a.depth a.out.now _ c.in_err-full.ensures.first_no (coded _))
 
 pub window-win-requires : goal.window-win-requires
+unfolding plane_in_full
 window-win-requires c =
-    let p = plane_of c.args.plane.now c.args.width c.args.height in
-    let zero : first_no (trial_first p c.args.block c.args.way c.args.dir c.args.damping c.args.depth c.args.out.now) ≡ 0 = sym c.trial_no-no.ensures ∙ c.if-no-ne0.false in
-    let f = trial-facts p c.args.block c.args.way c.args.dir c.args.damping c.args.depth c.args.out.now zero in
-    begins-in _ _ (in-plane p c.args.block c.args.depth f.plane f.block)
+    let a = c.args in
+    let p = plane_in_full c.in_ok-full.full in
+    let f = trial-facts p a.block a.way a.dir a.damping a.depth a.out.now (trial-passes _ _ c.in_ok-full.ensures.same a.block a.way a.dir a.damping a.depth a.out.now c.in_ok-full.ensures.first_no) in
+    record { x-in = f.block.x-in; y-in = f.block.y-in; bw = f.block.bw; bh = f.block.bh }
 
-pub window_no-no9-requires : goal.window_no-no9-requires
-window_no-no9-requires c =
-    let p = plane_of c.args.plane.now c.args.width c.args.height in
-    let zero : first_no (trial_first p c.args.block c.args.way c.args.dir c.args.damping c.args.depth c.args.out.now) ≡ 0 = sym c.trial_no-no.ensures ∙ c.if-no-ne0.false in
-    let f = trial-facts p c.args.block c.args.way c.args.dir c.args.damping c.args.depth c.args.out.now zero in
-    f.plane.flat
+pub window_no-requires : goal.window_no-requires
+window_no-requires c =
+    let a = c.args in
+    let p = plane_in_full c.in_ok-full.full in
+    (trial-facts p a.block a.way a.dir a.damping a.depth a.out.now (trial-passes _ _ c.in_ok-full.ensures.same a.block a.way a.dir a.damping a.depth a.out.now c.in_ok-full.ensures.first_no)).plane.flat
 
-pub returns-then-no9-ne0 : goal.returns-then-no9-ne0
-unfolding read_answer plane_in_full
-returns-then-no9-ne0 c =
-    let p = plane_of c.args.plane.now c.args.width c.args.height in
-    let zero : first_no (trial_first p c.args.block c.args.way c.args.dir c.args.damping c.args.depth c.args.out.now) ≡ 0 = sym c.trial_no-no.ensures ∙ c.if-no-ne0.false in
-    let f = trial-facts p c.args.block c.args.way c.args.dir c.args.damping c.args.depth c.args.out.now zero in
-    let nine : c.window_no-no9.result ≡ first_no (ask 9 (widened_taken p c.args.depth c.args.block) ∷ []) = window-asked p c.args.block c.args.depth f.plane f.block _ _ c.window-win.ensures c.window_no-no9.ensures in
-    trial-joined _ _ _ (trial-samples p c.args.block c.args.way c.args.dir c.args.damping c.args.depth c.args.out.now zero _ nine c.if-no9-ne0.true)
+pub returns-in_err-window_no : goal.returns-in_err-window_no
+unfolding code_of
+returns-in_err-window_no c =
+    let a = c.args in
+    let p = plane_in_full c.in_ok-full.full in
+    let z = trial-passes _ _ c.in_ok-full.ensures.same a.block a.way a.dir a.damping a.depth a.out.now c.in_ok-full.ensures.first_no in
+    let f = trial-facts p a.block a.way a.dir a.damping a.depth a.out.now z in
+    let nine = window-asked p a.block a.depth f.plane f.block _ _ c.window-win.ensures c.in_err-window_no.ensures in
+    rw (← c.in_ok-full.ensures.same, told c.from_residual-in_err-window_no.result _ c.from_residual-in_err-window_no.ensures.1)
+    (trial-samples p a.block a.way a.dir a.damping a.depth a.out.now z _ nine (coded _))
 
 pub trial_window-requires : goal.trial_window-requires
-unfolding plane_in_full
+unfolding code_of
 trial_window-requires c =
-    let p = plane_of c.args.plane.now c.args.width c.args.height in
-    let zero : first_no (trial_first p c.args.block c.args.way c.args.dir c.args.damping c.args.depth c.args.out.now) ≡ 0 = sym c.trial_no-no.ensures ∙ c.if-no-ne0.false in
-    let f = trial-facts p c.args.block c.args.way c.args.dir c.args.damping c.args.depth c.args.out.now zero in
-    let nine : c.window_no-no9.result ≡ first_no (ask 9 (widened_taken p c.args.depth c.args.block) ∷ []) = window-asked p c.args.block c.args.depth f.plane f.block _ _ c.window-win.ensures c.window_no-no9.ensures in
-    let taken : widened_taken p c.args.depth c.args.block ≡ true = widened-so p c.args.block c.args.depth f.plane f.block _ nine c.if-no9-ne0.false in
-    record { out_len = (f.long, f.block.bw, f.block.bh, rw c.window-win.ensures (marked-so p c.args.block c.args.depth f.plane f.block taken)); dir_bound = (f.dir-low, f.damping-low, f.plane.deep, f.plane.flat) }
+    let a = c.args in
+    let p = plane_in_full c.in_ok-full.full in
+    let f = trial-facts p a.block a.way a.dir a.damping a.depth a.out.now (trial-passes _ _ c.in_ok-full.ensures.same a.block a.way a.dir a.damping a.depth a.out.now c.in_ok-full.ensures.first_no) in
+    let b = f.block in
+    let taken = widened-so p a.block a.depth f.plane b _ c.window-win.ensures c.in_ok-window_no.ensures in
+    record {
+      out_len = (f.long, b.bw, b.bh, rw c.window-win.ensures (marked-so p a.block a.depth f.plane b taken));
+      dir_bound = (f.dir-low, f.damping-low, f.plane.deep, f.plane.flat);
+    }
 
 pub returns : goal.returns
-unfolding read_answer plane_in_full
+unfolding code_of read_done
 returns c =
-    let p = plane_of c.args.plane.now c.args.width c.args.height in
-    let zero : first_no (trial_first p c.args.block c.args.way c.args.dir c.args.damping c.args.depth c.args.out.now) ≡ 0 = sym c.trial_no-no.ensures ∙ c.if-no-ne0.false in
-    let f = trial-facts p c.args.block c.args.way c.args.dir c.args.damping c.args.depth c.args.out.now zero in
-    let nine : c.window_no-no9.result ≡ first_no (ask 9 (widened_taken p c.args.depth c.args.block) ∷ []) = window-asked p c.args.block c.args.depth f.plane f.block _ _ c.window-win.ensures c.window_no-no9.ensures in
-    let taken : widened_taken p c.args.depth c.args.block ≡ true = widened-so p c.args.block c.args.depth f.plane f.block _ nine c.if-no9-ne0.false in
-    trial-joined _ _ _ (trial-done p c.args.block c.args.way c.args.dir c.args.damping c.args.depth c.args.out.now zero taken _ (c.trial_window.ensures p c.window-win.ensures))
+    let a = c.args in
+    let p = plane_in_full c.in_ok-full.full in
+    let z = trial-passes _ _ c.in_ok-full.ensures.same a.block a.way a.dir a.damping a.depth a.out.now c.in_ok-full.ensures.first_no in
+    let f = trial-facts p a.block a.way a.dir a.damping a.depth a.out.now z in
+    let taken = widened-so p a.block a.depth f.plane f.block _ c.window-win.ensures c.in_ok-window_no.ensures in
+    rw (← c.in_ok-full.ensures.same) (trial-done p a.block a.way a.dir a.damping a.depth a.out.now z taken _ (c.trial_window.ensures p c.window-win.ensures))

@@ -12,8 +12,8 @@ choice_of-d-requires c = search rules
 pub measure_luma-requires : goal.measure_luma-requires
 measure_luma-requires c = search rules
 
-pub number-requires : goal.number-requires
-number-requires c = search rules
+pub frame_number-requires : goal.frame_number-requires
+frame_number-requires c = search rules
 
 pub shape_of-totals : goal.shape_of-totals
 shape_of-totals c = search rules
@@ -22,4 +22,4 @@ pub shape_of-scratch : goal.shape_of-scratch
 shape_of-scratch c = search rules
 
 pub returns : goal.returns
-returns c = rw (← c.choice_of-d.ensures) (record { value = c.number.ensures ∙ ap number_of (measuring-parts _ _ _ _ c.measure_luma.ensures).0; totals_after = (measuring-parts _ _ _ _ c.measure_luma.ensures).1.0; scratch_after = (measuring-parts _ _ _ _ c.measure_luma.ensures).1.1 })
+returns c = rw (← c.choice_of-d.ensures) (record { value = c.frame_number.ensures ∙ ap number_of (measuring-parts _ _ _ _ c.measure_luma.ensures).0; totals_after = (measuring-parts _ _ _ _ c.measure_luma.ensures).1.0; scratch_after = (measuring-parts _ _ _ _ c.measure_luma.ensures).1.1 })

@@ -1,7 +1,7 @@
 -- `still_steps::damping::damping_of` meets its contract.
 use Rattle.std.proofs.Common.{Some, ap, ◌∙◌, arith}
 use Rattle.cdef_spec.specs.declared.SignalledDamping.{SignalledDamping}
-use Rattle.cdef_spec.specs.Answers.{Result, taken, read_damping}
+use Rattle.cdef_spec.specs.Answers.{Result, taken, read}
 use Rattle.still_steps.specs.Damping.{read_text}
 use Rattle.still_steps.specs.DampingLaws.{value_low, quality_index, signalled, other_letter}
 use Rattle.still_steps.proofs.damping.damping_of.Goals as goal
@@ -9,13 +9,13 @@ use Rattle.still_steps.proofs.damping.damping_of.Goals as goal
 pub overflow_cast-n : goal.overflow_cast-n
 overflow_cast-n c = omega (arith, value_low _ _ c.in-Some-number_of.ensures)
 
-pub returns-in-Damping : goal.returns-in-Damping
-unfolding read_text read_damping
-returns-in-Damping c = ap (λ (o : Result SignalledDamping). Some o) c.in-Damping.ensures ∙ quality_index _ _ _ c.in-Some.ensures.cases.0 _ c.in-Some-number_of.ensures c.in-113.is
+pub returns-in-Ok : goal.returns-in-Ok
+unfolding read_text read
+returns-in-Ok c = ap (λ (o : Result SignalledDamping). Some o) c.in-Ok.ensures ∙ quality_index _ _ _ c.in-Some.ensures.cases.0 _ c.in-Some-number_of.ensures c.in-113.is
 
-pub returns-in-NoDamping : goal.returns-in-NoDamping
-unfolding read_text read_damping
-returns-in-NoDamping c = ap (λ (o : Result SignalledDamping). Some o) c.in-NoDamping.ensures ∙ quality_index _ _ _ c.in-Some.ensures.cases.0 _ c.in-Some-number_of.ensures c.in-113.is
+pub returns-in-Err : goal.returns-in-Err
+unfolding read_text read
+returns-in-Err c = rw c.from.ensures (ap (λ (o : Result SignalledDamping). Some o) c.in-Err.ensures) ∙ quality_index _ _ _ c.in-Some.ensures.cases.0 _ c.in-Some-number_of.ensures c.in-113.is
 
 pub returns-in-100 : goal.returns-in-100
 unfolding read_text

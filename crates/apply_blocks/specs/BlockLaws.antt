@@ -1,34 +1,49 @@
--- The pair of a block's unit, and the tests of a block.
-use Rattle.std.specs.Prelude.{◌≡◌, refl, Bool, false, ◌&&◌, List, ℕ, ◌+◌, ◌*◌, ◌/◌, ◌≤◌, ◌<◌, get_or, length}
-use Rattle.std.proofs.Common.{ap, ◌∙◌}
-use Rattle.std.proofs.Math.Bool.{true}
+-- Filtering a block of a picture: the filter accepts its pair's parameters, and stores what Picture says.
+use Rattle.std.specs.Prelude.{◌≡◌, refl, Bool, true, false, ◌&&◌, List, ℕ, ◌+◌, ◌-◌, ◌*◌, ◌≤◌, ◌<◌, min, eqb, get_or}
+use Rattle.std.proofs.Common.{◌∙◌, arith, mul_comm}
+use Rattle.std.proofs.Math.Nat.{mul-le-mul_right}
 use borrow.Author.Tests.{eq-eqb, ne_eqb}
-use Rattle.std.proofs.Math.Dec.{eqb}
+use Rattle.cdef_spec.specs.declared.Block.{Block}
+use Rattle.cdef_spec.specs.declared.FilterParams.{FilterParams}
 use Rattle.cdef_spec.specs.declared.SignalledDamping.{SignalledDamping}
 use Rattle.cdef_spec.specs.declared.UnitPair.{UnitPair}
-use Rattle.cdef_spec.specs.WordsLaws.{get_or-table}
-use Rattle.cdef_spec.specs.Picture.{block_at, units, unit_at, pair_at, is_off, written}
-use Rattle.cdef_spec.specs.GeometryLaws.{unit-low}
-use Rattle.cdef_spec.specs.FrameCalls.{pairs_of}
-use Rattle.frame_shape.specs.declared.Frame.{Frame}
-use Rattle.frame_shape.specs.Frame.{picture_of}
-use Rattle.frame_shape.specs.Lent.{Paired, units_of}
+use Rattle.cdef_spec.specs.Document01.{Plane, filtered}
+use Rattle.cdef_spec.specs.Picture.{Picture, block_width, block_height, block_rows, block_cols, plane_width, plane_height, block_at, unit_at, pair_at, is_off, written, params_for, filtered_by}
+use Rattle.cdef_spec.specs.LoopForm.{put_block}
+use Rattle.cdef_spec.proofs.PlaneLaws.{block_same}
+use Rattle.frame_shape.specs.Frame.{block_of}
+use Rattle.frame_shape.specs.Shape.{Shaped, Sampled}
+use Rattle.frame_shape.specs.ShapeLaws.{cols-in, rows_in}
+use Rattle.frame_shape.specs.SampledLaws.{plane-is}
 use Rattle.apply_blocks.specs.Blocks.{block_filtered, block_applied}
 
--- ---- a unit's pair
+-- ---- the block (by, bx)
 
-pub pair-at : (pris secs : List ℕ) (u : ℕ) → u < length pris → pair_at (pairs_of pris secs) u ≡ record { primary = get_or pris u 0; secondary = get_or secs u 0 }
-unfolding pairs_of
-pair-at pris secs u h = get_or-table (length pris) _ _ u h
+module _ (q : Picture) (h : Shaped q) (by bx : ℕ) (hy : by < block_rows q) (hx : bx < block_cols q) where
+  whole-cols : min (block_width q) (plane_width q - bx * block_width q) ≡ block_width q
+  whole-cols = omega (arith, cols-in q h by bx hy hx)
 
-pub pair-low : (f : Frame) (pris secs : List ℕ) → Paired f pris secs → (u : ℕ) → u < length pris → (p : UnitPair) → p ≡ pair_at (pairs_of pris secs) u → (p.primary ≤ 15) × (p.secondary ≤ 4)
-pair-low f pris secs k u h p e =
-    let z = e ∙ pair-at pris secs u h in
-    (rw z (k.pris-low u), rw z (k.secs-low u))
+  whole-rows : min (block_height q) (plane_height q - by * block_height q) ≡ block_height q
+  whole-rows = omega (arith, rows_in q h by bx hy hx)
 
-pub unit-in : (f : Frame) (skip dirs vars : List ℕ) (by bx : ℕ) → by < f.height / 8 → bx < f.width / 8 → (u : ℕ) → u ≡ unit_at (picture_of f skip dirs vars) by bx → u < units_of f
-unfolding picture_of units
-unit-in f skip dirs vars by bx hy hx u e = rw e (unit-low (picture_of f skip dirs vars) by bx hy hx)
+  module _ (p : Plane) (g : Sampled q p) (b : Block) (eb : b ≡ block_of q by bx) where
+    -- a destination as long as the plane has room for it
+    pub room : (n : ℕ) → n ≡ plane_width q * plane_height q → (b.y - 0 + min b.height (p.height - b.y)) * p.width ≤ n
+    unfolding block_of
+    room n en =
+        let k : by * block_height q - 0 + min (block_height q) (plane_height q - by * block_height q) ≤ plane_height q = omega (arith, rows_in q h by bx hy hx) in
+        rw (eb, g.wide, g.high) (omega (arith, mul-le-mul_right (plane_width q) k, en, mul_comm (plane_width q) (plane_height q)))
+
+    -- what the filter stores
+    pub filtered-is : (d : SignalledDamping) (pair : UnitPair) (l last : List ℕ) (r : FilterParams) → r ≡ params_for q.kind q.depth q.dirs d pair (block_at q by bx)
+        → last ≡ put_block l p.width (λ i j. filtered p r (0 + i) j) (b.y - 0) b.x (min b.width (p.width - b.x)) (min b.height (p.height - b.y)) → last ≡ block_filtered q d p.samples pair by bx l
+    unfolding block_filtered filtered_by block_of
+    filtered-is d pair l last r er e =
+        let y : by * block_height q - 0 ≡ by * block_height q = omega arith in
+        e
+        ∙ rw (eb, plane-is q h p g, whole-cols, whole-rows, y, er)
+        (block_same l (plane_width q) _ (filtered_by q d p.samples pair by bx) (by * block_height q) (bx * block_width q) (block_width q) (block_height q)
+        (λ i j a c m n. let z : 0 + i ≡ i = omega arith in rw z))
 
 -- ---- the tests of a block
 
@@ -36,22 +51,17 @@ and-off : (a : Bool) → a && false ≡ false
 and-off true = refl
 and-off false = refl
 
-module _ (f : Frame) (skip dirs vars : List ℕ) (d : SignalledDamping) (snapshot : List ℕ) (ps : List UnitPair) (by bx : ℕ) (dst : List ℕ) where
-  pub skipped : (get_or skip (by * (f.width / 8) + bx) 0 ≡ 0 → ⊥) → dst ≡ block_applied (picture_of f skip dirs vars) d snapshot ps by bx dst
-  unfolding block_applied written picture_of
-  skipped h = rw (ne_eqb (get_or skip (by * (f.width / 8) + bx) 0) 0 h)
+module _ (q : Picture) (d : SignalledDamping) (snapshot : List ℕ) (ps : List UnitPair) (by bx : ℕ) (dst : List ℕ) where
+  pub skipped : (get_or q.skip (block_at q by bx) 0 ≡ 0 → ⊥) → dst ≡ block_applied q d snapshot ps by bx dst
+  unfolding block_applied written
+  skipped h = rw (ne_eqb (get_or q.skip (block_at q by bx) 0) 0 h)
 
-  -- its unit u, the pair p of u, and t, whether p is 0, 0
-  module _ (p : UnitPair) (u : ℕ) (t : Bool) (eu : u ≡ unit_at (picture_of f skip dirs vars) by bx) (ep : p ≡ pair_at ps u) (et : t ≡ is_off p) where
-    own : p ≡ pair_at ps (unit_at (picture_of f skip dirs vars) by bx)
-    own = ep ∙ ap (λ (n : ℕ). pair_at ps n) eu
-
-    pub off : t ≡ true → dst ≡ block_applied (picture_of f skip dirs vars) d snapshot ps by bx dst
+  -- its pair p, and t, whether p is 0, 0
+  module _ (p : UnitPair) (t : Bool) (own : p ≡ pair_at ps (unit_at q by bx)) (et : t ≡ is_off p) where
+    pub off : t ≡ true → dst ≡ block_applied q d snapshot ps by bx dst
     unfolding block_applied written
-    off e = rw (← own, ← et, e, and-off (eqb (get_or (picture_of f skip dirs vars).skip (block_at (picture_of f skip dirs vars) by bx) 0) 0))
+    off e = rw (← own, ← et, e, and-off (eqb (get_or q.skip (block_at q by bx) 0) 0))
 
-    pub on : t ≡ false → get_or skip (by * (f.width / 8) + bx) 0 ≡ 0 → (last : List ℕ) → last ≡ block_filtered (picture_of f skip dirs vars) d snapshot p by bx dst → last ≡ block_applied (picture_of f skip dirs vars) d snapshot ps by bx dst
+    pub on : t ≡ false → get_or q.skip (block_at q by bx) 0 ≡ 0 → (last : List ℕ) → last ≡ block_filtered q d snapshot p by bx dst → last ≡ block_applied q d snapshot ps by bx dst
     unfolding block_applied written
-    on e z last h =
-        let k : eqb (get_or (picture_of f skip dirs vars).skip (block_at (picture_of f skip dirs vars) by bx) 0) 0 ≡ true = unfold picture_of in eq-eqb (get_or skip (by * (f.width / 8) + bx) 0) 0 z in
-        rw (← own, ← et, e, k) h
+    on e z last h = rw (← own, ← et, e, eq-eqb (get_or q.skip (block_at q by bx) 0) 0 z) h

@@ -1,5 +1,3 @@
 -- What applying leaves of one block, and its laws.
 pub mod Blocks
 pub mod BlockLaws
-pub mod PictureLaws
-pub mod FilterLaws

@@ -1,5 +1,5 @@
 -- Laws of applying: the iterations of the loops, and the whole plane.
-use Rattle.std.specs.Prelude.{◌≡◌, Bool, List, ℕ, ◌+◌, ◌*◌, ◌/◌, length}
+use Rattle.std.specs.Prelude.{◌≡◌, Bool, List, ℕ, ◌+◌, ◌*◌, length}
 use Rattle.std.proofs.Math.Path.{refl}
 use Rattle.std.proofs.Common.{sym, ◌∙◌}
 use Rattle.std.proofs.Math.Bool.{true, false, cond}
@@ -8,13 +8,8 @@ use Rattle.cdef_spec.specs.declared.UnitPair.{UnitPair}
 use Rattle.cdef_spec.specs.Picture.{Picture, plane_width, plane_height, block_rows, block_cols, unit_at, pair_at, written, applied_plane}
 use Rattle.cdef_spec.proofs.PlaneLaws.{apply-is}
 use Rattle.arith_totals.specs.FoldLaws.{apply-row-none, apply-row-more, apply-row-pass, apply-rows-none, apply-rows-more}
-use Rattle.frame_shape.specs.declared.Frame.{Frame}
-use Rattle.frame_shape.specs.Frame.{Shaped, picture_of}
-use Rattle.frame_shape.specs.FrameLaws.{width_is, height-is, tiles}
-use Rattle.frame_shape.specs.Lent.{samples_of}
-use Rattle.frame_shape.specs.BlockLaws.{block-wide, block-high}
-use Rattle.frame_shape.specs.Shape.{Shaped as PictureShaped}
-use Rattle.frame_shape.specs.ShapeLaws.{tiles as whole-tiles, block-wide as wide-block, block-high as high-block}
+use Rattle.frame_shape.specs.Shape.{Shaped}
+use Rattle.frame_shape.specs.ShapeLaws.{tiles, block-wide, block-high}
 use Rattle.apply_plane.specs.Apply.{row_applied, rows_applied}
 use Rattle.apply_blocks.specs.Blocks.{block_filtered, block_applied}
 
@@ -50,12 +45,6 @@ module _ (q : Picture) (d : SignalledDamping) (snapshot : List ℕ) (ps : List U
 
 -- ---- the whole plane
 
-pub plane-is : (f : Frame) → Shaped f → (skip dirs vars : List ℕ) (d : SignalledDamping) (snapshot : List ℕ) (ps : List UnitPair) (dst : List ℕ) → length dst ≡ samples_of f
-    → rows_applied (picture_of f skip dirs vars) d snapshot ps dst (f.height / 8) ≡ applied_plane (picture_of f skip dirs vars) d snapshot ps dst
-unfolding rows_applied picture_of
-plane-is f h skip dirs vars d snapshot ps dst e =
-    apply-is (picture_of f skip dirs vars) (tiles f h skip dirs vars) (block-wide f h skip dirs vars).0 (block-high f h skip dirs vars).0 d snapshot ps dst (e ∙ rw (width_is f h skip dirs vars, height-is f h skip dirs vars))
-
-pub all-is : (q : Picture) → PictureShaped q → (d : SignalledDamping) (snapshot : List ℕ) (ps : List UnitPair) (dst : List ℕ) → length dst ≡ plane_width q * plane_height q → rows_applied q d snapshot ps dst (block_rows q) ≡ applied_plane q d snapshot ps dst
+pub plane-is : (q : Picture) → Shaped q → (d : SignalledDamping) (snapshot : List ℕ) (ps : List UnitPair) (dst : List ℕ) → length dst ≡ plane_width q * plane_height q → rows_applied q d snapshot ps dst (block_rows q) ≡ applied_plane q d snapshot ps dst
 unfolding rows_applied
-all-is q h d snapshot ps dst e = apply-is q (whole-tiles q h) (wide-block q h).0 (high-block q h).0 d snapshot ps dst e
+plane-is q h d snapshot ps dst e = apply-is q (tiles q h) (block-wide q h).0 (block-high q h).0 d snapshot ps dst e

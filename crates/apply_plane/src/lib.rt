@@ -1,65 +1,34 @@
 // Applying: a plane filtered from its snapshot, each unit with its own pair. It validates nothing and is given the figure in force.
 #![tactic(auto)]
 
-pub mod new;
-
-ghost use Rattle.std.specs.Prelude.{◌≡◌, ◌/◌, ◌+◌, ◌<◌, length};
-ghost use Rattle.cdef_spec.specs.FrameCalls.{pairs_of};
-ghost use Rattle.cdef_spec.specs.Picture.{applied_plane};
-ghost use Rattle.frame_shape.specs.Frame.{Shaped, picture_of};
-ghost use Rattle.frame_shape.specs.Lent.{Listed, Sampled, Paired, InForce, samples_of};
+ghost use Rattle.std.specs.Prelude.{◌≡◌, ◌*◌, ◌<◌, length};
+ghost use Rattle.cdef_spec.specs.Picture.{block_rows, block_cols, plane_width, plane_height, units, applied_plane};
+ghost use Rattle.cdef_pairs.specs.Applying.{Paired};
+ghost use Rattle.frame_shape.specs.Checked.{filter_in};
 ghost use Rattle.apply_plane.specs.Apply.{row_applied};
 
-use cdef_spec::SignalledDamping;
-use frame_shape::Frame;
+use cdef_pairs::Pairs;
+use frame_shape::inputs::FilterInput;
 
-// Row by of the blocks of a plane w by h.
-fn apply_row(
-    dst: &mut [u16],
-    snapshot: &[u16],
-    f: Frame,
-    w: usize,
-    h: usize,
-    skip: &[u8],
-    dirs: &[u8],
-    vars: &[u32],
-    pris: &[u8],
-    secs: &[u8],
-    d: SignalledDamping,
-    by: usize,
-)
-    requires shaped { Shaped f × Listed f skip.now dirs.now vars.now × Sampled f snapshot.now × Paired f pris.now secs.now × InForce d }
-    requires w_value { (w ≡ f.width / (1 + f.sx)) × (h ≡ f.height / (1 + f.sy)) × (by < f.height / 8) × (length dst.old ≡ samples_of f) }
-    ensures { dst.new ≡ row_applied (picture_of f skip.now dirs.now vars.now) d snapshot.now
-        (pairs_of pris.now secs.now) by dst.old (f.width / 8) }
+// Row by of the blocks. The loop goes over numbers, since a block's place is computed from its column.
+fn apply_row<P: Pairs>(dst: &mut [u16], i: &FilterInput<'_>, pairs: &P, by: usize)
+    requires paired { Paired (units (filter_in i.now)) (P.pairs pairs.now) }
+    requires inside { by < block_rows (filter_in i.now) }
+    requires full { length dst.old ≡ plane_width (filter_in i.now) * plane_height (filter_in i.now) }
+    ensures { dst.new ≡ row_applied (filter_in i.now) i.now.damping i.now.plane.samples.now (P.pairs pairs.now) by dst.old (block_cols (filter_in i.now)) }
 {
-    for bx in 0..f.width / 8 {
-        apply_blocks::apply_block(
-            dst, snapshot, f, w, h, skip, dirs, vars, pris, secs, d, by, bx,
-        );
+    for bx in 0..i.listed.shaped.picture.width / 8 {
+        apply_blocks::apply_block(dst, i, pairs, by, bx);
     }
 }
 
 // The whole plane.
-pub fn apply_plane(
-    dst: &mut [u16],
-    snapshot: &[u16],
-    f: Frame,
-    skip: &[u8],
-    dirs: &[u8],
-    vars: &[u32],
-    pris: &[u8],
-    secs: &[u8],
-    d: SignalledDamping,
-)
-    requires { Shaped f × Listed f skip.now dirs.now vars.now × Sampled f snapshot.now × Paired f pris.now secs.now × InForce d
-        × (length dst.old ≡ samples_of f) }
-    ensures { dst.new ≡ applied_plane (picture_of f skip.now dirs.now vars.now) d
-        snapshot.now (pairs_of pris.now secs.now) dst.old }
+pub fn apply_plane<P: Pairs>(dst: &mut [u16], i: &FilterInput<'_>, pairs: &P)
+    requires paired { Paired (units (filter_in i.now)) (P.pairs pairs.now) }
+    requires full { length dst.old ≡ plane_width (filter_in i.now) * plane_height (filter_in i.now) }
+    ensures { dst.new ≡ applied_plane (filter_in i.now) i.now.damping i.now.plane.samples.now (P.pairs pairs.now) dst.old }
 {
-    let w = frame_shape::geometry::plane_width(f);
-    let h = frame_shape::geometry::plane_height(f);
-    for by in 0..f.height / 8 {
-        apply_row(dst, snapshot, f, w, h, skip, dirs, vars, pris, secs, d, by);
+    for by in 0..i.listed.shaped.picture.height / 8 {
+        apply_row(dst, i, pairs, by);
     }
 }

@@ -1,5 +1,5 @@
--- What the cores of the frame calls receive, as a picture of Picture. Definitions only.
-use Rattle.std.specs.Prelude.{◌≡◌, true, cond, List, ℕ, ◌-◌, ◌*◌, ◌≤◌, ◌<◌, min, get_or}
+-- The blocks of a plane, and the parts of their filter parameters. Definitions only.
+use Rattle.std.specs.Prelude.{List, ℕ, ◌-◌, ◌*◌, min, get_or}
 use Rattle.cdef_spec.specs.Words.{◌<<◌}
 use Rattle.cdef_spec.specs.Standard.{adjust_pri, chroma_direction}
 use Rattle.cdef_spec.specs.declared.Block.{Block}
@@ -10,25 +10,6 @@ use Rattle.cdef_spec.specs.declared.TrialWay.{TrialWay}
 use Rattle.cdef_spec.specs.declared.TrialWay.TheVariants.{Luma, Chroma}
 use Rattle.cdef_spec.specs.Document01.{luma_damping, chroma_damping}
 use Rattle.cdef_spec.specs.Picture.{PlaneKind, luma, chroma, Picture, block_width, block_height, visible_rows, visible_cols}
-use Rattle.cdef_spec.specs.Questions.{luma_side_taken}
-use Rattle.frame_shape.specs.declared.Frame.{Frame}
-
--- luma with its variances, or chroma with its subsampling flags
-unfoldable pub kind_of : Frame → List ℕ → PlaneKind
-kind_of f vars = cond f.luma (luma vars) (chroma f.sx f.sy)
-
-unfoldable pub picture_of : Frame → List ℕ → List ℕ → List ℕ → Picture
-picture_of f skip dirs vars = record { kind = kind_of f vars; depth = f.depth; width = f.width; height = f.height; skip = skip; dirs = dirs }
-
--- what passes questions 1, 2 and 3; a luma plane is not subsampled
-pub record Shaped (f : Frame) : Type 0 where
-  pub deep : 8 ≤ f.depth
-  pub flat : f.depth ≤ 12
-  pub wide : luma_side_taken f.width ≡ true
-  pub high : luma_side_taken f.height ≡ true
-  pub sx : f.sx < 2
-  pub sy : f.sy < 2
-  pub whole : f.luma ≡ true → (f.sx ≡ 0) × (f.sy ≡ 0)
 
 -- the block in row by and column bx of the blocks
 unfoldable pub block_of : Picture → ℕ → ℕ → Block

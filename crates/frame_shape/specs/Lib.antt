@@ -1,14 +1,11 @@
--- A plane of a picture, as the cores receive it.
+-- The parts of a plane's blocks.
 pub mod Frame
+-- What a picture that passed the checks satisfies.
 pub mod Shape
 pub mod Checked
-pub mod ShapeLaws
-pub mod CountLaws
-pub mod SampledLaws
--- What the cores require.
-pub mod Lent
--- Laws of its picture.
+-- Laws of its blocks and planes.
 pub mod FrameLaws
+pub mod ShapeLaws
 pub mod CountedLaws
-pub mod BlockLaws
+pub mod SampledLaws
 pub mod UsableLaws

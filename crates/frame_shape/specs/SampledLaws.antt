@@ -1,10 +1,10 @@
 -- Laws of a checked picture's planes, and of the lists of its blocks.
-use Rattle.std.specs.Prelude.{◌≡◌, refl, true, List, ℕ, ◌+◌, ◌*◌, ◌^◌, ◌≤◌, ◌<◌, get_or}
-use Rattle.std.proofs.Common.{◌∙◌, sym, ap, arith, pow_mono, eqb-true}
+use Rattle.std.specs.Prelude.{◌≡◌, true, ℕ, ◌≤◌, ◌<◌, get_or}
+use Rattle.std.proofs.Common.{arith, pow_mono, eqb-true}
 use Rattle.cdef_spec.specs.declared.Block.{Block}
 use Rattle.cdef_spec.specs.declared.Visible.{Visible}
 use Rattle.cdef_spec.specs.Document01.{Plane}
-use Rattle.cdef_spec.specs.Picture.{PlaneKind, luma, chroma, Picture, plane_width, plane_height, plane_of, block_width, block_height, block_rows, block_cols, block_at}
+use Rattle.cdef_spec.specs.Picture.{PlaneKind, luma, chroma, Picture, plane_of, block_rows, block_cols}
 use Rattle.cdef_spec.specs.Questions.{variances_listed}
 use Rattle.arith_sample.specs.Bounds.{Marked}
 use Rattle.arith_sample.specs.Upto.{upto}
@@ -13,7 +13,7 @@ use Rattle.filter_window.specs.Spans.{InPlane}
 use Rattle.filter_window.specs.WindowLaws.{window-marked}
 use Rattle.frame_shape.specs.Frame.{block_of}
 use Rattle.frame_shape.specs.Shape.{Shaped, Listed, Sampled, Seen, HasVariance, HasParams, blocks}
-use Rattle.frame_shape.specs.ShapeLaws.{luma-sides, plane-wide, plane-high, block-wide, block-high, cols-in, rows_in, number-low}
+use Rattle.frame_shape.specs.ShapeLaws.{luma-sides, plane-wide, plane-high, block-wide, block-high, cols-in, rows_in}
 
 -- a block of the picture has its parameters
 module _ (q : Picture) (h : Listed q) (b : ℕ) (n : b < blocks q) where

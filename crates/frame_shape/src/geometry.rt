@@ -1,94 +1,148 @@
 // Blocks, units and the visible part of a plane.
-ghost use Rattle.std.specs.Prelude.{◌≡◌, List, ℕ, ◌+◌, ◌*◌, ◌/◌, ◌≤◌, ◌<◌, length};
-ghost use Rattle.cdef_spec.specs.Picture.{plane_width, plane_height, visible_rows, visible_cols, unit_at, counted as counted_in};
-ghost use Rattle.frame_shape.specs.Frame.{Shaped, picture_of, block_of};
+ghost use Rattle.std.specs.Prelude.{◌≡◌, ◌+◌, ◌*◌, ◌/◌, ◌≤◌, ◌<◌, ◌^◌, length};
+ghost use Rattle.cdef_spec.specs.Picture.{sub_x, sub_y, plane_width, plane_height, block_width, block_height, visible_rows, visible_cols, block_at, unit_at, units, counted};
+ghost use Rattle.frame_shape.specs.Frame.{block_of, visible_part};
+ghost use Rattle.frame_shape.specs.Shape.{is_luma};
+ghost use Rattle.frame_shape.specs.Checked.{shaped_in, listed_in};
 
-use crate::Frame;
-use cdef_spec::{Block, Visible};
+use crate::checked::{ListedPicture, ShapedPicture};
+use cdef_spec::{Block, PlaneKind, Visible};
 
-// A visible side of n luma samples in a plane's own samples, rounded up when subsampled.
+// A side of n luma samples in a plane's own samples.
+fn subsampled(n: usize, flag: u8) -> usize
+    requires { flag < 2 }
+    ensures { (result ≡ n / 2 ^ flag) × (result ≤ n) }
+{
+    n >> flag
+}
+
+// The same for a visible side: rounded up.
 fn visible_side(n: usize, flag: u8) -> usize
     requires { (n ≤ 4096) × (flag < 2) }
-    ensures { result ≡ (n + flag) / (1 + flag) }
+    ensures { result ≡ (n + flag) / 2 ^ flag }
 {
-    if flag == 0 {
-        return n;
+    subsampled(n + flag as usize, flag)
+}
+
+impl<'a> ShapedPicture<'a> {
+    // The subsampling flags, horizontal and vertical: both 0 in luma.
+    fn subsampling(&self) -> (u8, u8)
+        ensures values { (result.0 ≡ sub_x (shaped_in self.now).kind) × (result.1 ≡ sub_y (shaped_in self.now).kind) }
+        ensures flags { (result.0 < 2) × (result.1 < 2) }
+    {
+        match self.picture.kind {
+            PlaneKind::Luma { vars: _ } => (0, 0),
+            PlaneKind::Chroma { sx, sy } => (sx, sy),
+        }
     }
-    (n + 1) / 2
-}
 
-// The visible part of a plane, in its own samples.
-pub fn visible_rows(f: Frame, v: Visible) -> usize
-    requires { Shaped f × (v.height ≤ 4096) }
-    ensures { (s d vs : List ℕ) → result ≡ visible_rows (picture_of f s d vs) v }
-{
-    visible_side(v.height, f.sy)
-}
+    // Whether the plane is luma.
+    pub fn is_luma(&self) -> bool
+        ensures { result ≡ is_luma (shaped_in self.now).kind }
+    {
+        match self.picture.kind {
+            PlaneKind::Luma { vars: _ } => true,
+            PlaneKind::Chroma { sx: _, sy: _ } => false,
+        }
+    }
 
-pub fn visible_cols(f: Frame, v: Visible) -> usize
-    requires { Shaped f × (v.width ≤ 4096) }
-    ensures { (s d vs : List ℕ) → result ≡ visible_cols (picture_of f s d vs) v }
-{
-    visible_side(v.width, f.sx)
-}
+    // The plane's own sides.
+    pub fn plane_width(&self) -> usize
+        ensures { result ≡ plane_width (shaped_in self.now) }
+    {
+        subsampled(self.picture.width, self.subsampling().0)
+    }
 
-// A side of a block: 8, or 4 where it is subsampled.
-fn block_side(flag: u8) -> usize
-    requires { flag < 2 }
-    ensures { (result ≡ 8 / (1 + flag)) × (result ≤ 8) }
-{
-    if flag == 0 { 8 } else { 4 }
-}
+    pub fn plane_height(&self) -> usize
+        ensures { result ≡ plane_height (shaped_in self.now) }
+    {
+        subsampled(self.picture.height, self.subsampling().1)
+    }
 
-// The part of a plane that belongs to the luma block in row by and column bx of the blocks.
-pub fn block_of(f: Frame, by: usize, bx: usize) -> Block
-    requires { Shaped f × (by ≤ 512) × (bx ≤ 512) }
-    ensures { (s d vs : List ℕ) → result ≡ block_of (picture_of f s d vs) by bx }
-{
-    let bw = block_side(f.sx);
-    let bh = block_side(f.sy);
-    Block {
-        x: bx * bw,
-        y: by * bh,
-        width: bw,
-        height: bh,
+    // The visible part of the plane, in its own samples.
+    pub fn visible_rows(&self, v: Visible) -> usize
+        requires { v.height ≤ 4096 }
+        ensures { result ≡ visible_rows (shaped_in self.now) v }
+    {
+        visible_side(v.height, self.subsampling().1)
+    }
+
+    pub fn visible_cols(&self, v: Visible) -> usize
+        requires { v.width ≤ 4096 }
+        ensures { result ≡ visible_cols (shaped_in self.now) v }
+    {
+        visible_side(v.width, self.subsampling().0)
+    }
+
+    // The part of the plane that belongs to the luma block in row by and column bx of the blocks.
+    pub fn block_of(&self, by: usize, bx: usize) -> Block
+        requires { (by ≤ 512) × (bx ≤ 512) }
+        ensures { result ≡ block_of (shaped_in self.now) by bx }
+    {
+        let (sx, sy) = self.subsampling();
+        let width = subsampled(8, sx);
+        let height = subsampled(8, sy);
+        Block {
+            x: bx * width,
+            y: by * height,
+            width,
+            height,
+        }
+    }
+
+    // The visible part of a block that begins inside the visible area.
+    pub fn visible_part(&self, v: Visible, by: usize, bx: usize) -> Block
+        requires seen { (v.width ≤ 4096) × (v.height ≤ 4096) }
+        requires few { (by ≤ 512) × (bx ≤ 512) }
+        requires begun { (by * block_height (shaped_in self.now) ≤ visible_rows (shaped_in self.now) v) × (bx * block_width (shaped_in self.now) ≤ visible_cols (shaped_in self.now) v) }
+        ensures { result ≡ visible_part (shaped_in self.now) v by bx }
+    {
+        let b = self.block_of(by, bx);
+        let rows = self.visible_rows(v) - b.y;
+        let cols = self.visible_cols(v) - b.x;
+        Block {
+            x: b.x,
+            y: b.y,
+            width: b.width.min(cols),
+            height: b.height.min(rows),
+        }
+    }
+
+    // The index of a block.
+    pub fn block_at(&self, by: usize, bx: usize) -> usize
+        requires { (by ≤ 512) × (bx ≤ 512) }
+        ensures { result ≡ block_at (shaped_in self.now) by bx }
+    {
+        by * (self.picture.width / 8) + bx
+    }
+
+    // The number of units.
+    pub fn units(&self) -> usize
+        ensures { (result ≡ units (shaped_in self.now)) × (result ≤ 4096) }
+    {
+        (self.picture.height + 63) / 64 * ((self.picture.width + 63) / 64)
+    }
+
+    // The index of a block's unit.
+    pub fn unit_at(&self, by: usize, bx: usize) -> usize
+        requires { (by ≤ 512) × (bx ≤ 512) }
+        ensures { result ≡ unit_at (shaped_in self.now) by bx }
+    {
+        by / 8 * ((self.picture.width + 63) / 64) + bx / 8
     }
 }
 
-// The index of a block's unit.
-pub fn unit_at(f: Frame, by: usize, bx: usize) -> usize
-    requires { Shaped f × (by ≤ 512) × (bx ≤ 512) }
-    ensures { (s d vs : List ℕ) → result ≡ unit_at (picture_of f s d vs) by bx }
-{
-    by / 8 * ((f.width + 63) / 64) + bx / 8
-}
-
-// Whether a block counts: it is not skipped and begins inside the visible part.
-pub fn counted(f: Frame, v: Visible, skip: &[u8], by: usize, bx: usize) -> bool
-    requires { Shaped f × (v.width ≤ 4096) × (v.height ≤ 4096) × (by ≤ 512) × (bx ≤ 512) × (by * (f.width / 8) + bx < length skip.now) }
-    ensures { (d vs : List ℕ) → result ≡ counted_in (picture_of f skip.now d vs) v by bx }
-{
-    if skip[by * (f.width / 8) + bx] != 0 {
-        return false;
+impl<'a> ListedPicture<'a> {
+    // Whether a block counts: it is not skipped and begins inside the visible part.
+    pub fn counted(&self, v: Visible, by: usize, bx: usize) -> bool
+        requires seen { (v.width ≤ 4096) × (v.height ≤ 4096) }
+        requires inside { (by ≤ 512) × (bx ≤ 512) × (block_at (listed_in self.now) by bx < length self.now.shaped.picture.skip.now) }
+        ensures { result ≡ counted (listed_in self.now) v by bx }
+    {
+        if self.shaped.picture.skip[self.shaped.block_at(by, bx)] != 0 {
+            return false;
+        }
+        let b = self.shaped.block_of(by, bx);
+        b.y < self.shaped.visible_rows(v) && b.x < self.shaped.visible_cols(v)
     }
-    let b = block_of(f, by, bx);
-    if visible_rows(f, v) <= b.y {
-        return false;
-    }
-    b.x < visible_cols(f, v)
-}
-
-// The plane's own sides.
-pub fn plane_width(f: Frame) -> usize
-    requires { Shaped f }
-    ensures { (s d vs : List ℕ) → result ≡ plane_width (picture_of f s d vs) }
-{
-    f.width / (1 + f.sx as usize)
-}
-
-pub fn plane_height(f: Frame) -> usize
-    requires { Shaped f }
-    ensures { (s d vs : List ℕ) → result ≡ plane_height (picture_of f s d vs) }
-{
-    f.height / (1 + f.sy as usize)
 }

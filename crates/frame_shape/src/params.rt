@@ -1,86 +1,100 @@
 // A block's filter parameters. b is the block's index.
-ghost use Rattle.std.specs.Prelude.{◌≡◌, true, cond, List, ℕ, ◌≤◌, ◌<◌, eqb, get_or, length};
+ghost use Rattle.std.specs.Prelude.{◌≡◌, cond, eqb, ◌≤◌, ◌<◌, get_or, length};
 ghost use Rattle.cdef_spec.specs.Picture.{params_for, is_off};
-ghost use Rattle.frame_shape.specs.Frame.{Shaped, kind_of, way_of, dir_of, damping_of, primary_of};
+ghost use Rattle.frame_shape.specs.Frame.{way_of, dir_of, damping_of, primary_of};
+ghost use Rattle.frame_shape.specs.Shape.{HasVariance, HasParams};
+ghost use Rattle.frame_shape.specs.Checked.{shaped_in};
 
-use crate::Frame;
-use cdef_spec::{FilterParams, SignalledDamping, TrialWay, UnitPair, WorkingDamping};
+use crate::checked::ShapedPicture;
+use cdef_spec::{FilterParams, PlaneKind, SignalledDamping, TrialWay, UnitPair, WorkingDamping};
 
-// The working damping, by the luma or the chroma rule.
-pub fn damping_of(f: Frame, d: SignalledDamping) -> WorkingDamping
-    requires { Shaped f × (3 ≤ d.0) × (d.0 ≤ 6) }
-    ensures { (vs : List ℕ) → result ≡ damping_of (kind_of f vs) d f.depth }
+// Block b's variance. In a function of its own, where the list's length is known to fit.
+fn variance_of(vars: &[u32], b: usize) -> u32
+    requires { b < length vars.now }
+    ensures { result ≡ get_or vars.now b 0 }
 {
-    if f.luma {
-        return arith_damping::luma_damping(d, f.depth);
-    }
-    arith_damping::chroma_damping(d, f.depth)
+    vars[b]
 }
 
-// The block's direction in the plane.
-pub fn dir_of(f: Frame, dirs: &[u8], b: usize) -> u8
-    requires { Shaped f × (b < length dirs.now) × (get_or dirs.now b 0 < 8) }
-    ensures { (vs : List ℕ) → result ≡ dir_of (kind_of f vs) dirs.now b }
-{
-    if f.luma {
-        return dirs[b];
+impl<'a> ShapedPicture<'a> {
+    // The working damping, by the luma or the chroma rule.
+    #[tactic(auto, unfolding(cdef_spec::specs::Lent::picture_in, cdef_spec::specs::Lent::kind_in, crate::specs::Frame::damping_of))]
+    pub fn damping_of(&self, d: SignalledDamping) -> WorkingDamping
+        requires { (3 ≤ d.0) × (d.0 ≤ 6) }
+        ensures { result ≡ damping_of (shaped_in self.now).kind d self.now.picture.depth }
+    {
+        match self.picture.kind {
+            PlaneKind::Luma { vars: _ } => arith_damping::luma_damping(d, self.picture.depth),
+            PlaneKind::Chroma { sx: _, sy: _ } => {
+                arith_damping::chroma_damping(d, self.picture.depth)
+            },
+        }
     }
-    arith_tables::chroma_direction(f.sx, f.sy, dirs[b])
-}
 
-// The kind of the block's trial.
-pub fn way_of(f: Frame, vars: &[u32], b: usize) -> TrialWay
-    requires { f.luma ≡ true → b < length vars.now }
-    ensures { result ≡ way_of (kind_of f vars.now) b }
-{
-    if f.luma {
-        return TrialWay::Luma(vars[b]);
+    // The block's direction in the plane.
+    #[tactic(auto, unfolding(cdef_spec::specs::Lent::picture_in, cdef_spec::specs::Lent::kind_in, crate::specs::Frame::dir_of))]
+    pub fn dir_of(&self, b: usize) -> u8
+        requires { (b < length self.now.picture.dirs.now) × (get_or self.now.picture.dirs.now b 0 < 8) }
+        ensures { result ≡ dir_of (shaped_in self.now).kind (shaped_in self.now).dirs b }
+    {
+        let dir = self.picture.dirs[b];
+        match self.picture.kind {
+            PlaneKind::Luma { vars: _ } => dir,
+            PlaneKind::Chroma { sx, sy } => arith_tables::chroma_direction(sx, sy, dir),
+        }
     }
-    TrialWay::Chroma
-}
 
-// A signalled primary strength as the block's working one: in luma adjusted by the variance.
-fn primary_of(f: Frame, vars: &[u32], b: usize, s: u8) -> u32
-    requires { Shaped f × (f.luma ≡ true → b < length vars.now) × (s ≤ 15) }
-    ensures { result ≡ primary_of (kind_of f vars.now) f.depth b s }
-{
-    let p = (s as u32) << ((f.depth - 8) as u32);
-    if f.luma {
-        return arith_strength::adjust_pri(p, vars[b]);
+    // The kind of the block's trial.
+    #[tactic(auto, unfolding(cdef_spec::specs::Lent::picture_in, cdef_spec::specs::Lent::kind_in, crate::specs::Frame::way_of))]
+    pub fn way_of(&self, b: usize) -> TrialWay
+        requires { HasVariance (shaped_in self.now).kind b }
+        ensures { result ≡ way_of (shaped_in self.now).kind b }
+    {
+        match self.picture.kind {
+            PlaneKind::Luma { vars } => TrialWay::Luma(variance_of(vars, b)),
+            PlaneKind::Chroma { sx: _, sy: _ } => TrialWay::Chroma,
+        }
     }
-    p
-}
 
-// The direction that a block is filtered in: 0 where the signalled primary is 0.
-fn dir_for(f: Frame, dirs: &[u8], b: usize, s: u8) -> u8
-    requires { Shaped f × (b < length dirs.now) × (get_or dirs.now b 0 < 8) }
-    ensures { (vs : List ℕ) → result ≡ cond (eqb s 0) 0 (dir_of (kind_of f vs) dirs.now b) }
-{
-    if s == 0 {
-        return 0;
+    // A signalled primary strength as the block's working one: in luma adjusted by the variance.
+    #[tactic(auto, unfolding(cdef_spec::specs::Lent::picture_in, cdef_spec::specs::Lent::kind_in, crate::specs::Frame::primary_of))]
+    fn primary_of(&self, b: usize, s: u8) -> u32
+        requires { HasVariance (shaped_in self.now).kind b × (s ≤ 15) }
+        ensures { result ≡ primary_of (shaped_in self.now).kind (shaped_in self.now).depth b s }
+    {
+        let p = (s as u32) << (self.picture.depth - 8);
+        match self.picture.kind {
+            PlaneKind::Luma { vars } => arith_strength::adjust_pri(p, variance_of(vars, b)),
+            PlaneKind::Chroma { sx: _, sy: _ } => p,
+        }
     }
-    dir_of(f, dirs, b)
-}
 
-// The filter parameters of block b, for a pair.
-pub fn params_for(
-    f: Frame,
-    dirs: &[u8],
-    vars: &[u32],
-    b: usize,
-    p: UnitPair,
-    d: SignalledDamping,
-) -> FilterParams
-    requires shaped { Shaped f × (b < length dirs.now) × (get_or dirs.now b 0 < 8) × (f.luma ≡ true → b < length vars.now) }
-    requires primary_bound { (p.primary ≤ 15) × (p.secondary ≤ 4) × (3 ≤ d.0) × (d.0 ≤ 6) }
-    ensures { result ≡ params_for (kind_of f vars.now) f.depth dirs.now d p b }
-{
-    FilterParams {
-        pri: primary_of(f, vars, b, p.primary),
-        sec: (p.secondary as u32) << ((f.depth - 8) as u32),
-        dir: dir_for(f, dirs, b, p.primary),
-        damping: damping_of(f, d),
-        depth: f.depth,
+    // The direction that a block is filtered in: 0 where the signalled primary is 0.
+    fn dir_for(&self, b: usize, s: u8) -> u8
+        requires { (b < length self.now.picture.dirs.now) × (get_or self.now.picture.dirs.now b 0 < 8) }
+        ensures { result ≡ cond (eqb s 0) 0 (dir_of (shaped_in self.now).kind (shaped_in self.now).dirs b) }
+    {
+        if s == 0 {
+            return 0;
+        }
+        self.dir_of(b)
+    }
+
+    // The filter parameters of block b, for a pair.
+    #[tactic(auto, unfolding(cdef_spec::specs::Lent::picture_in))]
+    pub fn params_for(&self, b: usize, p: UnitPair, d: SignalledDamping) -> FilterParams
+        requires block { HasParams (shaped_in self.now) b }
+        requires ranges { (p.primary ≤ 15) × (p.secondary ≤ 4) × (3 ≤ d.0) × (d.0 ≤ 6) }
+        ensures { result ≡ params_for (shaped_in self.now).kind (shaped_in self.now).depth (shaped_in self.now).dirs d p b }
+    {
+        let depth = self.picture.depth;
+        FilterParams {
+            pri: self.primary_of(b, p.primary),
+            sec: (p.secondary as u32) << (depth - 8),
+            dir: self.dir_for(b, p.primary),
+            damping: self.damping_of(d),
+            depth,
+        }
     }
 }
 

@@ -1,23 +1,20 @@
 -- Totals: one block, one row of blocks, all rows.
-use Rattle.std.specs.Prelude.{◌≡◌, true, false, ℕ, ◌+◌, ◌/◌, ◌^◌, ◌≤◌, ◌<◌, ℤ, pos, replicate}
-use Rattle.std.proofs.Math.Path.{refl, sym}
-use Rattle.std.proofs.Common.{ap, ◌∙◌, arith, add-one}
-use mathlib.Core.List.{List, []}
-use Rattle.cdef_spec.specs.declared.SignalledDamping.{SignalledDamping}
+use Rattle.std.specs.Prelude.{◌≡◌, true, false, ◌&&◌, eqb, ltb, get_or, ◌*◌, List, [], ℕ, ◌+◌, ◌^◌, ◌≤◌, ◌<◌, ℤ, pos, replicate}
+use Rattle.std.proofs.Common.{ltb-true, add-one, ap, sym, ◌∙◌, arith}
 use Rattle.cdef_spec.specs.declared.UnitPair.{UnitPair}
 use Rattle.cdef_spec.specs.declared.Visible.{Visible}
+use Rattle.cdef_spec.specs.Lent.{plane_in_full}
 use Rattle.cdef_spec.specs.Words.{table}
-use Rattle.cdef_spec.specs.Picture.{Picture, block_rows, units, unit_at, counted, measured_total}
-use Rattle.cdef_spec.specs.FrameCalls.{scratch_length}
+use Rattle.cdef_spec.specs.WordsLaws.{and_both}
+use Rattle.cdef_spec.specs.Picture.{Picture, block_width, block_height, visible_rows, visible_cols, block_at, counted, unit_at, block_rows, block_cols, units, measured_total}
 use Rattle.cdef_spec.specs.LoopForm.{signed, add_at, measure_row, measure_rows}
 use Rattle.cdef_spec.specs.TotalLaws.{signed-zeros, signed-table, measure-is}
 use Rattle.arith_totals.specs.FoldLaws.{measure-rows-more}
 use Rattle.arith_totals.specs.TotalBounds.{measure-low}
-use Rattle.frame_shape.specs.declared.Frame.{Frame}
-use Rattle.frame_shape.specs.Frame.{picture_of}
-use Rattle.frame_shape.specs.FrameLaws.{width_is, block-height-is}
-use Rattle.frame_shape.specs.Lent.{units_of}
-use Rattle.measure_plane.specs.Measure.{Lent, scratch_of, SmallRow, measure_one, measured_distance}
+use Rattle.frame_shape.specs.declared.inputs.CompareInput.{CompareInput}
+use Rattle.frame_shape.specs.Checked.{compare_in}
+use Rattle.measure_plane.specs.Measure.{SmallRow, measure_one, measured_distance}
+use Rattle.measure_plane.specs.Measure.{distance_in, rows_measured}
 use Rattle.measure_plane.specs.DistanceLaws.{measured-low}
 
 -- ---- one iteration
@@ -35,46 +32,34 @@ pub row_step : (q : Picture) (v : Visible) (dist : ℕ → ℕ → ℕ) (by : �
 unfolding measure_row measure_one
 row_step q v dist by z n = rw (add-one n)
 
--- a row of blocks more
-pub rows_step : (f : Frame) (skip dirs vars : List ℕ) (v : Visible) (dist : ℕ → ℕ → ℕ) (z : List ℕ) (m : ℕ)
-    → measure_row (picture_of f skip dirs vars) v dist m (measure_rows (picture_of f skip dirs vars) v dist z m) (f.width / 8) ≡ measure_rows (picture_of f skip dirs vars) v dist z (m + 1)
-rows_step f skip dirs vars v dist z m = (unfold picture_of in sym (measure-rows-more (picture_of f skip dirs vars) v dist z m))
+-- a counted block begins inside the visible area
+pub begun : (q : Picture) (v : Visible) (by bx : ℕ) → counted q v by bx ≡ true → (by * block_height q ≤ visible_rows q v) × (bx * block_width q ≤ visible_cols q v)
+unfolding counted
+begun q v by bx e =
+    let a = (and_both (eqb (get_or q.skip (block_at q by bx) 0) 0) (ltb (by * block_height q) (visible_rows q v) && ltb (bx * block_width q) (visible_cols q v)) e).1 in
+    let b = and_both (ltb (by * block_height q) (visible_rows q v)) (ltb (bx * block_width q) (visible_cols q v)) a in
+    (omega (arith, ltb-true (by * block_height q) (visible_rows q v) b.0), omega (arith, ltb-true (bx * block_width q) (visible_cols q v) b.1))
 
--- ---- all rows
-
-module _ (f : Frame) (v : Visible) (plane original skip dirs vars : List ℕ) (p : UnitPair) (d : SignalledDamping) (g : Lent f v plane original skip dirs vars p d) where
+module _ (i : CompareInput) (p : UnitPair) where
   abbrev q : Picture
-  q = picture_of f skip dirs vars
+  q = compare_in i
 
-  abbrev dist : ℕ → ℕ → ℕ
-  dist = measured_distance q d v plane original p
+  -- a row of blocks more
+  pub rows_step : (m : ℕ) → measure_row q i.visible (distance_in i p) m (rows_measured i p m) (block_cols q) ≡ rows_measured i p (m + 1)
+  rows_step m = sym (measure-rows-more q i.visible (distance_in i p) _ m)
 
   -- no total grows too large
-  pub row_small : (by : ℕ) → by < f.height / 8 → SmallRow q v dist by (measure_rows q v dist (replicate (units q) 0) by)
-  row_small by hy = record {
-    turn = λ n hn. record {
-      each = λ u.
-          measure-low q v dist (2 ^ 53) (λ i j hi hj e. (unfold picture_of in low i j hi hj)) by n u (unfold picture_of in hy) hn;
-    };
-  }
+  pub row_small : (by : ℕ) → by < block_rows q → SmallRow q i.visible (distance_in i p) by (rows_measured i p by)
+  unfolding plane_in_full
+  row_small by hy = record { turn = λ n hn. record { each = λ u. measure-low q i.visible (distance_in i p) (2 ^ 53) (λ m k hm hk e. low m k hm hk) by n u hy hn } }
     where
-      low : (i j : ℕ) → i < f.height / 8 → j < f.width / 8 → measured_distance q d v plane original p i j ≤ 2 ^ 53
-      low i j hi hj = omega (arith, measured-low f g.shaped v skip dirs vars i j hi hj d p [] plane original g.given g.wanted)
+      low : (m k : ℕ) → m < block_rows q → k < block_cols q → distance_in i p m k ≤ 2 ^ 53
+      low m k hm hk = omega (arith, measured-low q i.filter.listed.shaped.shaped i.visible m k hm hk i.filter.damping p [] (plane_in_full i.filter.plane) (plane_in_full i.original) i.filter.sampled i.original_sampled)
 
-  pub units-is : units q ≡ units_of f
-  unfolding units picture_of
-  units-is = refl
-
-  pub scratch-is : scratch_length q ≡ scratch_of f
-  unfolding scratch_length
-  scratch-is = rw (width_is f g.shaped skip dirs vars, block-height-is f g.shaped skip dirs vars)
-
-  pub totals-none : (n : ℕ) → n ≡ units_of f → replicate n (pos 0) ≡ signed (measure_rows q v dist (replicate (units q) 0) 0)
+  pub totals-none : (n : ℕ) → n ≡ units q → replicate n (pos 0) ≡ signed (rows_measured i p 0)
   unfolding measure_rows
-  totals-none n e = rw (e, ← units-is) (signed-zeros (units q))
+  totals-none n e = rw e (signed-zeros (units q))
 
-  pub totals-all : (l : List ℤ) → l ≡ signed (measure_rows q v dist (replicate (units q) 0) (f.height / 8)) → l ≡ table (units q) (λ u. pos (measured_total q d v plane original p u))
+  pub totals-all : (l : List ℤ) → l ≡ signed (rows_measured i p (block_rows q)) → l ≡ table (units q) (λ u. pos (measured_total q i.filter.damping i.visible i.filter.plane.samples.now i.original.samples.now p u))
   unfolding measured_total measured_distance
-  totals-all l e =
-      let r : block_rows q ≡ f.height / 8 = unfold picture_of in refl in
-      e ∙ rw (← r) (ap signed (measure-is q v dist)) ∙ signed-table (units q) _
+  totals-all l e = e ∙ ap signed (measure-is q i.visible (distance_in i p)) ∙ signed-table (units q) _

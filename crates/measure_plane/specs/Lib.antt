@@ -9,9 +9,3 @@ pub mod CodeLaws
 pub mod DistanceLaws
 -- The totals.
 pub mod AddLaws
-pub mod Measuring
-pub mod RowLaws2
-pub mod FilledLaws2
-pub mod CodeLaws2
-pub mod DistanceLaws2
-pub mod AddLaws2

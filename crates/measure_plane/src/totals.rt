@@ -1,78 +1,58 @@
 // A row of blocks, added to the units' totals.
-ghost use Rattle.std.specs.Prelude.{◌≡◌, List, ℕ, ◌/◌, ◌<◌, length};
+ghost use Rattle.std.specs.Prelude.{◌≡◌, List, ℕ, ◌≤◌, ◌<◌, length};
+ghost use Rattle.cdef_spec.specs.Distance.{constants_of};
+ghost use Rattle.cdef_spec.specs.FrameCalls.{scratch_length};
 ghost use Rattle.cdef_spec.specs.LoopForm.{signed, measure_row};
-ghost use Rattle.distance_weight.specs.Weighing.{OfDepth};
-ghost use Rattle.frame_shape.specs.Frame.{picture_of};
-ghost use Rattle.frame_shape.specs.Lent.{units_of};
-ghost use Rattle.measure_plane.specs.Measure.{Lent, SmallRow, scratch_of, measured_distance, measure_one};
+ghost use Rattle.cdef_spec.specs.Picture.{block_rows, block_cols, units};
 ghost use Rattle.arith_totals.specs.Small.{Small};
+ghost use Rattle.frame_shape.specs.Checked.{compare_in};
+ghost use Rattle.measure_plane.specs.Measure.{SmallRow, measure_one};
+ghost use Rattle.measure_plane.specs.Measure.{distance_in};
 
-use cdef_spec::{DistanceConstants, SignalledDamping, UnitPair, Visible};
-use frame_shape::Frame;
+use cdef_spec::{DistanceConstants, UnitPair};
+use frame_shape::inputs::CompareInput;
 
 // Adds a counted block's distance to its unit's total; another block adds nothing.
 fn measure_one(
     totals: &mut [i64],
     scratch: &mut [u16],
-    plane: &[u16],
-    original: &[u16],
-    f: Frame,
-    v: Visible,
-    skip: &[u8],
-    dirs: &[u8],
-    vars: &[u32],
+    i: &CompareInput<'_>,
     p: UnitPair,
-    d: SignalledDamping,
     by: usize,
     bx: usize,
     c: DistanceConstants,
 )
-    requires lent { Lent f v plane.now original.now skip.now dirs.now vars.now p d × OfDepth c f.depth × (by < f.height / 8)
-        × (bx < f.width / 8) }
-    requires scratch_len { (length scratch.old ≡ scratch_of f) × (length totals.old ≡ units_of f) × ((t : List ℕ) × (totals.old ≡ signed t) × Small t) }
-    ensures { (t : List ℕ) → totals.old ≡ signed t → totals.new
-        ≡ signed (measure_one (picture_of f skip.now dirs.now vars.now) v
-        (measured_distance (picture_of f skip.now dirs.now vars.now) d v plane.now original.now
-        p) by bx t) }
+    requires strengths { (p.primary ≤ 15) × (p.secondary ≤ 4) }
+    requires inside { (by < block_rows (compare_in i.now)) × (bx < block_cols (compare_in i.now)) }
+    requires constants { c ≡ constants_of (compare_in i.now).depth }
+    requires lengths { (length scratch.old ≡ scratch_length (compare_in i.now)) × (length totals.old ≡ units (compare_in i.now)) }
+    requires small { (t : List ℕ) × (totals.old ≡ signed t) × Small t }
+    ensures { (t : List ℕ) → totals.old ≡ signed t → totals.new ≡ signed (measure_one (compare_in i.now) i.now.visible (distance_in i.now p) by bx t) }
 {
-    if !frame_shape::geometry::counted(f, v, skip, by, bx) {
+    if !i.filter.listed.counted(i.visible, by, bx) {
         return;
     }
-    let n = crate::block::measure_block(
-        scratch, plane, original, f, v, dirs, vars, p, d, by, bx, c,
-    );
-    arith_totals::add_at(totals, frame_shape::geometry::unit_at(f, by, bx), n);
+    let n = crate::block::measure_block(scratch, i, p, by, bx, c);
+    arith_totals::add_at(totals, i.filter.listed.shaped.unit_at(by, bx), n);
 }
 
-// Adds the distances of row by of the blocks.
+// Adds the distances of row by of the blocks. The loop goes over numbers, since a block's place is computed from its column.
 pub fn measure_row(
     totals: &mut [i64],
     scratch: &mut [u16],
-    plane: &[u16],
-    original: &[u16],
-    f: Frame,
-    v: Visible,
-    skip: &[u8],
-    dirs: &[u8],
-    vars: &[u32],
+    i: &CompareInput<'_>,
     p: UnitPair,
-    d: SignalledDamping,
     by: usize,
     c: DistanceConstants,
 )
-    requires lent { Lent f v plane.now original.now skip.now dirs.now vars.now p d × OfDepth c f.depth × (by < f.height / 8) }
-    requires scratch_len { (length scratch.old ≡ scratch_of f) × (length totals.old ≡ units_of f) }
-    requires by_index { (t : List ℕ) × (totals.old ≡ signed t)
-        × SmallRow (picture_of f skip.now dirs.now vars.now) v
-        (measured_distance (picture_of f skip.now dirs.now vars.now) d v plane.now original.now p) by t }
-    ensures { (t : List ℕ) → totals.old ≡ signed t → totals.new
-        ≡ signed (measure_row (picture_of f skip.now dirs.now vars.now) v
-        (measured_distance (picture_of f skip.now dirs.now vars.now) d v plane.now original.now
-        p) by t (f.width / 8)) }
+    requires strengths { (p.primary ≤ 15) × (p.secondary ≤ 4) }
+    requires inside { by < block_rows (compare_in i.now) }
+    requires constants { c ≡ constants_of (compare_in i.now).depth }
+    requires lengths { (length scratch.old ≡ scratch_length (compare_in i.now)) × (length totals.old ≡ units (compare_in i.now)) }
+    requires small { (t : List ℕ) × (totals.old ≡ signed t) × SmallRow (compare_in i.now) i.now.visible (distance_in i.now p) by t }
+    ensures { (t : List ℕ) → totals.old ≡ signed t → totals.new ≡ signed (measure_row (compare_in i.now) i.now.visible (distance_in i.now p) by t (block_cols (compare_in i.now))) }
 {
-    for bx in 0..f.width / 8 {
-        measure_one(
-            totals, scratch, plane, original, f, v, skip, dirs, vars, p, d, by, bx, c,
-        );
+    for bx in 0..i.filter.listed.shaped.picture.width / 8 {
+        measure_one(totals, scratch, i, p, by, bx, c);
     }
 }

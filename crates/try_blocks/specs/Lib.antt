@@ -1,3 +1,3 @@
--- The trial blocks of a block and its visible part, and their laws.
+-- The trial blocks of a block, and their laws.
 pub mod TrialBlocks
 pub mod TrialBlockLaws

@@ -1,5 +1,5 @@
 -- The trial blocks of a block hold the filtered samples, and their distances are those that the totals add up.
-use Rattle.std.specs.Prelude.{◌≡◌, cond, List, ℕ, ◌+◌, ◌-◌, ◌*◌, ◌/◌, ◌^◌, ◌≤◌, ◌<◌}
+use Rattle.std.specs.Prelude.{◌≡◌, true, false, List, [], ℕ, ◌+◌, ◌-◌, ◌*◌, ◌^◌, ◌≤◌, ◌<◌}
 use Rattle.std.proofs.Math.Path.{refl, ap}
 use Rattle.std.proofs.Common.{◌∙◌}
 use Rattle.std.proofs.Math.Nat.{mul-le-mul, mul-le-mul_right, mul_comm}
@@ -10,26 +10,30 @@ use Rattle.cdef_spec.specs.declared.Block.{Block}
 use Rattle.cdef_spec.specs.declared.SignalledDamping.{SignalledDamping}
 use Rattle.cdef_spec.specs.declared.Visible.{Visible}
 use Rattle.cdef_spec.specs.WordsLaws.{length-table, get_or-table}
-use Rattle.cdef_spec.specs.Document01.{mark, or_else, filtered, trial_pair}
+use Rattle.cdef_spec.specs.Document01.{Plane, mark, or_else, filtered, trial_pair}
 use Rattle.cdef_spec.specs.Distance.{constants_of}
 use Rattle.cdef_spec.proofs.TrialCallLaws.{trial-at}
-use Rattle.cdef_spec.specs.Picture.{luma, chroma, Picture, plane_width, plane_height, block_width, block_height, block_at, at_place, plane_of, filtered_by, distance_of, block_distance}
+use Rattle.cdef_spec.specs.Picture.{PlaneKind, luma, chroma, Picture, plane_width, plane_height, block_width, block_height, block_rows, block_cols, block_at, at_place, plane_of, filtered_by, distance_of, block_distance}
 use Rattle.cdef_spec.proofs.PictureLaws.{filtered-low}
 use Rattle.distance_sums.specs.Blocks.{at, Within}
+use Rattle.distance_visible.specs.Cut.{cut_distance}
 use Rattle.distance_visible.specs.CutLaws.{cut-is, cut-same, cut-within}
-use Rattle.frame_shape.specs.declared.Frame.{Frame}
-use Rattle.frame_shape.specs.Frame.{Shaped, kind_of, picture_of, block_of}
-use Rattle.frame_shape.specs.FrameLaws.{tried-with, width_is, height-is}
-use Rattle.frame_shape.specs.BlockLaws.{plane-wide, plane-high, block-wide, block-high, cols-in, rows_in, sample-low}
-use Rattle.frame_shape.specs.Lent.{Sampled}
+use Rattle.frame_shape.specs.Frame.{block_of, visible_part}
+use Rattle.frame_shape.specs.Shape.{Shaped, Sampled, is_luma}
+use Rattle.frame_shape.specs.FrameLaws.{tried-with}
+use Rattle.frame_shape.specs.ShapeLaws.{plane-wide, plane-high, block-wide, block-high, cols-in, rows_in}
+use Rattle.frame_shape.specs.SampledLaws.{sample-low}
 use Rattle.try_totals.specs.Totals.{trial_distances}
 use Rattle.try_one.specs.Trying.{tried_distance}
-use Rattle.try_blocks.specs.TrialBlocks.{trial_blocks, visible_part}
+use Rattle.try_blocks.specs.TrialBlocks.{trial_blocks}
 
-module _ (f : Frame) (h : Shaped f) (skip dirs vars : List ℕ) (by bx : ℕ) (hy : by < f.height / 8) (hx : bx < f.width / 8) where
-  abbrev q : Picture
-  q = picture_of f skip dirs vars
+-- the code's distance, by the plane's kind
+pub cut-kind : (k : PlaneKind) (depth rows cols : ℕ) (o d : ℕ → ℕ → ℕ) → cut_distance (is_luma k) (constants_of depth) rows cols o d ≡ distance_of k depth rows cols o d
+unfolding is_luma
+cut-kind (luma vars) depth rows cols o d = cut-is true vars 0 0 depth rows cols o d
+cut-kind (chroma sx sy) depth rows cols o d = cut-is false [] sx sy depth rows cols o d
 
+module _ (q : Picture) (h : Shaped q) (by bx : ℕ) (hy : by < block_rows q) (hx : bx < block_cols q) where
   module _ (v : Visible) where
     -- the visible part is no larger than the block
     pub part-rows : (visible_part q v by bx).height ≤ block_height q
@@ -41,92 +45,92 @@ module _ (f : Frame) (h : Shaped f) (skip dirs vars : List ℕ) (by bx : ℕ) (h
     part-cols = omega arith
 
     pub part-sides : ((visible_part q v by bx).height ≤ 8) × ((visible_part q v by bx).width ≤ 8)
-    part-sides = (omega (arith, part-rows, (block-high f h skip dirs vars).1), omega (arith, part-cols, (block-wide f h skip dirs vars).1))
+    part-sides = (omega (arith, part-rows, (block-high q h).1), omega (arith, part-cols, (block-wide q h).1))
 
     pub part_step : (p : Block) (step : ℕ) → p ≡ visible_part q v by bx → step ≡ block_width q → (p.width ≤ step) × (step ≤ 8)
-    part_step p step ep es = rw (ep, es) (part-cols, (block-wide f h skip dirs vars).1)
+    part_step p step ep es = rw (ep, es) (part-cols, (block-wide q h).1)
 
-    module _ (original : List ℕ) (g : Sampled f original) where
-      pub part_in : Within original ((visible_part q v by bx).y * plane_width q + (visible_part q v by bx).x) (plane_width q) (visible_part q v by bx).height (visible_part q v by bx).width (2 ^ f.depth)
+    module _ (o : Plane) (g : Sampled q o) where
+      pub part_in : Within o.samples ((visible_part q v by bx).y * plane_width q + (visible_part q v by bx).x) (plane_width q) (visible_part q v by bx).height (visible_part q v by bx).width (2 ^ q.depth)
       unfolding visible_part at
       part_in = record {
         held = λ i hi.
-            let r : by * block_height q + i + 1 ≤ plane_height q = omega (arith, rows_in f h skip dirs vars by bx hy hx) in
-            let full : length original ≡ plane_width q * plane_height q = g.long ∙ rw (width_is f h skip dirs vars, height-is f h skip dirs vars) in
-            omega (arith, full, mul_comm (plane_width q) (plane_height q), mul-le-mul_right (plane_width q) r, cols-in f h skip dirs vars by bx hy hx);
+            let r : by * block_height q + i + 1 ≤ plane_height q = omega (arith, rows_in q h by bx hy hx) in
+            let full : length o.samples ≡ plane_width q * plane_height q = g.long in
+            omega (arith, full, mul_comm (plane_width q) (plane_height q), mul-le-mul_right (plane_width q) r, cols-in q h by bx hy hx);
         low = λ i j hi hj. g.low _;
       }
 
-      pub part_held : (p : Block) (w : ℕ) → p ≡ visible_part q v by bx → w ≡ plane_width q → Within original (p.y * w + p.x) w p.height p.width (2 ^ f.depth)
+      pub part_held : (p : Block) (w : ℕ) → p ≡ visible_part q v by bx → w ≡ plane_width q → Within o.samples (p.y * w + p.x) w p.height p.width (2 ^ q.depth)
       part_held p w ep ew = rw (ep, ew) part_in
 
     -- where it begins
     pub corner-low : (visible_part q v by bx).y * plane_width q + (visible_part q v by bx).x ≤ 2 ^ 25
     unfolding visible_part
     corner-low =
-        let y : by * block_height q ≤ 4096 = omega (arith, rows_in f h skip dirs vars by bx hy hx, plane-high f h skip dirs vars) in
-        omega (arith, mul-le-mul y (plane-wide f h skip dirs vars), cols-in f h skip dirs vars by bx hy hx, plane-wide f h skip dirs vars)
+        let y : by * block_height q ≤ 4096 = omega (arith, rows_in q h by bx hy hx, plane-high q h) in
+        omega (arith, mul-le-mul y (plane-wide q h), cols-in q h by bx hy hx, plane-wide q h)
 
     pub begin-low : (p : Block) (w : ℕ) → p ≡ visible_part q v by bx → w ≡ plane_width q → p.y * w + p.x ≤ 2 ^ 25
     begin-low p w ep ew = rw (ep, ew) corner-low
 
-  module _ (d : SignalledDamping) (snapshot : List ℕ) (g : Sampled f snapshot) (out : List ℕ) where
+  module _ (d : SignalledDamping) (s : Plane) (g : Sampled q s) (out : List ℕ) where
     place-low : (t i j : ℕ) → t < 12 → i < block_height q → j < block_width q → t * 64 + (i * block_width q + j) < 768
     place-low t i j ht hi hj =
         let a : i * block_width q + j < block_height q * block_width q = digits_lt {q = i} {m = block_height q} {r = j} {c = block_width q} hi hj in
-        let b : block_height q * block_width q ≤ 8 * 8 = mul-le-mul (block-high f h skip dirs vars).1 (block-wide f h skip dirs vars).1 in
+        let b : block_height q * block_width q ≤ 8 * 8 = mul-le-mul (block-high q h).1 (block-wide q h).1 in
         omega arith
 
     -- row i and column j of trial block t
     pub trial-cell : (t i j : ℕ) → t < 12 → i < block_height q → j < block_width q
-        → at (trial_blocks q d snapshot by bx out) (t * 64) (block_width q) i j ≡ or_else mark (filtered_by q d snapshot (trial_pair t) by bx (by * block_height q + i) (bx * block_width q + j))
+        → at (trial_blocks q d s.samples by bx out) (t * 64) (block_width q) i j ≡ or_else mark (filtered_by q d s.samples (trial_pair t) by bx (by * block_height q + i) (bx * block_width q + j))
     unfolding at trial_blocks filtered_by block_of
     trial-cell t i j ht hi hj =
         let e : t * 64 + i * block_width q + j ≡ t * 64 + (i * block_width q + j) = omega arith in
-        ap (λ (k : ℕ). get_or (trial_blocks q d snapshot by bx out) k 0) e
+        ap (λ (k : ℕ). get_or (trial_blocks q d s.samples by bx out) k 0) e
         ∙ get_or-table 768 _ 0 (t * 64 + (i * block_width q + j)) (place-low t i j ht hi hj)
-        ∙ trial-at (plane_of q snapshot) (block_of q by bx) _ _ _ q.depth out t i j (block-high f h skip dirs vars).1 (block-wide f h skip dirs vars).1 hi hj
-        ∙ ap (λ p. or_else mark (filtered (plane_of q snapshot) p (by * block_height q + i) (bx * block_width q + j))) (tried-with q.kind q.depth q.dirs d t (block_at q by bx))
+        ∙ trial-at (plane_of q s.samples) (block_of q by bx) _ _ _ q.depth out t i j (block-high q h).1 (block-wide q h).1 hi hj
+        ∙ ap (λ p. or_else mark (filtered (plane_of q s.samples) p (by * block_height q + i) (bx * block_width q + j))) (tried-with q.kind q.depth q.dirs d t (block_at q by bx))
 
-    trials-long : length (trial_blocks q d snapshot by bx out) ≡ 768
+    trials-long : length (trial_blocks q d s.samples by bx out) ≡ 768
     unfolding trial_blocks
     trials-long = length-table 768 _
 
-    pub trial-in : (t : ℕ) → t < 12 → (v : Visible) → Within (trial_blocks q d snapshot by bx out) (t * 64) (block_width q) (visible_part q v by bx).height (visible_part q v by bx).width (2 ^ f.depth)
+    pub trial-in : (t : ℕ) → t < 12 → (v : Visible) → Within (trial_blocks q d s.samples by bx out) (t * 64) (block_width q) (visible_part q v by bx).height (visible_part q v by bx).width (2 ^ q.depth)
     trial-in t ht v = record {
       held = λ i hi.
           let a : i < block_height q = omega (arith, part-rows v) in
           let c : (visible_part q v by bx).width ≤ block_width q = part-cols v in
-          let p = place-low t i (block_width q - 1) ht a (omega (arith, (block-wide f h skip dirs vars).0)) in
+          let p = place-low t i (block_width q - 1) ht a (omega (arith, (block-wide q h).0)) in
           omega (arith, p, trials-long);
       low = λ i j hi hj.
           let a : i < block_height q = omega (arith, part-rows v) in
           let b : j < block_width q = omega (arith, part-cols v) in
-          rw (trial-cell t i j ht a b) (filtered-low q d snapshot (trial_pair t) by bx _ _ (omega (arith, rows_in f h skip dirs vars by bx hy hx)) (omega (arith, cols-in f h skip dirs vars by bx hy hx)) (λ k. omega (arith, sample-low f h snapshot g k)) (2 ^ f.depth) g.low mark);
+          rw (trial-cell t i j ht a b) (filtered-low q d s.samples (trial_pair t) by bx _ _ (omega (arith, rows_in q h by bx hy hx)) (omega (arith, cols-in q h by bx hy hx)) (λ k. omega (arith, sample-low q h s g k)) (2 ^ q.depth) g.low mark);
     }
 
-    pub trials-held : (t : ℕ) → t < 12 → (v : Visible) (p : Block) (step : ℕ) (blocks : List ℕ) → p ≡ visible_part q v by bx → step ≡ block_width q → blocks ≡ trial_blocks q d snapshot by bx out → Within blocks (t * 64) step p.height p.width (2 ^ f.depth)
+    pub trials-held : (t : ℕ) → t < 12 → (v : Visible) (p : Block) (step : ℕ) (blocks : List ℕ) → p ≡ visible_part q v by bx → step ≡ block_width q → blocks ≡ trial_blocks q d s.samples by bx out → Within blocks (t * 64) step p.height p.width (2 ^ q.depth)
     trials-held t ht v p step blocks ep es eb = rw (ep, es, eb) (trial-in t ht v)
 
-    module _ (v : Visible) (original : List ℕ) where
-      same : (i j : ℕ) → at original ((visible_part q v by bx).y * plane_width q + (visible_part q v by bx).x) (plane_width q) i j ≡ at_place q original (by * block_height q + i) (bx * block_width q + j)
+    module _ (v : Visible) (o : Plane) where
+      same : (i j : ℕ) → at o.samples ((visible_part q v by bx).y * plane_width q + (visible_part q v by bx).x) (plane_width q) i j ≡ at_place q o.samples (by * block_height q + i) (bx * block_width q + j)
       unfolding at at_place visible_part
-      same i j = ap (λ (k : ℕ). get_or original k 0) (omega arith)
+      same i j = ap (λ (k : ℕ). get_or o.samples k 0) (omega arith)
 
-      back : (t : ℕ) → distance_of (cond f.luma (luma vars) (chroma f.sx f.sy)) f.depth (visible_part q v by bx).height (visible_part q v by bx).width (λ i j. at_place q original (by * block_height q + i) (bx * block_width q + j)) (λ i j. or_else mark (filtered_by q d snapshot (trial_pair t) by bx (by * block_height q + i) (bx * block_width q + j))) ≡ tried_distance q d v snapshot original by bx t
-      unfolding tried_distance block_distance visible_part kind_of picture_of
+      back : (t : ℕ) → distance_of q.kind q.depth (visible_part q v by bx).height (visible_part q v by bx).width (λ i j. at_place q o.samples (by * block_height q + i) (bx * block_width q + j)) (λ i j. or_else mark (filtered_by q d s.samples (trial_pair t) by bx (by * block_height q + i) (bx * block_width q + j))) ≡ tried_distance q d v s.samples o.samples by bx t
+      unfolding tried_distance block_distance visible_part
       back t = refl
 
       -- the code's distance is the one that the totals add up
       pub distance_is : (t : ℕ) → t < 12
-          → trial_distances f.luma (constants_of f.depth) (visible_part q v by bx).height (visible_part q v by bx).width original ((visible_part q v by bx).y * plane_width q + (visible_part q v by bx).x) (plane_width q) (trial_blocks q d snapshot by bx out) (block_width q) t ≡ tried_distance q d v snapshot original by bx t
+          → trial_distances (is_luma q.kind) (constants_of q.depth) (visible_part q v by bx).height (visible_part q v by bx).width o.samples ((visible_part q v by bx).y * plane_width q + (visible_part q v by bx).x) (plane_width q) (trial_blocks q d s.samples by bx out) (block_width q) t ≡ tried_distance q d v s.samples o.samples by bx t
       unfolding trial_distances
       distance_is t ht =
-          cut-same f.luma (constants_of f.depth) _ _ _ (λ i j. at_place q original (by * block_height q + i) (bx * block_width q + j)) _ (λ i j. or_else mark (filtered_by q d snapshot (trial_pair t) by bx (by * block_height q + i) (bx * block_width q + j)))
+          cut-same (is_luma q.kind) (constants_of q.depth) _ _ _ (λ i j. at_place q o.samples (by * block_height q + i) (bx * block_width q + j)) _ (λ i j. or_else mark (filtered_by q d s.samples (trial_pair t) by bx (by * block_height q + i) (bx * block_width q + j)))
           (λ i j hi hj. same i j)
           (λ i j hi hj. trial-cell t i j ht (omega (arith, part-rows v)) (omega (arith, part-cols v)))
-          ∙ cut-is f.luma vars f.sx f.sy f.depth _ _ _ _ ∙ back t
+          ∙ cut-kind q.kind q.depth _ _ _ _ ∙ back t
 
-      pub distance-low : Sampled f original → (t : ℕ) → t < 12 → tried_distance q d v snapshot original by bx t < 2 ^ 53
+      pub distance-low : Sampled q o → (t : ℕ) → t < 12 → tried_distance q d v s.samples o.samples by bx t < 2 ^ 53
       unfolding trial_distances
-      distance-low k t ht = rw (← distance_is t ht) (cut-within f.luma (constants_of f.depth) f.depth _ _ _ _ _ _ _ _ (part-sides v).0 (part-sides v).1 (record { deep = h.deep; flat = h.flat; is = refl }) (part_in v original k) (trial-in t ht v))
+      distance-low k t ht = rw (← distance_is t ht) (cut-within (is_luma q.kind) (constants_of q.depth) q.depth _ _ _ _ _ _ _ _ (part-sides v).0 (part-sides v).1 (record { deep = h.deep; flat = h.flat; is = refl }) (part_in v o k) (trial-in t ht v))

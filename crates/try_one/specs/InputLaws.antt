@@ -1,7 +1,6 @@
 -- The totals of a checked input: what a counted block adds, and that no total becomes too large.
-use Rattle.std.specs.Prelude.{◌≡◌, Bool, true, ℕ, ◌+◌, ◌*◌, ◌/◌, ◌^◌, ◌≤◌, ◌<◌, ℤ, List, [], get_or, length}
-use Rattle.std.proofs.Common.{sym, ap, ◌∙◌, arith}
-use Rattle.std.proofs.Math.Nat.{mul-le-mul}
+use Rattle.std.specs.Prelude.{◌≡◌, Bool, true, ℕ, ◌+◌, ◌*◌, ◌^◌, ◌≤◌, ◌<◌, ℤ, List, []}
+use Rattle.std.proofs.Common.{ap, ◌∙◌, arith}
 use Rattle.cdef_spec.specs.declared.Block.{Block}
 use Rattle.cdef_spec.specs.declared.DistanceConstants.{DistanceConstants}
 use Rattle.cdef_spec.specs.Distance.{constants_of}
@@ -21,9 +20,9 @@ use Rattle.frame_shape.specs.ShapeLaws.{units-few}
 use Rattle.try_blocks.specs.TrialBlocks.{trial_blocks}
 use Rattle.try_totals.specs.Totals.{trial_distances}
 use Rattle.try_one.specs.Trying.{tried_distance, tried_rows, tried_blocks}
-use Rattle.try_one.specs.Tried.{blocks_tried}
+use Rattle.try_one.specs.Trying.{blocks_tried}
 use Rattle.try_one.specs.TryLaws.{blocks_more}
-use Rattle.try_one.specs.PartLaws.{distance_is, distance-low}
+use Rattle.try_one.specs.DistanceLaws.{distance_is, distance-low}
 
 module _ (i : CompareInput) where
   abbrev q : Picture

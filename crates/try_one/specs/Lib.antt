@@ -3,6 +3,4 @@ pub mod Trying
 -- Laws of the trial blocks' distances, and of the totals.
 pub mod DistanceLaws
 pub mod TryLaws
-pub mod Tried
-pub mod PartLaws
 pub mod InputLaws

@@ -1,84 +1,47 @@
 // Trying: per unit of a plane, the twelve totals of distances between the original and the trial blocks of the snapshot.
 #![tactic(auto)]
 
-pub mod new;
-
 ghost use Rattle.std.specs.Prelude.{◌≡◌, ◌+◌, ◌*◌, ◌/◌, ◌%◌, ◌<◌, pos, length};
 ghost use Rattle.cdef_spec.specs.Words.{table};
 ghost use Rattle.cdef_spec.specs.Distance.{constants_of};
-ghost use Rattle.cdef_spec.specs.Picture.{units, tried_total};
+ghost use Rattle.cdef_spec.specs.Picture.{block_rows, units, tried_total};
 ghost use Rattle.cdef_spec.specs.LoopForm.{signed};
-ghost use Rattle.frame_shape.specs.Frame.{Shaped, picture_of};
-ghost use Rattle.frame_shape.specs.Lent.{units_of, Listed, Sampled, Seen, InForce};
-ghost use Rattle.try_one.specs.Trying.{Ready, tried_rows};
+ghost use Rattle.frame_shape.specs.Checked.{compare_in};
+ghost use Rattle.try_one.specs.Trying.{rows_tried};
 
-use cdef_spec::{DistanceConstants, SignalledDamping, Visible};
-use frame_shape::Frame;
+use cdef_spec::DistanceConstants;
+use frame_shape::inputs::CompareInput;
 
-// Tries a row of blocks.
+// Tries a row of blocks. The loop goes over numbers, since a block's place is computed from its column.
 fn try_row(
     totals: &mut [i64],
     blocks: &mut [u16],
-    snapshot: &[u16],
-    original: &[u16],
-    f: Frame,
-    v: Visible,
-    skip: &[u8],
-    dirs: &[u8],
-    vars: &[u32],
-    d: SignalledDamping,
+    i: &CompareInput<'_>,
     by: usize,
     c: DistanceConstants,
 )
-    requires ready { Ready f v d snapshot.now original.now skip.now dirs.now vars.now × (c ≡ constants_of f.depth) × (by < f.height / 8)
-        × (length blocks.old ≡ 768) }
-    requires totals_value { totals.old ≡ signed (tried_rows (picture_of f skip.now dirs.now vars.now) d v snapshot.now original.now by) }
-    ensures { totals.new ≡ signed
-        (tried_rows (picture_of f skip.now dirs.now vars.now) d v snapshot.now original.now
-        (by + 1)) }
+    requires inside { by < block_rows (compare_in i.now) }
+    requires constants { c ≡ constants_of (compare_in i.now).depth }
+    requires room { length blocks.old ≡ 768 }
+    requires totals_so_far { totals.old ≡ signed (rows_tried i.now by) }
+    ensures { totals.new ≡ signed (rows_tried i.now (by + 1)) }
 {
-    for bx in 0..f.width / 8 {
-        try_one::try_block(
-            totals, blocks, snapshot, original, f, v, skip, dirs, vars, d, by, bx, c,
-        );
+    for bx in 0..i.filter.listed.shaped.picture.width / 8 {
+        try_one::try_block(totals, blocks, i, by, bx, c);
     }
 }
 
 // The twelve totals of every unit.
-pub fn try_plane(
-    totals: &mut [i64],
-    snapshot: &[u16],
-    original: &[u16],
-    f: Frame,
-    v: Visible,
-    skip: &[u8],
-    dirs: &[u8],
-    vars: &[u32],
-    d: SignalledDamping,
-)
-    requires { Shaped f × Listed f skip.now dirs.now vars.now × Sampled f snapshot.now × Sampled f original.now × Seen f v × InForce d
-        × (length totals.old ≡ 12 * units_of f) }
-    ensures { totals.new ≡ table (12 * units (picture_of f skip.now dirs.now vars.now))
-        (λ k. pos (tried_total (picture_of f skip.now dirs.now vars.now) d v snapshot.now
-        original.now (k / 12) (k % 12))) }
+pub fn try_plane(totals: &mut [i64], i: &CompareInput<'_>)
+    requires { length totals.old ≡ 12 * units (compare_in i.now) }
+    ensures { totals.new ≡ table (12 * units (compare_in i.now)) (λ k. pos (tried_total (compare_in i.now) i.now.filter.damping i.now.visible i.now.filter.plane.samples.now
+        i.now.original.samples.now (k / 12) (k % 12))) }
 {
-    arith_totals::clear_totals(totals);
+    let q = i.filter.listed.shaped.picture;
     let mut blocks = try_blocks::room();
-    let c = distance_weight::constants_of(f.depth);
-    for by in 0..f.height / 8 {
-        try_row(
-            totals,
-            &mut blocks,
-            snapshot,
-            original,
-            f,
-            v,
-            skip,
-            dirs,
-            vars,
-            d,
-            by,
-            c,
-        );
+    let c = distance_weight::constants_of(q.depth);
+    arith_totals::clear_totals(totals);
+    for by in 0..q.height / 8 {
+        try_row(totals, &mut blocks, i, by, c);
     }
 }

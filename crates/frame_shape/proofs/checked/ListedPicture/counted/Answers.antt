@@ -1,6 +1,6 @@
 -- `frame_shape::checked::ListedPicture::counted` meets its contract.
 use Rattle.cdef_spec.specs.Lent.{picture_in}
-use Rattle.frame_shape.specs.CountLaws.{skipped, below, begun}
+use Rattle.frame_shape.specs.CountedLaws.{skipped, below, begun}
 use Rattle.frame_shape.proofs.checked.ListedPicture.counted.Goals as goal
 
 pub returns-then-self-block_at-ne0 : goal.returns-then-self-block_at-ne0

@@ -1,57 +1,34 @@
 // What is done between trying, applying and measuring: the test that each pair is one of the twelve, and the copy of the snapshot.
 #![tactic(auto)]
 
-ghost use Rattle.std.specs.Prelude.{◌≡◌, ◌&&◌, get_or};
-ghost use Rattle.cdef_spec.specs.FrameCalls.{pairs_of};
+ghost use Rattle.std.specs.Prelude.{◌≡◌};
 ghost use Rattle.agree_parts.specs.Parts.{trial_pairs, copied};
 
-use cdef_spec::UnitPair;
-
-// Entry k of a list, 0 past its end.
-fn at_or_zero(list: &[u8], k: usize) -> u8
-    ensures { result ≡ get_or list.now k 0 }
-{
-    if k < list.len() {
-        return list[k];
-    }
-    0
-}
-
-// Whether both hold.
-fn both(a: bool, b: bool) -> bool
-    ensures { result ≡ a && b }
-{
-    if a {
-        return b;
-    }
-    false
-}
+use cdef_pairs::Pairs;
 
 // Whether each unit's pair is one of the twelve. More than 4,096 pairs are not checked: applying rejects them.
-pub fn trial_pairs(pris: &[u8], secs: &[u8]) -> bool
-    ensures { result ≡ trial_pairs (pairs_of pris.now secs.now) }
+// The loop goes over the units, since a kind of list need not hold its pairs side by side.
+pub fn trial_pairs<P: Pairs>(pairs: &P) -> bool
+    ensures { result ≡ trial_pairs (P.pairs pairs.now) }
 {
-    if 4096 < pris.len() {
+    let n = pairs.count();
+    if 4096 < n {
         return true;
     }
-    let mut all = true;
-    for u in 0..pris.len() {
-        let primary = pris[u];
-        let secondary = at_or_zero(secs, u);
-        let this = arith_trials::is_trial_pair(UnitPair { primary, secondary });
-        all = both(all, this);
+    for u in 0..n {
+        if !arith_trials::is_trial_pair(pairs.pair(u)) {
+            return false;
+        }
     }
-    all
+    true
 }
 
 // Copies the snapshot into a destination of its length; one of another length is left as it is.
+#[tactic(auto, unfolding(crate::specs::Parts::copied))]
 pub fn copy(dst: &mut [u16], snapshot: &[u16])
     ensures { dst.new ≡ copied snapshot.now dst.old }
 {
-    if dst.len() != snapshot.len() {
-        return;
-    }
-    for k in 0..dst.len() {
-        dst[k] = snapshot[k];
+    if dst.len() == snapshot.len() {
+        dst.copy_from_slice(snapshot);
     }
 }

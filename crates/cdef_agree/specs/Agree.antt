@@ -1,5 +1,5 @@
 -- The three calls, one after the other, by their outcomes. Definitions only.
-use Rattle.std.specs.Prelude.{Bool, true, false, cond, ◌&&◌, List, ℕ, eqb, ℤ}
+use Rattle.std.specs.Prelude.{Bool, true, false, cond, ◌&&◌, List, ℕ, eqb, ℤ, Ok, Err, Result as RustResult}
 use Rattle.cdef_spec.specs.declared.DampingChoice.{DampingChoice}
 use Rattle.cdef_spec.specs.declared.UnitPair.{UnitPair}
 use Rattle.cdef_spec.specs.declared.Visible.{Visible}
@@ -7,8 +7,10 @@ use Rattle.cdef_spec.specs.Picture.{Picture}
 use Rattle.cdef_spec.specs.FrameCalls.{trying_no, TryingOutcome, trying_outcome, ApplyingOutcome, applying_no, applying_outcome, applying_lists_no, pairs_of, applying_lists_outcome, measuring_no, MeasuringOutcome, measuring_outcome}
 use Rattle.cdef_spec.specs.Demand3.{off}
 use Rattle.agree_parts.specs.Parts.{trial_pairs, copied}
-use Rattle.agree_lists.specs.declared.Agreement.{Agreement}
-use Rattle.agree_lists.specs.declared.Agreement.TheVariants.{Agreed, NotTrialPairs, TryingRefused, ApplyingRefused, MeasuringRefused}
+use Rattle.cdef_spec.specs.Answers.{error_code}
+use Rattle.cdef_pairs.specs.Applying.{applying_by_no, applying_by_outcome}
+use Rattle.cdef_agree.specs.declared.Disagreement.{Disagreement}
+use Rattle.cdef_agree.specs.declared.Disagreement.TheVariants.{NotTrialPairs, Trying, Applying, Measuring}
 
 -- ---- what an agreement means, in the rules' terms (RULES, Questions; RULES, Agreement)
 
@@ -25,12 +27,15 @@ pub data AgreementResult : Type 0 where
   rejected : RejectedBy → ℕ → AgreementResult
 
 -- case by case. A pair that is none of the twelve is a strength out of range: 8
-unfoldable pub read_agreement : Agreement → AgreementResult
-read_agreement Agreed = agreed
-read_agreement NotTrialPairs = rejected by_pair_test 8
-read_agreement (TryingRefused n) = rejected by_trying n
-read_agreement (ApplyingRefused n) = rejected by_applying n
-read_agreement (MeasuringRefused n) = rejected by_measuring n
+unfoldable pub read_disagreement : Disagreement → AgreementResult
+read_disagreement NotTrialPairs = rejected by_pair_test 8
+read_disagreement (Trying r) = rejected by_trying (error_code r)
+read_disagreement (Applying r) = rejected by_applying (error_code r)
+read_disagreement (Measuring r) = rejected by_measuring (error_code r)
+
+unfoldable pub read_agreement : RustResult (Unit {0}) Disagreement → AgreementResult
+read_agreement (Ok done) = agreed
+read_agreement (Err d) = read_disagreement d
 
 -- the error code: 0 where the totals agree
 unfoldable pub agreement_number : AgreementResult → ℕ
@@ -38,16 +43,13 @@ agreement_number agreed = 0
 agreement_number (rejected who n) = n
 
 -- the totals agree
-unfoldable pub is_agreed : Agreement → Bool
-is_agreed Agreed = true
-is_agreed NotTrialPairs = false
-is_agreed (TryingRefused n) = false
-is_agreed (ApplyingRefused n) = false
-is_agreed (MeasuringRefused n) = false
+unfoldable pub is_agreed : AgreementResult → Bool
+is_agreed agreed = true
+is_agreed (rejected who n) = false
 
 -- the answer, and every list of the caller's at exit
 pub record AgreeOutcome : Type 0 where
-  pub answer : Agreement
+  pub answer : AgreementResult
   pub tried : List ℤ
   pub dst : List ℕ
   pub measured : List ℤ
@@ -67,12 +69,17 @@ agree_with trial asked applied q damping v snapshot original tried dst measured 
     let m : MeasuringOutcome = measuring_outcome q damping v a.plane original off measured scratch in
     let last = measuring_no q damping v a.plane original off measured scratch in
     record {
-      answer = cond first (cond trial (cond (eqb no 0) (cond (eqb last 0) Agreed (MeasuringRefused last)) (ApplyingRefused no)) NotTrialPairs) (TryingRefused (trying_no q damping v snapshot original tried));
+      answer = cond first (cond trial (cond (eqb no 0) (cond (eqb last 0) agreed (rejected by_measuring last)) (rejected by_applying no)) (rejected by_pair_test 8)) (rejected by_trying (trying_no q damping v snapshot original tried));
       tried = t.totals;
       dst = cond second a.plane dst;
       measured = cond third m.totals measured;
       scratch = cond third m.scratch scratch;
     }
+
+-- any list of pairs, by its own tests of questions 7 and 8
+unfoldable pub agree_by_outcome : Picture → DampingChoice → Visible → List ℕ → List ℕ → (ℕ → Bool) → Bool → List UnitPair → List ℤ → List ℕ → List ℤ → List ℕ → AgreeOutcome
+agree_by_outcome q damping v snapshot original listed taken ps tried dst measured scratch =
+    agree_with (trial_pairs ps) (applying_by_no q damping snapshot listed taken) (applying_by_outcome q damping snapshot listed taken ps) q damping v snapshot original tried dst measured scratch
 
 -- one pair per unit
 unfoldable pub agree_outcome : Picture → DampingChoice → Visible → List ℕ → List ℕ → List UnitPair → List ℤ → List ℕ → List ℤ → List ℕ → AgreeOutcome

@@ -1,4 +1,4 @@
--- THE AGREEMENT: where the three calls accept their input, the measured totals agree with the tried ones, for every list of pairs and for two lists.
+-- THE AGREEMENT: where the three calls accept their input, the measured totals agree with the tried ones, for every list of pairs, for two lists, and for any list that keeps the laws of pairs.
 use Rattle.std.specs.Prelude.{◌≡◌, Bool, false, cond, ℕ, ◌*◌, ◌≤◌, ◌<◌, leb, eqb, ℤ, length}
 use Rattle.std.proofs.Math.Path.{refl, sym, subst}
 use Rattle.std.proofs.Common.{◌∙◌, arith}
@@ -20,8 +20,7 @@ use Rattle.cdef_spec.proofs.OutcomeLaws.{twin-is}
 use Rattle.cdef_spec.specs.Demand3.{off, other_kind, with_directions, Agrees, own_input_passes}
 use Rattle.cdef_spec.proofs.Agreement.{agreement, own-from-accepted}
 use Rattle.cdef_pairs.specs.PairLaws.{few-units, twin-no}
-use Rattle.agree_lists.specs.declared.Agreement.TheVariants.{Agreed, NotTrialPairs, TryingRefused, ApplyingRefused, MeasuringRefused}
-use Rattle.agree_lists.specs.Agree.{read_agreement, agreement_number, is_agreed, AgreeOutcome, agree_with, agree_outcome, agree_lists_outcome}
+use Rattle.cdef_agree.specs.Agree.{by_trying, by_pair_test, by_applying, by_measuring, agreed as totals_agree, rejected, agreement_number, is_agreed, AgreeOutcome, agree_with, agree_outcome, agree_lists_outcome}
 use Rattle.agree_parts.specs.Parts.{trial_pairs, copied}
 
 pub never : {A : Type 0} → false ≡ true → A
@@ -105,7 +104,7 @@ module _ (q : Picture) (d : DampingChoice) (v : Visible) (snapshot original : Li
 
 -- ---- what an agreement says of the three calls
 
-yes-only : (a b c e : Bool) (i j k : ℕ) → is_agreed (cond a (cond b (cond c (cond e Agreed (MeasuringRefused i)) (ApplyingRefused j)) NotTrialPairs) (TryingRefused k)) ≡ true → (a ≡ true) × (b ≡ true) × (c ≡ true) × (e ≡ true)
+yes-only : (a b c e : Bool) (i j k : ℕ) → is_agreed (cond a (cond b (cond c (cond e totals_agree (rejected by_measuring i)) (rejected by_applying j)) (rejected by_pair_test 8)) (rejected by_trying k)) ≡ true → (a ≡ true) × (b ≡ true) × (c ≡ true) × (e ≡ true)
 unfolding is_agreed
 yes-only true true true true i j k h = (refl, refl, refl, refl)
 yes-only true true true false i j k h = never h
@@ -114,8 +113,8 @@ yes-only true false c e i j k h = never h
 yes-only false b c e i j k h = never h
 
 -- the error code of an agreement, by the four tests
-number-of : (a b c e : Bool) (i j k : ℕ) → (e ≡ true → i ≡ 0) → agreement_number (read_agreement (cond a (cond b (cond c (cond e Agreed (MeasuringRefused i)) (ApplyingRefused j)) NotTrialPairs) (TryingRefused k))) ≡ cond a (cond b (cond c i j) 8) k
-unfolding read_agreement agreement_number
+number-of : (a b c e : Bool) (i j k : ℕ) → (e ≡ true → i ≡ 0) → agreement_number ((cond a (cond b (cond c (cond e totals_agree (rejected by_measuring i)) (rejected by_applying j)) (rejected by_pair_test 8)) (rejected by_trying k))) ≡ cond a (cond b (cond c i j) 8) k
+unfolding agreement_number
 number-of true true true true i j k h = sym (h refl)
 number-of true true true false i j k h = refl
 number-of true true false e i j k h = refl
@@ -129,7 +128,7 @@ module _ (trial : Bool) (asked : List ℕ → ℕ) (applied : List ℕ → Apply
   abbrev plane : List ℕ
   plane = (applied (copied snapshot dst)).plane
 
-  all_yes : is_agreed out.answer ≡ true → (trying_no q d v snapshot original tried ≡ 0) × (trial ≡ true) × (asked (copied snapshot dst) ≡ 0) × (measuring_no q d v plane original off measured scratch ≡ 0)
+  pub all_yes : is_agreed out.answer ≡ true → (trying_no q d v snapshot original tried ≡ 0) × (trial ≡ true) × (asked (copied snapshot dst) ≡ 0) × (measuring_no q d v plane original off measured scratch ≡ 0)
   unfolding agree_with
   all_yes h =
       let y = yes-only (eqb (trying_no q d v snapshot original tried) 0) trial (eqb (asked (copied snapshot dst)) 0) (eqb (measuring_no q d v plane original off measured scratch) 0) _ _ _ h in
@@ -145,7 +144,7 @@ module _ (trial : Bool) (asked : List ℕ → ℕ) (applied : List ℕ → Apply
   abbrev last : ℕ
   last = measuring_no q d v plane original off measured scratch
 
-  pub number_is : agreement_number (read_agreement out.answer) ≡ cond (eqb first 0) (cond trial (cond (eqb second 0) last second) 8) first
+  pub number_is : agreement_number out.answer ≡ cond (eqb first 0) (cond trial (cond (eqb second 0) last second) 8) first
   unfolding agree_with
   number_is = number-of (eqb first 0) trial (eqb second 0) (eqb last 0) last second first (eqb-true last 0)
 

@@ -51,7 +51,7 @@ pub fn agree_units<P: Pairs>(
         return Err(Disagreement::NotTrialPairs);
     }
     agree_parts::copy(dst, snapshot);
-    if let Err(refusal) = frame_calls::calls::applying(dst, snapshot, picture, pairs, damping) {
+    if let Err(refusal) = frame_calls::applying(dst, snapshot, picture, pairs, damping) {
         return Err(Disagreement::Applying(refusal));
     }
     let off = UnitPair {

@@ -6,11 +6,7 @@ ghost use Rattle.cdef_spec.specs.BlockCalls.{constrain_outcome, adjust_outcome, 
 use cdef_spec::{Refusal, SignalledDamping, WorkingDamping};
 
 // Constrains a difference; the working damping is used as it is, 0 included.
-pub fn constrain(
-    difference: i32,
-    strength: u32,
-    damping: WorkingDamping,
-) -> Result<i32, Refusal>
+pub fn constrain(difference: i32, strength: u32, damping: WorkingDamping) -> Result<i32, Refusal>
     ensures { read result ≡ constrain_outcome difference strength damping }
 {
     check_numbers::constrain_no(difference, strength, damping)?;

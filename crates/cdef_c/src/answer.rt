@@ -1,15 +1,12 @@
 // Answers as C returns them: an error code, and a value through a pointer.
 ghost use Rattle.std.specs.Prelude.{◌≡◌};
-ghost use Rattle.cdef_spec.specs.Answers.{number_of, read, read_answer, read_done};
+ghost use Rattle.cdef_spec.specs.Answers.{number_of, read, read_done};
 ghost use Rattle.cdef_c.specs.Values.{value_or};
 
-use cdef_spec::{Answer, Refusal};
+use cdef_spec::Refusal;
 
 // The error code of an answer without a value (RULES, Questions), 0 where the work is done.
-#[tactic(
-    auto,
-    unfolding(cdef_spec::specs::Answers::number_of, cdef_spec::specs::Answers::read_done)
-)]
+#[tactic(auto, unfolding(cdef_spec::specs::Answers::number_of, cdef_spec::specs::Answers::read_done))]
 pub fn number(answer: Result<(), Refusal>) -> u32
     ensures { result ≡ number_of (read_done answer) }
 {
@@ -20,14 +17,7 @@ pub fn number(answer: Result<(), Refusal>) -> u32
 }
 
 // The error code of an answer, and its value in `out` where it has one.
-#[tactic(
-    auto,
-    unfolding(
-        cdef_spec::specs::Answers::number_of,
-        cdef_spec::specs::Answers::read,
-        crate::specs::Values::value_or
-    )
-)]
+#[tactic(auto, unfolding(cdef_spec::specs::Answers::number_of, cdef_spec::specs::Answers::read, crate::specs::Values::value_or))]
 pub fn give<T: Copy>(answer: Result<T, Refusal>, out: &mut T) -> u32
     ensures value { result ≡ number_of (read answer) }
     ensures out_after { out.new ≡ value_or out.old (read answer) }
@@ -38,19 +28,5 @@ pub fn give<T: Copy>(answer: Result<T, Refusal>, out: &mut T) -> u32
             0
         }
         Err(refusal) => u32::from(refusal),
-    }
-}
-
-// The error code of a frame call's answer.
-#[tactic(
-    auto,
-    unfolding(cdef_spec::specs::Answers::number_of, cdef_spec::specs::Answers::read_answer)
-)]
-pub fn frame_number(answer: Answer) -> u32
-    ensures { result ≡ number_of (read_answer answer) }
-{
-    match answer {
-        Answer::Done => 0,
-        Answer::Refused(n) => n as u32,
     }
 }

@@ -6,6 +6,7 @@ ghost use Rattle.cdef_spec.specs.FrameCalls.{applying_lists_outcome};
 ghost use Rattle.arith_damping.specs.Choice.{choice_of};
 
 use crate::answer;
+use cdef_spec::{Picture, PlaneKind};
 
 // Applying in luma: a primary and a secondary strength per unit.
 #[unsafe(no_mangle)]
@@ -29,10 +30,16 @@ pub extern "C" fn quern_apply_luma(
         (luma_picture depth width height skip.now dirs.now vars.now) (choice_of damping unstated)
         snapshot.now pris.now secs.now dst.old).plane }
 {
+    let picture = Picture {
+        kind: PlaneKind::Luma { vars },
+        depth,
+        width,
+        height,
+        skip,
+        dirs,
+    };
     let d = arith_damping::choice_of(damping, unstated);
-    answer::frame_number(cdef_lists::apply_luma(
-        dst, snapshot, width, height, depth, skip, dirs, vars, pris, secs, d,
-    ))
+    answer::number(cdef_lists::apply_units(dst, snapshot, &picture, pris, secs, d))
 }
 
 // Applying in a chroma plane: a primary and a secondary strength per unit.
@@ -57,8 +64,14 @@ pub extern "C" fn quern_apply_chroma(
     ensures dst_after { dst.new ≡ (applying_lists_outcome (chroma_picture depth width height sx sy skip.now dirs.now)
         (choice_of damping unstated) snapshot.now pris.now secs.now dst.old).plane }
 {
+    let picture = Picture {
+        kind: PlaneKind::Chroma { sx, sy },
+        depth,
+        width,
+        height,
+        skip,
+        dirs,
+    };
     let d = arith_damping::choice_of(damping, unstated);
-    answer::frame_number(cdef_lists::apply_chroma(
-        dst, snapshot, width, height, sx, sy, depth, skip, dirs, pris, secs, d,
-    ))
+    answer::number(cdef_lists::apply_units(dst, snapshot, &picture, pris, secs, d))
 }

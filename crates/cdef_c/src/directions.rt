@@ -4,6 +4,7 @@ ghost use Rattle.cdef_spec.specs.Answers.{number_of};
 ghost use Rattle.cdef_spec.specs.FrameCalls.{direction_pass_outcome};
 
 use crate::answer;
+use cdef_spec::Plane;
 
 // The direction and the variance of each 8 by 8 block of a luma plane.
 #[unsafe(no_mangle)]
@@ -22,5 +23,10 @@ pub extern "C" fn quern_direction_pass(
     ensures vars_after { vars.new ≡ (direction_pass_outcome (record { samples = plane.now; width = width; height = height }) depth
         dirs.old vars.old).vars }
 {
-    answer::frame_number(cdef::pass::direction_pass(dirs, vars, plane, width, height, depth))
+    let plane = Plane {
+        samples: plane,
+        width,
+        height,
+    };
+    answer::number(cdef::pass::directions(dirs, vars, &plane, depth))
 }

@@ -29,7 +29,10 @@ pub extern "C" fn quern_distance(
         width,
         height,
     };
-    give(cdef_blocks::distance::distance(&orig, other, x, y, depth), out)
+    give(
+        cdef_blocks::distance::distance(&orig, other, x, y, depth),
+        out,
+    )
 }
 
 // The plain squares of the 8 by 8 blocks at (x, y).
@@ -54,5 +57,8 @@ pub extern "C" fn quern_squares(
         width,
         height,
     };
-    give(cdef_blocks::distance::squares(&orig, other, x, y, depth), out)
+    give(
+        cdef_blocks::distance::squares(&orig, other, x, y, depth),
+        out,
+    )
 }

@@ -6,7 +6,7 @@ ghost use Rattle.cdef_spec.specs.FrameCalls.{measuring_outcome};
 ghost use Rattle.arith_damping.specs.Choice.{choice_of};
 
 use crate::answer;
-use cdef_spec::{UnitPair, Visible};
+use cdef_spec::{Picture, PlaneKind, UnitPair, Visible};
 
 // Measuring in luma: one total per unit; the scratch is returned all zero.
 #[unsafe(no_mangle)]
@@ -48,9 +48,17 @@ pub extern "C" fn quern_measure_luma(
         primary: primary,
         secondary: secondary,
     };
+    let picture = Picture {
+        kind: PlaneKind::Luma { vars },
+        depth,
+        width,
+        height,
+        skip,
+        dirs,
+    };
     let d = arith_damping::choice_of(damping, unstated);
-    answer::frame_number(cdef::measuring::measure_luma(
-        totals, scratch, plane, original, width, height, visible, depth, skip, dirs, vars, pair, d,
+    answer::number(cdef::measuring::measure_units(
+        totals, scratch, plane, original, &picture, visible, pair, d,
     ))
 }
 
@@ -95,9 +103,16 @@ pub extern "C" fn quern_measure_chroma(
         primary: primary,
         secondary: secondary,
     };
+    let picture = Picture {
+        kind: PlaneKind::Chroma { sx, sy },
+        depth,
+        width,
+        height,
+        skip,
+        dirs,
+    };
     let d = arith_damping::choice_of(damping, unstated);
-    answer::frame_number(cdef::measuring::measure_chroma(
-        totals, scratch, plane, original, width, height, sx, sy, visible, depth, skip, dirs, pair,
-        d,
+    answer::number(cdef::measuring::measure_units(
+        totals, scratch, plane, original, &picture, visible, pair, d,
     ))
 }

@@ -14,7 +14,10 @@ pub extern "C" fn quern_constrain(difference: i32, strength: u32, damping: u8, o
     ensures value { result ≡ number_of (constrain_outcome difference strength (record { 0 = damping })) }
     ensures out_after { out.new ≡ value_or out.old (constrain_outcome difference strength (record { 0 = damping })) }
 {
-    give(cdef_blocks::numbers::constrain(difference, strength, WorkingDamping(damping)), out)
+    give(
+        cdef_blocks::numbers::constrain(difference, strength, WorkingDamping(damping)),
+        out,
+    )
 }
 
 // Adjusts a primary strength by a variance.
@@ -41,7 +44,10 @@ pub extern "C" fn quern_luma_damping(signalled: u8, depth: u8, out: &mut u8) -> 
     ensures value { result ≡ number_of (luma_damping_outcome (record { 0 = signalled }) depth) }
     ensures out_after { out.new ≡ (value_or (record { 0 = out.old }) (luma_damping_outcome (record { 0 = signalled }) depth)).0 }
 {
-    give(cdef_blocks::numbers::luma_damping(SignalledDamping(signalled), depth).map(|d| d.0), out)
+    give(
+        cdef_blocks::numbers::luma_damping(SignalledDamping(signalled), depth).map(|d| d.0),
+        out,
+    )
 }
 
 // The working damping of a chroma plane.
@@ -50,7 +56,10 @@ pub extern "C" fn quern_chroma_damping(signalled: u8, depth: u8, out: &mut u8) -
     ensures value { result ≡ number_of (chroma_damping_outcome (record { 0 = signalled }) depth) }
     ensures out_after { out.new ≡ (value_or (record { 0 = out.old }) (chroma_damping_outcome (record { 0 = signalled }) depth)).0 }
 {
-    give(cdef_blocks::numbers::chroma_damping(SignalledDamping(signalled), depth).map(|d| d.0), out)
+    give(
+        cdef_blocks::numbers::chroma_damping(SignalledDamping(signalled), depth).map(|d| d.0),
+        out,
+    )
 }
 
 // The place of the highest set bit, 0 for 0: returned itself, since nothing is rejected.

@@ -41,9 +41,7 @@ pub extern "C" fn quern_trial_luma(
     };
     let way = TrialWay::Luma(variance);
     let damping = WorkingDamping(damping);
-    answer::number(cdef_blocks::trial::trial(
-        out, &plane, block, way, dir, damping, depth,
-    ))
+    answer::number(cdef_blocks::trial::trial(out, &plane, block, way, dir, damping, depth))
 }
 
 // Twelve trial blocks of the block at (x, y), bw by bh, of a chroma plane.
@@ -79,7 +77,5 @@ pub extern "C" fn quern_trial_chroma(
     };
     let way = TrialWay::Chroma;
     let damping = WorkingDamping(damping);
-    answer::number(cdef_blocks::trial::trial(
-        out, &plane, block, way, dir, damping, depth,
-    ))
+    answer::number(cdef_blocks::trial::trial(out, &plane, block, way, dir, damping, depth))
 }

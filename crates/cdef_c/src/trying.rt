@@ -6,7 +6,7 @@ ghost use Rattle.cdef_spec.specs.FrameCalls.{trying_outcome};
 ghost use Rattle.arith_damping.specs.Choice.{choice_of};
 
 use crate::answer;
-use cdef_spec::Visible;
+use cdef_spec::{Picture, PlaneKind, Visible};
 
 // Trying in luma: twelve totals per unit.
 #[unsafe(no_mangle)]
@@ -36,10 +36,16 @@ pub extern "C" fn quern_try_luma(
         width: visible_width,
         height: visible_height,
     };
+    let picture = Picture {
+        kind: PlaneKind::Luma { vars },
+        depth,
+        width,
+        height,
+        skip,
+        dirs,
+    };
     let d = arith_damping::choice_of(damping, unstated);
-    answer::frame_number(cdef::trying::try_luma(
-        totals, snapshot, original, width, height, visible, depth, skip, dirs, vars, d,
-    ))
+    answer::number(cdef::trying::try_units(totals, snapshot, original, &picture, visible, d))
 }
 
 // Trying in a chroma plane: twelve totals per unit.
@@ -72,8 +78,14 @@ pub extern "C" fn quern_try_chroma(
         width: visible_width,
         height: visible_height,
     };
+    let picture = Picture {
+        kind: PlaneKind::Chroma { sx, sy },
+        depth,
+        width,
+        height,
+        skip,
+        dirs,
+    };
     let d = arith_damping::choice_of(damping, unstated);
-    answer::frame_number(cdef::trying::try_chroma(
-        totals, snapshot, original, width, height, sx, sy, visible, depth, skip, dirs, d,
-    ))
+    answer::number(cdef::trying::try_units(totals, snapshot, original, &picture, visible, d))
 }

@@ -1,8 +1,5 @@
+-- What a list of unit pairs owes and applying with it (Applying); the two kinds keep the laws (KindLaws, EachLaws); how many units a picture has, and error codes (PairLaws).
 pub mod Applying
 pub mod EachLaws
 pub mod KindLaws
-pub mod Gather
-pub mod GatherLaws
 pub mod PairLaws
-pub mod LentLaws
-pub mod Truths

@@ -9,16 +9,7 @@ use cdef_spec::full::FullPlane;
 use cdef_spec::{Plane, Refusal};
 
 // 1, 2, 4, 5 and 9 of an original and another plane of its sides.
-#[tactic(
-    auto,
-    unfolding(
-        cdef_spec::specs::Answers::code_of,
-        cdef_spec::specs::Answers::error_code,
-        cdef_spec::specs::Questions::first_no,
-        cdef_spec::specs::Lent::plane_in,
-        cdef_spec::specs::BlockCalls::distance_no
-    )
-)]
+#[tactic(auto, unfolding(cdef_spec::specs::Answers::code_of, cdef_spec::specs::Answers::error_code, cdef_spec::specs::Questions::first_no, cdef_spec::specs::Lent::plane_in, cdef_spec::specs::BlockCalls::distance_no))]
 pub fn distance_no<'a>(
     orig: &Plane<'a>,
     other: &[u16],
@@ -30,7 +21,13 @@ pub fn distance_no<'a>(
     ensures same { IfOk result (λ p. plane_in_full p ≡ plane_in orig.now) }
 {
     let full = full_plane(orig, depth)?;
-    let second = full_plane(&Plane { samples: other, ..*orig }, depth)?;
+    let second = full_plane(
+        &Plane {
+            samples: other,
+            ..*orig
+        },
+        depth,
+    )?;
     if !check_sides::corner_taken(orig, x, y) {
         return Err(Refusal::Position);
     }

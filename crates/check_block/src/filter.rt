@@ -10,10 +10,7 @@ use cdef_spec::full::FullPlane;
 use cdef_spec::{Block, FilterParams, Plane, Refusal};
 
 // 6: a destination of whole rows that starts at or above the block and reaches its end, or the plane's.
-#[tactic(
-    auto,
-    unfolding(cdef_spec::specs::Questions::rows_taken, cdef_spec::specs::Lent::plane_in)
-)]
+#[tactic(auto, unfolding(cdef_spec::specs::Questions::rows_taken, cdef_spec::specs::Lent::plane_in))]
 fn rows_taken(dst: &[u16], y0: usize, plane: &Plane<'_>, b: Block) -> bool
     requires sides { (0 < plane.now.width) × (plane.now.height ≤ 4096) }
     requires block_in { (b.y < plane.now.height) × (b.height ≤ 8) }

@@ -1,14 +1,5 @@
 // The checks of the calls on one block, in order: each returns why the first that fails does. No public function of the crate requires anything.
-#![tactic(
-    auto,
-    unfolding(
-        cdef_spec::specs::Answers::code_of,
-        cdef_spec::specs::Answers::error_code,
-        cdef_spec::specs::Questions::first_no,
-        cdef_spec::specs::BlockCalls::direction_no,
-        cdef_spec::specs::BlockCalls::distance_no
-    )
-)]
+#![tactic(auto, unfolding(cdef_spec::specs::Answers::code_of, cdef_spec::specs::Answers::error_code, cdef_spec::specs::Questions::first_no, cdef_spec::specs::BlockCalls::direction_no, cdef_spec::specs::BlockCalls::distance_no))]
 
 ghost use Rattle.std.specs.Prelude.{◌≡◌, ◌≤◌, IfOk};
 ghost use Rattle.cdef_spec.specs.Lent.{plane_in, plane_in_full};
@@ -25,16 +16,7 @@ pub mod filter; // filter.rt: the checks of the block filter
 pub mod trial; // trial.rt: the checks of the trial
 
 // 1, 2 and 4: the depth, the sides, the plane's length.
-#[tactic(
-    auto,
-    unfolding(
-        cdef_spec::specs::Answers::code_of,
-        cdef_spec::specs::Answers::error_code,
-        cdef_spec::specs::Questions::first_no,
-        cdef_spec::specs::Lent::plane_in,
-        cdef_spec::specs::Lent::plane_in_full
-    )
-)]
+#[tactic(auto, unfolding(cdef_spec::specs::Answers::code_of, cdef_spec::specs::Answers::error_code, cdef_spec::specs::Questions::first_no, cdef_spec::specs::Lent::plane_in, cdef_spec::specs::Lent::plane_in_full))]
 pub fn full_plane<'a>(plane: &Plane<'a>, depth: u8) -> Result<FullPlane<'a>, Refusal>
     ensures first_no { code_of result ≡ first_no (plane_first (plane_in plane.now) depth) }
     ensures same { IfOk result (λ p. plane_in_full p ≡ plane_in plane.now) }

@@ -1,5 +1,3 @@
--- What follows, as facts, where all checks pass.
-pub mod Facts
-pub mod YesLaws
+-- What the checks make for a core (Made), and its laws (MadeLaws).
 pub mod Made
 pub mod MadeLaws

@@ -1,16 +1,5 @@
 // The checks of the calls on single numbers, in order: each returns why the first that fails does. No function here requires anything.
-#![tactic(
-    auto,
-    unfolding(
-        cdef_spec::specs::Answers::code_of,
-        cdef_spec::specs::Answers::error_code,
-        cdef_spec::specs::Questions::first_no,
-        cdef_spec::specs::BlockCalls::constrain_no,
-        cdef_spec::specs::BlockCalls::adjust_no,
-        cdef_spec::specs::BlockCalls::damping_no,
-        cdef_spec::specs::BlockCalls::working_damping_no
-    )
-)]
+#![tactic(auto, unfolding(cdef_spec::specs::Answers::code_of, cdef_spec::specs::Answers::error_code, cdef_spec::specs::Questions::first_no, cdef_spec::specs::BlockCalls::constrain_no, cdef_spec::specs::BlockCalls::adjust_no, cdef_spec::specs::BlockCalls::damping_no, cdef_spec::specs::BlockCalls::working_damping_no))]
 
 ghost use Rattle.std.specs.Prelude.{◌≡◌};
 ghost use Rattle.cdef_spec.specs.Answers.{code_of, error_code};
@@ -20,11 +9,7 @@ ghost use Rattle.cdef_spec.specs.BlockCalls.{constrain_no, adjust_no, damping_no
 use cdef_spec::{Refusal, SignalledDamping, WorkingDamping};
 
 // Constrain: 8 and 9.
-pub fn constrain_no(
-    difference: i32,
-    strength: u32,
-    damping: WorkingDamping,
-) -> Result<(), Refusal>
+pub fn constrain_no(difference: i32, strength: u32, damping: WorkingDamping) -> Result<(), Refusal>
     ensures { code_of result ≡ constrain_no difference strength damping }
 {
     if !(check_values::strength_taken(strength) && check_values::working_taken(damping)) {

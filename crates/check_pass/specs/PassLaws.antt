@@ -1,4 +1,4 @@
--- The direction pass: its questions by the parts that the code checks them in, and what follows where all pass.
+-- What follows, as facts, where all checks of the direction pass pass, and where the first two do.
 use Rattle.std.specs.Prelude.{◌≡◌, true, false, ◌&&◌, List, [], ◌∷◌, ℕ, ◌*◌, ◌/◌, ◌%◌, ◌^◌, ◌≤◌, ◌<◌, eqb, get_or, length}
 use Rattle.std.proofs.Common.{sym, ◌∙◌, mul-le-mul, arith, pow_pos}
 use borrow.Author.Tests.{eqb-true, ne_eqb, eq-eqb}
@@ -7,7 +7,7 @@ use Rattle.cdef_spec.specs.Document01.{Plane}
 use Rattle.cdef_spec.specs.Questions.{Question, ask, first_no, all_below, luma_side_taken, full}
 use Rattle.cdef_spec.specs.QuestionLaws.{below_get, first-yes, depth-high}
 use Rattle.cdef_spec.specs.FrameCalls.{direction_pass_no}
-use Rattle.frame_shape.specs.FrameLaws.{side-facts}
+use Rattle.frame_shape.specs.ShapeLaws.{side-facts}
 use Rattle.check_picture.specs.Parts.{sides_first}
 use Rattle.check_picture.specs.PartLaws.{sides-stop, sides-passed}
 
@@ -46,49 +46,9 @@ module _ (depth width height : ℕ) where
     pub product-low : width * height ≤ 4096 * 4096
     product-low = mul-le-mul s.wide.1 s.high.1
 
-    pub blocks-low : height / 8 * (width / 8) ≤ 512 * 512
-    blocks-low =
-        let h : height / 8 ≤ 512 = omega (arith, s.high.1) in
-        let w : width / 8 ≤ 512 = omega (arith, s.wide.1) in
-        mul-le-mul h w
-
 module _ (p : Plane) (depth : ℕ) (dirs vars : List ℕ) where
   abbrev n : ℕ
   n = p.height / 8 * (p.width / 8)
-
-  abbrev later : List Question
-  later = ask 4 (full p) ∷ ask 7 (eqb (length dirs) n && eqb (length vars) n) ∷ ask 9 (all_below (2 ^ depth) p.samples) ∷ []
-
-  pub pass-sides : (k : ℕ) → k ≡ first_no (sides_first depth p.width p.height) → (k ≡ 0 → ⊥) → k ≡ direction_pass_no p depth dirs vars
-  unfolding direction_pass_no
-  pass-sides k = sides-stop depth p.width p.height later k
-
-  module _ (z : first_no (sides_first depth p.width p.height) ≡ 0) where
-    rest : direction_pass_no p depth dirs vars ≡ first_no later
-    unfolding direction_pass_no
-    rest = sides-passed depth p.width p.height later z
-
-    pub pass-full : (length p.samples ≡ p.width * p.height → ⊥) → 4 ≡ direction_pass_no p depth dirs vars
-    pass-full e = sym (rest ∙ (unfold first_no full in rw (ne_eqb _ _ e)))
-
-    module _ (a : length p.samples ≡ p.width * p.height) where
-      full-yes : full p ≡ true
-      unfolding full
-      full-yes = eq-eqb _ _ a
-
-      pub pass-dirs : (length dirs ≡ n → ⊥) → 7 ≡ direction_pass_no p depth dirs vars
-      pass-dirs e = sym (rest ∙ (unfold first_no in rw (full-yes, ne_eqb _ _ e)))
-
-      module _ (b : length dirs ≡ n) where
-        pub pass-vars : (length vars ≡ n → ⊥) → 7 ≡ direction_pass_no p depth dirs vars
-        pass-vars e = sym (rest ∙ (unfold first_no in rw (full-yes, eq-eqb _ _ b, ne_eqb _ _ e)))
-
-        module _ (c : length vars ≡ n) where
-          pub pass-samples : all_below (2 ^ depth) p.samples ≡ false → 9 ≡ direction_pass_no p depth dirs vars
-          pass-samples e = sym (rest ∙ (unfold first_no in rw (full-yes, eq-eqb _ _ b, eq-eqb _ _ c, e)))
-
-          pub pass-yes : all_below (2 ^ depth) p.samples ≡ true → 0 ≡ direction_pass_no p depth dirs vars
-          pass-yes e = sym (rest ∙ (unfold first_no in rw (full-yes, eq-eqb _ _ b, eq-eqb _ _ c, e)))
 
   pub pass-facts : direction_pass_no p depth dirs vars ≡ 0 → PassFacts p depth dirs vars
   unfolding direction_pass_no full

@@ -1,36 +1,38 @@
 // The checks of the direction pass.
-#![tactic(auto)]
+#![tactic(auto, unfolding(cdef_spec::specs::Answers::code_of, cdef_spec::specs::Answers::error_code, cdef_spec::specs::Lent::plane_in, cdef_spec::specs::Lent::plane_in_full, cdef_spec::specs::Questions::first_no, cdef_spec::specs::Questions::full, cdef_spec::specs::FrameCalls::direction_pass_no))]
 
-ghost use Rattle.std.specs.Prelude.{◌≡◌};
+ghost use Rattle.std.specs.Prelude.{◌≡◌, IfOk};
+ghost use Rattle.cdef_spec.specs.Lent.{plane_in, plane_in_full};
+ghost use Rattle.cdef_spec.specs.Answers.{code_of};
 ghost use Rattle.cdef_spec.specs.FrameCalls.{direction_pass_no};
 
-// 1, 2, 4, 7 and 9: the error code of the first that fails, or 0.
-pub fn direction_pass_no(
-    plane: &[u16],
-    width: usize,
-    height: usize,
+use cdef_spec::full::FullPlane;
+use cdef_spec::{Plane, Refusal};
+
+// 1, 2, 4, 7 and 9: why the first that fails does, or the plane with its samples as many as its sides say.
+pub fn direction_pass_no<'a>(
+    plane: &Plane<'a>,
     depth: u8,
     dirs: &[u8],
     vars: &[u32],
-) -> u8
-    ensures { result ≡ direction_pass_no (record { samples = plane.now; width = width; height = height }) depth dirs.now
-        vars.now }
+) -> Result<FullPlane<'a>, Refusal>
+    ensures first_no { code_of result ≡ direction_pass_no (plane_in plane.now) depth dirs.now vars.now }
+    ensures same { IfOk result (λ p. plane_in_full p ≡ plane_in plane.now) }
 {
-    let no = check_picture::sides_no(depth, width, height);
-    if no != 0 {
-        return no;
+    check_picture::sides(depth, plane.width, plane.height)?;
+    if plane.samples.len() != plane.width * plane.height {
+        return Err(Refusal::PlaneLength);
     }
-    if plane.len() != width * height {
-        return 4;
+    let blocks = plane.height / 8 * (plane.width / 8);
+    if dirs.len() != blocks || vars.len() != blocks {
+        return Err(Refusal::Lengths);
     }
-    if dirs.len() != height / 8 * (width / 8) {
-        return 7;
+    if !check_lists::samples_below(plane.samples, depth) {
+        return Err(Refusal::Samples);
     }
-    if vars.len() != height / 8 * (width / 8) {
-        return 7;
-    }
-    if !check_lists::samples_below(plane, depth) {
-        return 9;
-    }
-    0
+    Ok(FullPlane {
+        samples: plane.samples,
+        width: plane.width,
+        height: plane.height,
+    })
 }

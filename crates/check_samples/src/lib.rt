@@ -13,10 +13,7 @@ use cdef_spec::Refusal;
 use cdef_spec::full::FullPlane;
 
 // The bits that are set in any of n samples, from `at` on.
-#[tactic(
-    auto,
-    using(crate::specs::LookedLaws::row_none, crate::specs::LookedLaws::row_more)
-)]
+#[tactic(auto, using(crate::specs::LookedLaws::row_none, crate::specs::LookedLaws::row_more))]
 fn row_bits(plane: &[u16], at: usize, n: usize) -> u16
     requires { at + n ≤ length plane.now }
     ensures { result ≡ or_row plane.now at n }
@@ -29,10 +26,7 @@ fn row_bits(plane: &[u16], at: usize, n: usize) -> u16
 }
 
 // The bits that are set in any of rows by cols samples, from row y and column x on.
-#[tactic(
-    auto,
-    using(crate::specs::LookedLaws::rows_none, crate::specs::LookedLaws::rows_more)
-)]
+#[tactic(auto, using(crate::specs::LookedLaws::rows_none, crate::specs::LookedLaws::rows_more))]
 fn block_bits(plane: &FullPlane<'_>, x: usize, y: usize, rows: usize, cols: usize) -> u16
     requires { (y + rows ≤ plane.now.height) × (x + cols ≤ plane.now.width) }
     ensures { result ≡ or_rows plane.now.samples.now plane.now.width y x cols rows }
@@ -83,14 +77,7 @@ pub fn window_taken(w: &[u16; 144], depth: u8) -> bool
 }
 
 // The same as an answer, for the block filter and the trial, on the gathered window: its entries are the examined samples, and marks.
-#[tactic(
-    auto,
-    unfolding(
-        cdef_spec::specs::Answers::code_of,
-        cdef_spec::specs::Answers::error_code,
-        cdef_spec::specs::Questions::first_no
-    )
-)]
+#[tactic(auto, unfolding(cdef_spec::specs::Answers::code_of, cdef_spec::specs::Answers::error_code, cdef_spec::specs::Questions::first_no))]
 pub fn window_no(win: &[u16; 144], depth: u8) -> Result<(), Refusal>
     requires { depth ≤ 12 }
     ensures { code_of result ≡ first_no (ask 9 (every 144 (λ k. sample_or_mark depth (get_or win.now k 0))) ∷ []) }

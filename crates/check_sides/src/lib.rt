@@ -1,16 +1,5 @@
 // Questions 1, 2, 4 and 5 of single numbers: the depth, sides, a plane's length, a block's corner and sides. Each test has its definition's name; no function here requires anything.
-#![tactic(
-    auto,
-    unfolding(
-        cdef_spec::specs::Questions::depth_taken,
-        cdef_spec::specs::Questions::side_taken,
-        cdef_spec::specs::Questions::luma_side_taken,
-        cdef_spec::specs::Questions::full,
-        cdef_spec::specs::Lent::plane_in,
-        cdef_spec::specs::Questions::corner_taken,
-        cdef_spec::specs::Questions::block_side_taken
-    )
-)]
+#![tactic(auto, unfolding(cdef_spec::specs::Questions::depth_taken, cdef_spec::specs::Questions::side_taken, cdef_spec::specs::Questions::luma_side_taken, cdef_spec::specs::Questions::full, cdef_spec::specs::Lent::plane_in, cdef_spec::specs::Questions::corner_taken, cdef_spec::specs::Questions::block_side_taken))]
 
 ghost use Rattle.std.specs.Prelude.{◌≡◌, ◌&&◌};
 ghost use Rattle.cdef_spec.specs.Questions.{depth_taken, side_taken, luma_side_taken, full, corner_taken, block_side_taken};

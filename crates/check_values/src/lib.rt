@@ -1,20 +1,5 @@
 // Questions 8 and 9 of single values: strengths, dampings, variances, the quality index, a difference. Each test has its definition's name.
-#![tactic(
-    auto,
-    unfolding(
-        cdef_spec::specs::Questions::strength_taken,
-        cdef_spec::specs::Questions::working_taken,
-        cdef_spec::specs::Questions::signalled_taken,
-        cdef_spec::specs::Questions::variance_taken,
-        cdef_spec::specs::Questions::index_taken,
-        cdef_spec::specs::Questions::difference_taken,
-        cdef_spec::specs::Questions::primary_taken,
-        cdef_spec::specs::Questions::secondary_taken,
-        cdef_spec::specs::Questions::pair_taken,
-        cdef_spec::specs::Questions::params_taken,
-        cdef_spec::specs::Questions::way_taken
-    )
-)]
+#![tactic(auto, unfolding(cdef_spec::specs::Questions::strength_taken, cdef_spec::specs::Questions::working_taken, cdef_spec::specs::Questions::signalled_taken, cdef_spec::specs::Questions::variance_taken, cdef_spec::specs::Questions::index_taken, cdef_spec::specs::Questions::difference_taken, cdef_spec::specs::Questions::primary_taken, cdef_spec::specs::Questions::secondary_taken, cdef_spec::specs::Questions::pair_taken, cdef_spec::specs::Questions::params_taken, cdef_spec::specs::Questions::way_taken))]
 
 ghost use Rattle.std.specs.Prelude.{◌≡◌, ◌≤◌};
 ghost use Rattle.cdef_spec.specs.Questions.{strength_taken, working_taken, signalled_taken, variance_taken, index_taken, difference_taken, primary_taken, secondary_taken, pair_taken, params_taken, way_taken};

@@ -1,6 +1,8 @@
 // Why the still is not filtered.
+use cdef_spec::Refusal;
 use std::io;
 use still_files::FileError;
+use still_steps::damping::DampingError;
 use still_steps::refusals::Refused;
 use still_steps::steps::StepError;
 use thiserror::Error;
@@ -15,10 +17,10 @@ PRIMARY: 0 to 15; SECONDARY: 0, 1, 2 or 4; OUTPUT: the filtered picture";
 pub enum Problem<'a> {
     #[error("{}", USAGE)]
     Usage,
-    #[error("DAMPING is q and a quality index, or d and a signalled damping, not {0}")]
+    #[error("{}, not {}", DampingError::NotDamping, .0)]
     Damping(&'a str),
-    #[error("the damping of the quality index returned error code {0}: the index is not 0 to 255")]
-    Index(u8),
+    #[error("{}", DampingError::Rejected(*.0))]
+    Index(Refusal),
     #[error("PRIMARY is a number, not {0}")]
     Primary(&'a str),
     #[error("SECONDARY is a number, not {0}")]

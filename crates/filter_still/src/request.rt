@@ -17,7 +17,7 @@ pub struct Request<'a> {
 fn damping_argument(given: &str) -> Result<SignalledDamping, Problem<'_>> {
     match damping_of(given.as_bytes()) {
         Ok(damping) => Ok(damping),
-        Err(DampingError::Rejected(code)) => Err(Problem::Index(code)),
+        Err(DampingError::Rejected(refusal)) => Err(Problem::Index(refusal)),
         Err(DampingError::NotDamping) => Err(Problem::Damping(given)),
     }
 }

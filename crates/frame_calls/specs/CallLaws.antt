@@ -1,6 +1,6 @@
 -- A frame call from its checks: what its core requires where they pass, and the outcome either way.
-use Rattle.std.specs.Prelude.{◌≡◌, refl, Bool, true, false, ◌&&◌, ◌||◌, leb, List, [], ◌∷◌, ℕ, ◌*◌, ◌/◌, ◌%◌, ◌≤◌, ℤ, pos, length, replicate, eqb, Ok, Err, Result as RustResult}
-use Rattle.std.proofs.Common.{sym, ◌∙◌, arith, ne_eqb, eqb-true, eq-eqb, leb-true}
+use Rattle.std.specs.Prelude.{◌≡◌, refl, Bool, true, false, ◌||◌, leb, List, [], ◌∷◌, ℕ, ◌*◌, ◌/◌, ◌%◌, ◌≤◌, ℤ, pos, length, replicate, eqb, Ok, Err, Result as RustResult}
+use Rattle.std.proofs.Common.{sym, arith, ne_eqb, eqb-true, eq-eqb, leb-true}
 use Rattle.cdef_spec.specs.declared.DampingChoice.{DampingChoice}
 use Rattle.cdef_spec.specs.declared.SignalledDamping.{SignalledDamping}
 use Rattle.cdef_spec.specs.declared.Refusal.{Refusal}
@@ -11,7 +11,7 @@ use Rattle.cdef_spec.specs.WordsLaws.{and_both}
 use Rattle.cdef_spec.specs.Document01.{in_force}
 use Rattle.cdef_spec.specs.Picture.{Picture, plane_width, plane_height, units, tried_total, measured_total, applied_plane}
 use Rattle.cdef_spec.specs.Answers.{nothing, result_of, read_done, code_of}
-use Rattle.cdef_spec.specs.AnswerLaws.{not-zero, read_done-err, zero-so, read_done-ok}
+use Rattle.cdef_spec.specs.AnswerLaws.{not-zero, read_done-err, read_done-ok}
 use Rattle.cdef_spec.specs.Questions.{full_planes, picture_listed, visible_taken, picture_taken, primary_taken, secondary_taken, pair_taken}
 use Rattle.cdef_spec.specs.QuestionLaws.{Taken, questions-yes}
 use Rattle.cdef_spec.specs.FrameCalls.{trying_no, trying_outcome, scratch_length, measuring_no, measuring_outcome}

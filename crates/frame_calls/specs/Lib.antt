@@ -1,4 +1,2 @@
--- What a frame call leaves, from the error code of its first failed check.
-pub mod OutcomeLaws
-pub mod FlagLaws
+-- What a frame call leaves, from its checks.
 pub mod CallLaws

@@ -1,7 +1,7 @@
 -- A damping out of text. Definitions only.
 use Rattle.std.specs.Prelude.{ℕ, min, cond, List, [], ◌∷◌, eqb, Option, Some, None, Ok, Err, Result as RustResult}
 use Rattle.cdef_spec.specs.declared.SignalledDamping.{SignalledDamping}
-use Rattle.cdef_spec.specs.Answers.{Result, taken, refused}
+use Rattle.cdef_spec.specs.Answers.{Result, taken, refused, error_code}
 use Rattle.cdef_spec.specs.BlockCalls.{damping_outcome}
 use Rattle.still_text.specs.Text.{number_of}
 use Rattle.still_steps.specs.declared.damping.DampingError.{DampingError}
@@ -22,5 +22,5 @@ damping_of (letter ∷ s) = lettered letter (number_of s)
 -- what was read: a damping, or the error code with which the call for a quality index rejected it; or nothing
 unfoldable pub read_text : RustResult SignalledDamping DampingError → Option (Result SignalledDamping)
 read_text (Ok d) = Some (taken d)
-read_text (Err (Rejected n)) = Some (refused n)
+read_text (Err (Rejected r)) = Some (refused (error_code r))
 read_text (Err NotDamping) = None

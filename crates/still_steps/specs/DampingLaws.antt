@@ -1,10 +1,15 @@
 -- A damping out of text, by its letter and its number.
-use Rattle.std.specs.Prelude.{◌≡◌, refl, Bool, true, false, cond, List, [], ◌∷◌, ℕ, ◌≤◌, min, length, eqb, Option, Some, None}
+use Rattle.std.specs.Prelude.{◌≡◌, refl, Bool, true, false, cond, List, [], ◌∷◌, ℕ, ◌≤◌, min, length, eqb, Option, Some, None, Ok, Err, MatchResult, Result as RustResult}
+use Rattle.std.specs.Result.{IsErrAnd}
 use Rattle.std.proofs.Common.{ap, arith, ne_eqb}
-use Rattle.cdef_spec.specs.Answers.{taken}
+use Rattle.cdef_spec.specs.declared.SignalledDamping.{SignalledDamping}
+use Rattle.cdef_spec.specs.declared.Refusal.{Refusal}
+use Rattle.cdef_spec.specs.Answers.{taken, read}
 use Rattle.cdef_spec.specs.BlockCalls.{damping_outcome}
 use Rattle.still_text.specs.Text.{digit_count, decimal, most, number_of}
-use Rattle.still_steps.specs.Damping.{damping_of}
+use Rattle.still_steps.specs.declared.damping.DampingError.{DampingError}
+use Rattle.still_steps.specs.declared.damping.DampingError.TheVariants.{Rejected}
+use Rattle.still_steps.specs.Damping.{damping_of, read_text}
 
 pub no_letter : (s : List ℕ) → length s ≡ 0 → None ≡ damping_of s
 unfolding damping_of
@@ -43,3 +48,10 @@ value_low s n e = rw (← ap value_or e) at (go (eqb (digit_count s) 0) (eqb (di
     go true b d = omega arith
     go false true d = omega arith
     go false false d = omega arith
+
+-- the answer of the call for a quality index, as what was read
+pub mapped : (a : RustResult SignalledDamping Refusal) (r : RustResult SignalledDamping DampingError) → MatchResult a (λ x. r ≡ Ok x) (λ e. IsErrAnd r (λ d. d ≡ Rejected e)) → read_text r ≡ Some (read a)
+unfolding read_text read
+mapped (Ok d) r h = rw h refl
+mapped (Err e) (Ok d) h = absurd h
+mapped (Err e) (Err x) h = rw h refl

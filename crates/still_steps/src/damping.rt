@@ -3,15 +3,15 @@ ghost use Rattle.std.specs.Prelude.{min, ◌≡◌};
 ghost use Rattle.still_steps.specs.Damping.{read_text, damping_of};
 
 use cdef_blocks::numbers;
-use cdef_spec::SignalledDamping;
+use cdef_spec::{Refusal, SignalledDamping};
 use still_text::numbers::number_of;
 use thiserror::Error;
 
-// Why a text is no damping: the call for a quality index rejected it, with this error code; or it is neither an index nor a damping.
+// Why a text is no damping: the call for a quality index refused it; or it is neither an index nor a damping.
 #[derive(Clone, Copy, Debug, PartialEq, Eq, Error)]
 pub enum DampingError {
-    #[error("the damping of the quality index returned error code {0}: the index is not 0 to 255")]
-    Rejected(u8),
+    #[error("the damping of the quality index returned error code {}: the index is not 0 to 255", u32::from(*.0))]
+    Rejected(Refusal),
     #[error("DAMPING is q and a quality index, or d and a signalled damping")]
     NotDamping,
 }
@@ -35,10 +35,7 @@ pub fn damping_of(text: &[u8]) -> Result<SignalledDamping, DampingError>
         return Err(DampingError::NotDamping);
     };
     match *letter {
-        b'q' => match numbers::damping(n as u32) {
-            Ok(d) => Ok(d),
-            Err(refusal) => Err(DampingError::Rejected(u8::from(refusal))),
-        },
+        b'q' => numbers::damping(n as u32).map_err(DampingError::Rejected),
         b'd' => Ok(SignalledDamping(small(n))),
         _ => Err(DampingError::NotDamping),
     }

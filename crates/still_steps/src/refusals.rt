@@ -1,4 +1,5 @@
 // A call that refused its input: which, its error code (RULES, Questions) and what that means.
+use cdef_spec::Refusal;
 use thiserror::Error;
 
 // The calls that a still goes through.
@@ -15,27 +16,30 @@ pub enum Call {
 }
 
 impl Call {
-    pub(crate) fn refused(self, code: u8) -> Refused {
-        Refused { call: self, code }
+    pub(crate) fn refused(self, refusal: Refusal) -> Refused {
+        Refused {
+            call: self,
+            refusal,
+        }
     }
 }
 
 #[derive(Clone, Copy, Debug, PartialEq, Eq, Error)]
-#[error("{call} returned error code {code}{}", meaning(*.code))]
+#[error("{call} returned error code {}{}", u32::from(*.refusal), meaning(*.refusal))]
 pub struct Refused {
     pub call: Call,
-    pub code: u8,
+    pub refusal: Refusal,
 }
 
-// What an error code means for a still; nothing where no call refuses one with it.
-fn meaning(code: u8) -> &'static str {
-    match code {
-        1 => ": the depth is not 8 to 12",
-        2 => ": a side is not 1 to 4096, or not a multiple of 8",
-        4 => ": a plane is not as long as its sides say",
-        7 => { ": a list has the wrong length, or the visible size is out of range" }
-        8 => ": a strength or the damping is out of range",
-        9 => ": a sample is above the maximum",
-        _ => "",
+// What a refusal means for a still; nothing where no call refuses one for that.
+fn meaning(refusal: Refusal) -> &'static str {
+    match refusal {
+        Refusal::Depth => ": the depth is not 8 to 12",
+        Refusal::Sides => ": a side is not 1 to 4096, or not a multiple of 8",
+        Refusal::PlaneLength => ": a plane is not as long as its sides say",
+        Refusal::Lengths => { ": a list has the wrong length, or the visible size is out of range" }
+        Refusal::Values => ": a strength or the damping is out of range",
+        Refusal::Samples => ": a sample is above the maximum",
+        Refusal::Subsampling | Refusal::Position | Refusal::Destination => "",
     }
 }

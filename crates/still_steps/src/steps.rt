@@ -4,7 +4,7 @@ ghost use Rattle.still_lists.specs.Lists.{unit_count, total_count};
 
 use crate::refusals::{Call, Refused};
 use cdef::{applying, measuring, pass, trying};
-use cdef_spec::{Answer, DampingChoice, UnitPair, Visible};
+use cdef_spec::{DampingChoice, Picture, Plane, PlaneKind, UnitPair, Visible};
 use std::alloc::{AllocError, Global};
 use still_lists::Counts;
 use thiserror::Error;
@@ -46,110 +46,89 @@ pub enum StepError {
     Memory(#[from(alloc)] AllocError),
 }
 
-// What a call answered.
-fn done(call: Call, answer: Answer) -> Result<(), StepError> {
-    match answer {
-        Answer::Done => Ok(()),
-        Answer::Refused(code) => Err(StepError::Refused(call.refused(code))),
-    }
-}
-
-// What the direction pass finds of each block. No block is skipped.
-#[derive(Drop)]
-struct Blocks {
-    skip: Vec<u8>,
-    dirs: Vec<u8>,
-    vars: Vec<u32>,
-}
-
-fn blocks_of(alloc: Global, job: &Job<'_>) -> Result<Blocks, StepError> {
-    let n = job.counts;
-    let skip = vec![in alloc; 0; n.blocks()]?;
-    let mut dirs = vec![in alloc; 0; n.blocks()]?;
-    let mut vars = vec![in alloc; 0; n.blocks()]?;
-    let answer = pass::direction_pass(
-        &mut dirs, &mut vars, job.still, n.width, n.height, job.depth,
-    );
-    done(Call::DirectionPass, answer)?;
-    Ok(Blocks { skip, dirs, vars })
-}
-
 // The twelve tried totals of each unit.
-fn try_out(alloc: Global, job: &Job<'_>, b: &Blocks) -> Result<Vec<i64>, StepError>
+fn try_out(alloc: Global, job: &Job<'_>, picture: &Picture<'_>) -> Result<Vec<i64>, StepError>
     ensures { IfOk result (λ v. length v.items ≡ total_count job.now.counts) }
 {
-    let n = job.counts;
-    let mut tried = vec![in alloc; 0; n.totals()]?;
-    let answer = trying::try_luma(
+    let mut tried = vec![in alloc; 0; job.counts.totals()]?;
+    trying::try_units(
         &mut tried,
         job.still,
         job.original,
-        n.width,
-        n.height,
+        picture,
         job.visible,
-        job.depth,
-        &b.skip,
-        &b.dirs,
-        &b.vars,
         job.damping,
-    );
-    done(Call::Trying, answer)?;
+    )
+    .map_err(|refusal| Call::Trying.refused(refusal))?;
     Ok(tried)
 }
 
 // A copy of the still, filtered with one pair in every unit.
-fn apply(alloc: Global, job: &Job<'_>, b: &Blocks) -> Result<Vec<u16>, StepError> {
-    let n = job.counts;
+fn apply(alloc: Global, job: &Job<'_>, picture: &Picture<'_>) -> Result<Vec<u16>, StepError> {
     let mut plane = Vec::from_slice(alloc, job.still)?;
-    let pairs = vec![in alloc; job.pair; n.units()]?;
-    let answer = applying::apply_luma(
-        &mut plane,
-        job.still,
-        n.width,
-        n.height,
-        job.depth,
-        &b.skip,
-        &b.dirs,
-        &b.vars,
-        &pairs,
-        job.damping,
-    );
-    done(Call::Applying, answer)?;
+    let pairs = vec![in alloc; job.pair; job.counts.units()]?;
+    applying::apply_units(&mut plane, job.still, picture, &pairs, job.damping).map_err(
+        |refusal| Call::Applying.refused(refusal),
+    )?;
     Ok(plane)
 }
 
 // The measured total of each unit of the filtered plane, with the pair 0, 0.
-fn measure(alloc: Global, job: &Job<'_>, b: &Blocks, plane: &[u16]) -> Result<Vec<i64>, StepError>
+fn measure(
+    alloc: Global,
+    job: &Job<'_>,
+    picture: &Picture<'_>,
+    plane: &[u16],
+) -> Result<Vec<i64>, StepError>
     ensures { IfOk result (λ v. length v.items ≡ unit_count job.now.counts) }
 {
-    let n = job.counts;
-    let mut measured = vec![in alloc; 0; n.units()]?;
-    let mut scratch = vec![in alloc; 0; n.scratch()]?;
-    let answer = measuring::measure_luma(
+    let mut measured = vec![in alloc; 0; job.counts.units()]?;
+    let mut scratch = vec![in alloc; 0; job.counts.scratch()]?;
+    measuring::measure_units(
         &mut measured,
         &mut scratch,
         plane,
         job.original,
-        n.width,
-        n.height,
+        picture,
         job.visible,
-        job.depth,
-        &b.skip,
-        &b.dirs,
-        &b.vars,
         NO_PAIR,
         job.damping,
-    );
-    done(Call::Measuring, answer)?;
+    )
+    .map_err(|refusal| Call::Measuring.refused(refusal))?;
     Ok(measured)
 }
 
-// Filters a copy of the still, and measures it.
+// The direction and the variance of each block.
+fn find_directions(job: &Job<'_>, dirs: &mut [u8], vars: &mut [u32]) -> Result<(), StepError> {
+    let still = Plane {
+        samples: job.still,
+        width: job.counts.width,
+        height: job.counts.height,
+    };
+    pass::directions(dirs, vars, &still, job.depth).map_err(|refusal| Call::DirectionPass.refused(
+        refusal,
+    ))?;
+    Ok(())
+}
+
+// Filters a copy of the still, and measures it. No block is skipped.
 pub fn filter(alloc: Global, job: &Job<'_>) -> Result<Filtered, StepError> {
-    let b = blocks_of(alloc, job)?;
-    let tried = try_out(alloc, job, &b)?;
-    let plane = apply(alloc, job, &b)?;
-    let measured = measure(alloc, job, &b, &plane)?;
+    let n = job.counts;
+    let skip = vec![in alloc; 0; n.blocks()]?;
+    let mut dirs = vec![in alloc; 0; n.blocks()]?;
+    let mut vars = vec![in alloc; 0; n.blocks()]?;
+    find_directions(job, &mut dirs, &mut vars)?;
+    let picture = Picture {
+        kind: PlaneKind::Luma { vars: &vars },
+        depth: job.depth,
+        width: n.width,
+        height: n.height,
+        skip: &skip,
+        dirs: &dirs,
+    };
+    let tried = try_out(alloc, job, &picture)?;
+    let plane = apply(alloc, job, &picture)?;
+    let measured = measure(alloc, job, &picture, &plane)?;
     Ok(Filtered {
         plane,
         tried,

@@ -1,5 +1,5 @@
 // What applying returns for a list of one pair so many times, for a flat luma picture of 64 by 128: two units.
-use cdef_spec::{Answer, DampingChoice, SignalledDamping, UnitPair};
+use cdef_spec::{DampingChoice, Picture, PlaneKind, Refusal, SignalledDamping, UnitPair};
 use std::alloc::{AllocError, Global};
 use std::io;
 
@@ -45,24 +45,27 @@ pub fn lines(rt: &(impl Print + AllocGlobal)) -> io::Result<()> {
         let secondary = pair.secondary;
         print!(rt; "pair {primary}, {secondary}, times {times}: ")?;
         match applied(rt.alloc(), times, pair)? {
-            Answer::Done => println!(rt; "done")?,
-            Answer::Refused(n) => println!(rt; "error code {n}")?,
+            Ok(()) => println!(rt; "done")?,
+            Err(refusal) => println!(rt; "error code {}", u32::from(refusal))?,
         }
     }
     Ok(())
 }
 
-fn applied(alloc: Global, times: usize, pair: UnitPair) -> Result<Answer, AllocError> {
+fn applied(alloc: Global, times: usize, pair: UnitPair) -> Result<Result<(), Refusal>, AllocError> {
     let pairs = vec![in alloc; pair; times]?;
-    Ok(cdef::applying::apply_luma(
-        &mut [0u16; 8192],
-        &[100u16; 8192],
-        64,
-        128,
-        8,
-        &[0u8; 128],
-        &[0u8; 128],
-        &[0u32; 128],
+    let picture = Picture {
+        kind: PlaneKind::Luma { vars: &[0; 128] },
+        depth: 8,
+        width: 64,
+        height: 128,
+        skip: &[0; 128],
+        dirs: &[0; 128],
+    };
+    Ok(cdef::applying::apply_units(
+        &mut [0; 8192],
+        &[100; 8192],
+        &picture,
         &pairs,
         DampingChoice::Given(SignalledDamping(5)),
     ))

@@ -7,15 +7,16 @@ mod agreed; // agreed.rt: the three calls on a picture
 mod answers; // answers.rt: applying with some pairs
 mod inputs; // inputs.rt: what the three calls are given
 
-use agree_lists::Agreement;
 use agreed::Form;
-use cdef_spec::{DampingAnswer, DampingChoice, SignalledDamping};
+use anyhow::Result;
+use cdef_agree::Disagreement;
+use cdef_spec::{DampingChoice, SignalledDamping};
 use std::io;
 use testlib_pictures::picture::Picture;
 use testlib_pictures::report;
 use testlib_pictures::table::{PICTURES, UNSTATED};
 
-fn main(rt: HostRuntime) -> io::Result<()> {
+fn main(rt: HostRuntime) -> Result<()> {
     println!(rt; "pairs as two lists")?;
     pictures(&rt, Form::TwoLists)?;
     println!(rt; "pairs as one slice")?;
@@ -25,12 +26,13 @@ fn main(rt: HostRuntime) -> io::Result<()> {
         unstated(&rt, picture)?;
     }
     println!(rt; "lists of other lengths")?;
-    answers::lines(&rt)
+    answers::lines(&rt)?;
+    Ok(())
 }
 
-fn pictures(rt: &(impl Print + AllocGlobal), form: Form) -> io::Result<()> {
+fn pictures(rt: &(impl Print + AllocGlobal), form: Form) -> Result<()> {
     for picture in &PICTURES {
-        let found = agreed::picture(rt.alloc(), form, picture, stated(picture))?;
+        let found = agreed::picture(rt.alloc(), form, picture, stated(picture)?)?;
         report::totals(rt, picture, &found.tried, &found.measured)?;
         outcome(rt, found.answer)?;
     }
@@ -38,34 +40,32 @@ fn pictures(rt: &(impl Print + AllocGlobal), form: Form) -> io::Result<()> {
 }
 
 // Luma is given a signalled damping, chroma that of quality index 120, by its call.
-// An index that the call rejected would become the error code, 8, as a damping, which the calls reject.
-fn stated(picture: &Picture) -> DampingChoice {
+fn stated(picture: &Picture) -> Result<DampingChoice> {
     if picture.is_luma() {
-        return DampingChoice::Given(SignalledDamping(5));
+        return Ok(DampingChoice::Given(SignalledDamping(5)));
     }
-    match cdef_blocks::numbers::damping(120) {
-        DampingAnswer::Damping(damping) => DampingChoice::Given(damping),
-        DampingAnswer::NoDamping(n) => DampingChoice::Given(SignalledDamping(n)),
-    }
+    Ok(DampingChoice::Given(cdef_blocks::numbers::damping(120)?))
 }
 
 // The totals tried with no damping stated, and those measured after applying with damping 3.
-fn unstated(rt: &(impl Print + AllocGlobal), picture: &Picture) -> io::Result<()> {
+fn unstated(rt: &(impl Print + AllocGlobal), picture: &Picture) -> Result<()> {
     let three = DampingChoice::Given(SignalledDamping(3));
     let applied = agreed::picture(rt.alloc(), Form::TwoLists, picture, three)?;
     let found = agreed::picture(rt.alloc(), Form::TwoLists, picture, DampingChoice::Unstated)?;
     report::totals(rt, picture, &found.tried, &applied.measured)?;
     outcome(rt, applied.answer)?;
-    outcome(rt, found.answer)
+    outcome(rt, found.answer)?;
+    Ok(())
 }
 
 // The calls by number: 0 where a pair is none of the twelve, 1 trying, 2 applying, 3 measuring.
-fn outcome(rt: &impl Print, answer: Agreement) -> io::Result<()> {
-    match answer {
-        Agreement::Agreed => println!(rt; "all agree"),
-        Agreement::NotTrialPairs => println!(rt; "different: call 0, error code 0"),
-        Agreement::TryingRefused(n) => println!(rt; "different: call 1, error code {n}"),
-        Agreement::ApplyingRefused(n) => println!(rt; "different: call 2, error code {n}"),
-        Agreement::MeasuringRefused(n) => println!(rt; "different: call 3, error code {n}"),
-    }
+fn outcome(rt: &impl Print, answer: Result<(), Disagreement>) -> io::Result<()> {
+    let (call, code) = match answer {
+        Ok(()) => return println!(rt; "all agree"),
+        Err(Disagreement::NotTrialPairs) => (0, 0),
+        Err(Disagreement::Trying(refusal)) => (1, u32::from(refusal)),
+        Err(Disagreement::Applying(refusal)) => (2, u32::from(refusal)),
+        Err(Disagreement::Measuring(refusal)) => (3, u32::from(refusal)),
+    };
+    println!(rt; "different: call {call}, error code {code}")
 }

@@ -1,5 +1,5 @@
 // The planes of a frame, filtered and compared with the recorded ones.
-use cdef_spec::{Answer, DampingChoice, SignalledDamping};
+use cdef_spec::{DampingChoice, Picture, Plane, PlaneKind, Refusal, SignalledDamping};
 use std::alloc::{AllocError, Global};
 use std::io;
 use testlib_frame::frame::{Component, Frame};
@@ -9,7 +9,7 @@ use testlib_frame::frame::{Component, Frame};
 struct Directions {
     dirs: Vec<u8>,
     vars: Vec<u32>,
-    answer: Answer,
+    done: Result<(), Refusal>,
 }
 
 pub fn compared(rt: &(impl Print + AllocGlobal), frame: &Frame<'_>) -> io::Result<()> {
@@ -34,21 +34,20 @@ pub fn compared(rt: &(impl Print + AllocGlobal), frame: &Frame<'_>) -> io::Resul
 
 fn directed(alloc: Global, frame: &Frame<'_>) -> Result<Directions, AllocError> {
     let header = frame.header;
-    let luma = frame.before(alloc, Component::Y)?;
+    let samples = frame.before(alloc, Component::Y)?;
     let mut dirs = vec![in alloc; 0u8; frame.skip.len()]?;
     let mut vars = vec![in alloc; 0u32; frame.skip.len()]?;
-    let answer = cdef::pass::direction_pass(
-        &mut dirs,
-        &mut vars,
-        &luma,
-        usize::from(header.width),
-        usize::from(header.height),
-        header.depth,
-    );
-    Ok(Directions { dirs, vars, answer })
+    let luma = Plane {
+        samples: &samples,
+        width: usize::from(header.width),
+        height: usize::from(header.height),
+    };
+    let done = cdef::pass::directions(&mut dirs, &mut vars, &luma, header.depth);
+    Ok(Directions { dirs, vars, done })
 }
 
-// Filters a plane and compares it; what is not filtered keeps what went in.
+// Filters a plane and compares it: prints the error code, 0 where the work is done, the samples compared and those that differ.
+// What is not filtered keeps what went in.
 fn plane(
     rt: &(impl Print + AllocGlobal),
     frame: &Frame<'_>,
@@ -57,7 +56,8 @@ fn plane(
 ) -> io::Result<()> {
     let before = frame.before(rt.alloc(), component)?;
     let mut filtered = before.clone()?;
-    let code = code(applied(rt.alloc(), frame, component, found, &before, &mut filtered)?);
+    let done = applied(rt.alloc(), frame, component, found, &before, &mut filtered)?;
+    let code = done.map_or_else(u32::from, |()| 0);
     let after = frame.after(rt.alloc(), component)?;
     let different = filtered
         .iter()
@@ -67,14 +67,7 @@ fn plane(
     print!(rt; " {code} {} {different}", filtered.len())
 }
 
-// An error code, 0 where the work is done.
-fn code(answer: Answer) -> u8 {
-    match answer {
-        Answer::Done => 0,
-        Answer::Refused(n) => n,
-    }
-}
-
+// Applying in a plane; in luma the directions must have been found.
 fn applied(
     alloc: Global,
     frame: &Frame<'_>,
@@ -82,41 +75,28 @@ fn applied(
     found: &Directions,
     before: &[u16],
     dst: &mut [u16],
-) -> Result<Answer, AllocError> {
+) -> Result<Result<(), Refusal>, AllocError> {
     let header = frame.header;
     let pris = frame.primaries(alloc, component)?;
     let secs = frame.secondaries(alloc, component)?;
+    let kind = match component {
+        Component::Y => PlaneKind::Luma { vars: &found.vars },
+        Component::U | Component::V => PlaneKind::Chroma {
+            sx: header.sx,
+            sy: header.sy,
+        },
+    };
+    let picture = Picture {
+        kind,
+        depth: header.depth,
+        width: usize::from(header.width),
+        height: usize::from(header.height),
+        skip: frame.skip,
+        dirs: &found.dirs,
+    };
+    if component == Component::Y && found.done.is_err() {
+        return Ok(found.done);
+    }
     let damping = DampingChoice::Given(SignalledDamping(header.damping));
-    if component != Component::Y {
-        return Ok(cdef_lists::apply_chroma(
-            dst,
-            before,
-            usize::from(header.width),
-            usize::from(header.height),
-            header.sx,
-            header.sy,
-            header.depth,
-            frame.skip,
-            &found.dirs,
-            &pris,
-            &secs,
-            damping,
-        ));
-    }
-    if let Answer::Refused(n) = found.answer {
-        return Ok(Answer::Refused(n));
-    }
-    Ok(cdef_lists::apply_luma(
-        dst,
-        before,
-        usize::from(header.width),
-        usize::from(header.height),
-        header.depth,
-        frame.skip,
-        &found.dirs,
-        &found.vars,
-        &pris,
-        &secs,
-        damping,
-    ))
+    Ok(cdef_lists::apply_units(dst, before, &picture, &pris, &secs, damping))
 }

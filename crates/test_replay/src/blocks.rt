@@ -1,6 +1,6 @@
 // The calls on a block.
-use crate::case::{Case, code};
-use cdef_spec::{Block, DirectionAnswer, FilterParams, TrialWay, WorkingDamping};
+use crate::case::{Case, stored};
+use cdef_spec::{Block, FilterParams, Plane, TrialWay, WorkingDamping};
 use testlib_lines::numbers::{LineError, Numbers};
 
 // depth width height x y code direction variance, and the plane
@@ -29,18 +29,13 @@ impl Case for Direction {
     }
 
     fn holds(self) -> bool {
-        let returned = match cdef_blocks::direction::direction(
-            &self.plane,
-            self.width,
-            self.height,
-            self.x,
-            self.y,
-            self.depth,
-        ) {
-            DirectionAnswer::Direction(direction, variance) => (0, (direction, variance)),
-            DirectionAnswer::NoDirection(n) => (u32::from(n), (0, 0)),
+        let plane = Plane {
+            samples: &self.plane,
+            width: self.width,
+            height: self.height,
         };
-        returned == self.stored
+        let found = cdef_blocks::direction::direction(&plane, self.x, self.y, self.depth);
+        stored(found.map(|found| (found.direction, found.variance))) == self.stored
     }
 }
 
@@ -103,16 +98,19 @@ impl Case for Filter {
 
     fn holds(self) -> bool {
         let mut dst = self.before;
+        let plane = Plane {
+            samples: &self.plane,
+            width: self.width,
+            height: self.height,
+        };
         let done = cdef_blocks::filter::filter_block(
             &mut dst,
             self.y0,
-            &self.plane,
-            self.width,
-            self.height,
+            &plane,
             self.block,
             self.params,
         );
-        code(done) == self.code && dst == self.after
+        stored(done) == (self.code, ()) && dst == self.after
     }
 }
 
@@ -174,18 +172,21 @@ impl Case for Trial {
     fn holds(self) -> bool {
         let each = self.stored_each();
         let mut out = self.places;
+        let plane = Plane {
+            samples: &self.plane,
+            width: self.width,
+            height: self.height,
+        };
         let done = cdef_blocks::trial::trial(
             &mut out,
-            &self.plane,
-            self.width,
-            self.height,
+            &plane,
             self.block,
             self.way,
             self.dir,
             self.damping,
             self.depth,
         );
-        code(done) == self.code && is_stored(&out, each, &self.blocks, self.held)
+        stored(done) == (self.code, ()) && is_stored(&out, each, &self.blocks, self.held)
     }
 }
 

@@ -1,5 +1,8 @@
 // What the cases of all calls share.
-use cdef_spec::Answer;
+ghost use Rattle.std.specs.Prelude.{◌≡◌, IfOk, IfErr};
+ghost use Rattle.cdef_spec.specs.Answers.{error_code};
+
+use cdef_spec::Refusal;
 use std::alloc::{AllocError, Global};
 use std::io;
 use testlib_lines::numbers::{LineError, Numbers};
@@ -12,11 +15,14 @@ pub trait Case: Sized + Drop {
     fn holds(self) -> bool;
 }
 
-// What a call returned as a line stores it: the error code, 0 where the work is done.
-pub fn code(answer: Answer) -> u32 {
-    match answer {
-        Answer::Done => 0,
-        Answer::Refused(n) => u32::from(n),
+// What a call returned as a line stores it: the error code, 0 where the work is done, and the answer, 0 where there is none.
+pub fn stored<T: Default>(returned: Result<T, Refusal>) -> (u32, T)
+    ensures answer { IfOk returned (λ answer. (result.0 ≡ 0) × (result.1 ≡ answer)) }
+    ensures code { IfErr returned (λ refusal. result.0 ≡ error_code refusal) }
+{
+    match returned {
+        Ok(answer) => (0, answer),
+        Err(refusal) => (u32::from(refusal), T::default()),
     }
 }
 

@@ -1,6 +1,6 @@
 // Applying in chroma to a picture of 8 by 8 samples of luma.
-use crate::case::{Case, code};
-use cdef_spec::{DampingChoice, SignalledDamping};
+use crate::case::{Case, stored};
+use cdef_spec::{DampingChoice, Picture, PlaneKind, SignalledDamping};
 use testlib_lines::numbers::{LineError, Numbers};
 
 // depth sx sy dir pri sec damping place code sample, and the plane: the sample at a place after applying;
@@ -60,20 +60,25 @@ impl Case for ApplyChroma {
 
     fn holds(self) -> bool {
         let mut dst = self.dst;
-        let answer = cdef_lists::apply_chroma(
+        let picture = Picture {
+            kind: PlaneKind::Chroma {
+                sx: self.sx,
+                sy: self.sy,
+            },
+            depth: self.depth,
+            width: 8,
+            height: 8,
+            skip: &[0],
+            dirs: &[self.dir],
+        };
+        let done = cdef_lists::apply_units(
             &mut dst,
             &self.plane,
-            8,
-            8,
-            self.sx,
-            self.sy,
-            self.depth,
-            &[0],
-            &[self.dir],
+            &picture,
             &[self.pri],
             &[self.sec],
             self.damping,
         );
-        code(answer) == self.code && dst.get(self.place) == Some(&self.sample)
+        stored(done) == (self.code, ()) && dst.get(self.place) == Some(&self.sample)
     }
 }

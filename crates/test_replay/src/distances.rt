@@ -1,7 +1,7 @@
 // The calls on two blocks.
-use crate::case::Case;
+use crate::case::{Case, stored};
 use cdef_blocks::distance;
-use cdef_spec::DistanceAnswer;
+use cdef_spec::Plane;
 use testlib_lines::numbers::{LineError, Numbers};
 
 // depth width height x y code answer, and the original plane and the other one, as many samples each
@@ -29,16 +29,14 @@ impl Planes {
         })
     }
 
-    fn original_and_other(&self) -> (&[u16], &[u16]) {
-        self.samples.split_at(self.samples.len() / 2)
-    }
-
-    fn is_stored(&self, answer: DistanceAnswer) -> bool {
-        let returned = match answer {
-            DistanceAnswer::Distance(d) => (0, d),
-            DistanceAnswer::NoDistance(n) => (u32::from(n), 0),
+    fn original_and_other(&self) -> (Plane<'_>, &[u16]) {
+        let (samples, other) = self.samples.split_at(self.samples.len() / 2);
+        let original = Plane {
+            samples,
+            width: self.width,
+            height: self.height,
         };
-        returned == self.stored
+        (original, other)
     }
 }
 
@@ -52,9 +50,10 @@ impl Case for Distance {
     }
 
     fn holds(self) -> bool {
-        let p = &self.0;
-        let (original, other) = p.original_and_other();
-        p.is_stored(distance::distance(original, other, p.width, p.height, p.x, p.y, p.depth))
+        let planes = &self.0;
+        let (original, other) = planes.original_and_other();
+        stored(distance::distance(&original, other, planes.x, planes.y, planes.depth))
+            == planes.stored
     }
 }
 
@@ -68,8 +67,9 @@ impl Case for Squares {
     }
 
     fn holds(self) -> bool {
-        let p = &self.0;
-        let (original, other) = p.original_and_other();
-        p.is_stored(distance::squares(original, other, p.width, p.height, p.x, p.y, p.depth))
+        let planes = &self.0;
+        let (original, other) = planes.original_and_other();
+        stored(distance::squares(&original, other, planes.x, planes.y, planes.depth))
+            == planes.stored
     }
 }

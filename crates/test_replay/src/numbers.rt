@@ -1,7 +1,7 @@
 // The calls on numbers.
-use crate::case::Case;
+use crate::case::{Case, stored};
 use cdef_blocks::numbers;
-use cdef_spec::{DampingAnswer, DifferenceAnswer, StrengthAnswer, WorkingDamping};
+use cdef_spec::WorkingDamping;
 use testlib_lines::numbers::{LineError, Numbers};
 
 // difference strength damping code answer
@@ -26,11 +26,7 @@ impl Case for Constrain {
     }
 
     fn holds(self) -> bool {
-        let returned = match numbers::constrain(self.difference, self.strength, self.damping) {
-            DifferenceAnswer::Difference(d) => (0, d),
-            DifferenceAnswer::NoDifference(n) => (u32::from(n), 0),
-        };
-        returned == self.stored
+        stored(numbers::constrain(self.difference, self.strength, self.damping)) == self.stored
     }
 }
 
@@ -54,11 +50,7 @@ impl Case for Adjust {
     }
 
     fn holds(self) -> bool {
-        let returned = match numbers::adjust(self.strength, self.variance) {
-            StrengthAnswer::Strength(s) => (0, s),
-            StrengthAnswer::NoStrength(n) => (u32::from(n), 0),
-        };
-        returned == self.stored
+        stored(numbers::adjust(self.strength, self.variance)) == self.stored
     }
 }
 
@@ -80,11 +72,7 @@ impl Case for Damping {
     }
 
     fn holds(self) -> bool {
-        let returned = match numbers::damping(self.index) {
-            DampingAnswer::Damping(d) => (0, d.0),
-            DampingAnswer::NoDamping(n) => (u32::from(n), 0),
-        };
-        returned == self.stored
+        stored(numbers::damping(self.index).map(|damping| damping.0)) == self.stored
     }
 }
 

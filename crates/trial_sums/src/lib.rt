@@ -63,7 +63,11 @@ pub fn pri_sums(t: &[u16], at: usize, o: Taps, f: Strength, g: Strength, h: Stre
 {
     let p2 = pri_one(t, at, o, g);
     PriSums {
-        p1: if f.s == 0 { [0i16; 16] } else { pri_one(t, at, o, f) },
+        p1: if f.s == 0 {
+            [0i16; 16]
+        } else {
+            pri_one(t, at, o, f)
+        },
         p2,
         p3: if g.s == h.s { p2 } else { pri_one(t, at, o, h) },
     }

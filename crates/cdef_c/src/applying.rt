@@ -5,8 +5,7 @@ ghost use Rattle.cdef_spec.specs.Picture.{luma_picture, chroma_picture};
 ghost use Rattle.cdef_spec.specs.FrameCalls.{applying_lists_outcome};
 ghost use Rattle.arith_damping.specs.Choice.{choice_of};
 
-use crate::answer;
-use cdef_spec::{Picture, PlaneKind};
+use crate::{answer, pictures};
 
 // Applying in luma: a primary and a secondary strength per unit.
 #[unsafe(no_mangle)]
@@ -30,14 +29,7 @@ pub extern "C" fn quern_apply_luma(
         (luma_picture depth width height skip.now dirs.now vars.now) (choice_of damping unstated)
         snapshot.now pris.now secs.now dst.old).plane }
 {
-    let picture = Picture {
-        kind: PlaneKind::Luma { vars },
-        depth,
-        width,
-        height,
-        skip,
-        dirs,
-    };
+    let picture = pictures::luma(depth, width, height, skip, dirs, vars);
     let d = arith_damping::choice_of(damping, unstated);
     answer::number(cdef_lists::apply_units(dst, snapshot, &picture, pris, secs, d))
 }
@@ -64,14 +56,7 @@ pub extern "C" fn quern_apply_chroma(
     ensures dst_after { dst.new ≡ (applying_lists_outcome (chroma_picture depth width height sx sy skip.now dirs.now)
         (choice_of damping unstated) snapshot.now pris.now secs.now dst.old).plane }
 {
-    let picture = Picture {
-        kind: PlaneKind::Chroma { sx, sy },
-        depth,
-        width,
-        height,
-        skip,
-        dirs,
-    };
+    let picture = pictures::chroma(depth, width, height, sx, sy, skip, dirs);
     let d = arith_damping::choice_of(damping, unstated);
     answer::number(cdef_lists::apply_units(dst, snapshot, &picture, pris, secs, d))
 }

@@ -9,6 +9,7 @@ pub mod distance; // distance.rt: the distance of two blocks
 pub mod filter; // filter.rt: the block filter
 pub mod measuring; // measuring.rt: one total per unit
 pub mod numbers; // numbers.rt: the calls on single numbers
+mod pictures; // pictures.rt: the picture of a frame call
 pub mod root; // root.rt: the square root by itself
 pub mod trial; // trial.rt: the trial of a block
 pub mod trying; // trying.rt: twelve totals per unit

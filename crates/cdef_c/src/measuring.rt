@@ -5,8 +5,8 @@ ghost use Rattle.cdef_spec.specs.Picture.{luma_picture, chroma_picture};
 ghost use Rattle.cdef_spec.specs.FrameCalls.{measuring_outcome};
 ghost use Rattle.arith_damping.specs.Choice.{choice_of};
 
-use crate::answer;
-use cdef_spec::{Picture, PlaneKind, UnitPair, Visible};
+use crate::{answer, pictures};
+use cdef_spec::{UnitPair, Visible};
 
 // Measuring in luma: one total per unit; the scratch is returned all zero.
 #[unsafe(no_mangle)]
@@ -48,14 +48,7 @@ pub extern "C" fn quern_measure_luma(
         primary: primary,
         secondary: secondary,
     };
-    let picture = Picture {
-        kind: PlaneKind::Luma { vars },
-        depth,
-        width,
-        height,
-        skip,
-        dirs,
-    };
+    let picture = pictures::luma(depth, width, height, skip, dirs, vars);
     let d = arith_damping::choice_of(damping, unstated);
     answer::number(cdef::measuring::measure_units(
         totals, scratch, plane, original, &picture, visible, pair, d,
@@ -103,14 +96,7 @@ pub extern "C" fn quern_measure_chroma(
         primary: primary,
         secondary: secondary,
     };
-    let picture = Picture {
-        kind: PlaneKind::Chroma { sx, sy },
-        depth,
-        width,
-        height,
-        skip,
-        dirs,
-    };
+    let picture = pictures::chroma(depth, width, height, sx, sy, skip, dirs);
     let d = arith_damping::choice_of(damping, unstated);
     answer::number(cdef::measuring::measure_units(
         totals, scratch, plane, original, &picture, visible, pair, d,

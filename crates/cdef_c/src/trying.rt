@@ -5,8 +5,8 @@ ghost use Rattle.cdef_spec.specs.Picture.{luma_picture, chroma_picture};
 ghost use Rattle.cdef_spec.specs.FrameCalls.{trying_outcome};
 ghost use Rattle.arith_damping.specs.Choice.{choice_of};
 
-use crate::answer;
-use cdef_spec::{Picture, PlaneKind, Visible};
+use crate::{answer, pictures};
+use cdef_spec::Visible;
 
 // Trying in luma: twelve totals per unit.
 #[unsafe(no_mangle)]
@@ -36,14 +36,7 @@ pub extern "C" fn quern_try_luma(
         width: visible_width,
         height: visible_height,
     };
-    let picture = Picture {
-        kind: PlaneKind::Luma { vars },
-        depth,
-        width,
-        height,
-        skip,
-        dirs,
-    };
+    let picture = pictures::luma(depth, width, height, skip, dirs, vars);
     let d = arith_damping::choice_of(damping, unstated);
     answer::number(cdef::trying::try_units(totals, snapshot, original, &picture, visible, d))
 }
@@ -78,14 +71,7 @@ pub extern "C" fn quern_try_chroma(
         width: visible_width,
         height: visible_height,
     };
-    let picture = Picture {
-        kind: PlaneKind::Chroma { sx, sy },
-        depth,
-        width,
-        height,
-        skip,
-        dirs,
-    };
+    let picture = pictures::chroma(depth, width, height, sx, sy, skip, dirs);
     let d = arith_damping::choice_of(damping, unstated);
     answer::number(cdef::trying::try_units(totals, snapshot, original, &picture, visible, d))
 }

@@ -3,9 +3,7 @@ use mathlib.Core.Path.{ap, ◌∙◌}
 use Rattle.cdef_answer.specs.JoinLaws.{applying-parts}
 use borrow.Author.Rules.{rules}
 use Rattle.cdef_spec.specs.Answers.{number_of}
-use Rattle.cdef_spec.specs.Lent.{picture_in, kind_in}
 use Rattle.cdef_c.proofs.applying.quern_apply_luma.Goals as goal
 
 pub returns : goal.returns
-unfolding picture_in kind_in
-returns c = rw (← c.choice_of-d.ensures) (record { value = c.number.ensures ∙ ap number_of (applying-parts _ _ _ c.apply_units.ensures).0; dst_after = (applying-parts _ _ _ c.apply_units.ensures).1 })
+returns c = rw (← c.choice_of-d.ensures, ← c.luma-picture.ensures) (record { value = c.number.ensures ∙ ap number_of (applying-parts _ _ _ c.apply_units.ensures).0; dst_after = (applying-parts _ _ _ c.apply_units.ensures).1 })

@@ -1,17 +1,10 @@
-// The lesser of two sides or positions, the difference of two samples, squares, and blocks whose samples fill runs of sixteen.
+// The difference of two samples, squares, and blocks whose samples fill runs of sixteen.
 #![tactic(auto)]
 
-ghost use Rattle.std.specs.Prelude.{◌≡◌, true, ◌≤◌, ◌<◌, min, pos, ◌-ℤ◌};
+ghost use Rattle.std.specs.Prelude.{◌≡◌, true, ◌≤◌, ◌<◌, pos, ◌-ℤ◌};
 ghost use Rattle.cdef_spec.specs.Standard.{square};
 ghost use Rattle.cdef_spec.specs.Distance.{squared_difference};
 ghost use Rattle.arith_numbers.specs.Packed.{Packed};
-
-// The lesser of two sides or positions.
-pub fn lesser(a: usize, b: usize) -> usize
-    ensures { result ≡ min a b }
-{
-    if a < b { a } else { b }
-}
 
 // (a - b)². The remainder changes nothing; from it the compiler sees that the number is small.
 pub fn squared_difference(a: u16, b: u16) -> u32
@@ -22,7 +15,7 @@ pub fn squared_difference(a: u16, b: u16) -> u32
     d * d
 }
 
-// a - b.
+// a - b as an i16. Kept beside `abs_diff`, which loses the sign, and `wrapping_sub`, which may wrap: of samples below 16,384 the contract says that the difference is the true one.
 pub fn difference(a: u16, b: u16) -> i16
     requires { (a < 16384) × (b < 16384) }
     ensures { result ≡ pos a -ℤ pos b }
@@ -39,15 +32,10 @@ pub fn square_of(v: i16) -> u32
 }
 
 // Whether a block's samples fill runs of sixteen, in rows of four or of eight.
+// Kept as a clause, sides of at most 8: they are a block's sides, and `Block` is what a caller passes, whose sides may be any numbers before question 5 is asked.
 pub fn packs(w: usize, h: usize) -> bool
     requires { (w ≤ 8) × (h ≤ 8) }
     ensures { result ≡ true → Packed w h }
 {
-    if w % 4 != 0 {
-        return false;
-    }
-    if w == 0 {
-        return false;
-    }
-    w * h % 16 == 0
+    w % 4 == 0 && w != 0 && w * h % 16 == 0
 }

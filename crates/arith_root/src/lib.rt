@@ -1,4 +1,7 @@
 // The square root of an f64, computed in whole numbers, and the truncation of an f64 to a whole number.
+// Kept beside `f64::sqrt`, `u64::isqrt` and `as u64`: that the root is computed in whole numbers, by guesses that stop when it has settled, and the truncation from the bits, is a
+// rule of the project (docs/DIFFERENCES.md). `f64::sqrt` promises the value of std's own definition; that this is `root_of`, to which no other f64 is nearer, would be left open.
+// Kept as a number with its bounds: h stands in the contracts of three functions that hand it on unchanged; as a struct it would be built once and read as `h.0` in each.
 #![tactic(auto)]
 
 ghost use Rattle.std.specs.Prelude.{◌≡◌, ◌+◌, ◌*◌, ◌^◌, ◌<◌, ◌≤◌, T};
@@ -41,10 +44,7 @@ fn settled(h: u64, g: u64) -> bool
     requires { g ≤ 2 ^ 28 }
     ensures { result ≡ is_root h g }
 {
-    if h < g * g {
-        return false;
-    }
-    h - g * g <= 2 * g
+    g * g <= h && h - g * g <= 2 * g
 }
 
 // The integer square root of h: a guess, and where it has not settled, the next by a division.
@@ -53,13 +53,12 @@ fn whole_root(h: u64) -> u64
     ensures { (result * result ≤ h) × (h < (result + 1) * (result + 1)) }
 {
     let mut g = first_guess(h);
-    let root = loop {
+    loop {
         if settled(h, g) {
             break g;
         }
         g = (g + h / g) / 2;
-    };
-    root
+    }
 }
 
 // The whole number nearest to the square root of h * 2^52: the square root of h, then 26 bits more by one division.

@@ -1,4 +1,5 @@
 // The arithmetic of strengths: the base 2 logarithm, constrained differences, the adjusted primary strength. Nothing is validated here.
+// Kept as numbers with their bounds: entries of the C interface pass them as C gives them, and the field of a `WorkingDamping` may be any u8, also one above 31.
 #![tactic(auto)]
 
 ghost use Rattle.std.specs.Prelude.{◌≡◌, ◌≤◌, nat_abs};
@@ -8,16 +9,14 @@ ghost use Rattle.cdef_spec.specs.CodeForm.{constrain_mag};
 use cdef_spec::WorkingDamping;
 
 // The index of the highest set bit, 0 for 0.
+// Kept beside std's logarithm: it is the standard's FloorLog2, which has a value at 0 too, and an entry of the C interface calls it.
 pub fn log2_floor(v: u32) -> u32
     ensures { result ≡ floor_log2 v }
 {
-    if v == 0 {
-        return 0;
-    }
-    v.ilog2()
+    v.checked_ilog2().unwrap_or(0)
 }
 
-// The magnitude of a constrained difference of magnitude a.
+// The magnitude of a constrained difference of magnitude a. Kept beside arith_sample::constrain_tap, as said there.
 pub fn constrain_mag(a: u32, strength: u32, damping: u32) -> u32
     requires { damping ≤ 31 }
     ensures { result ≡ constrain_mag a strength damping }

@@ -1,4 +1,5 @@
 // The standard's tables, each as a function (a constant array would be built anew at each use); the divisors of the direction cost, computed.
+// Kept as numbers with their bounds: one direction and one length, each read by one `match` or one division; a type of eight directions would be matched to a number first.
 #![tactic(auto)]
 
 ghost use Rattle.std.specs.Prelude.{◌≡◌, ◌/◌, ◌≤◌, ◌<◌};

@@ -1,5 +1,5 @@
 -- The twelve pairs and their trial numbers, as they are computed.
-use Rattle.std.specs.Prelude.{◌≡◌, Bool, false, cond, ◌&&◌, ◌||◌, get_or}
+use Rattle.std.specs.Prelude.{◌≡◌, Bool, false, cond, ◌&&◌, ◌||◌, get_or, Option, Some, None, is_some}
 use Rattle.std.proofs.Math.Path.{refl}
 use Rattle.std.proofs.Common.{sym, arith}
 use Rattle.std.proofs.Math.Bool.{true}
@@ -10,7 +10,6 @@ use Rattle.cdef_spec.specs.Words.{every}
 use Rattle.cdef_spec.specs.WordsLaws.{agree}
 use Rattle.cdef_spec.specs.declared.UnitPair.{UnitPair}
 use Rattle.cdef_spec.specs.Document01.{primaries, secondaries, trial_pair, index_of, trial_number, one_of, is_trial_pair}
-use Rattle.cdef_spec.proofs.PairLaws.{trial-of}
 
 -- ---- the pair of a trial number
 
@@ -67,8 +66,8 @@ module _ (p s : ℕ) where
 -- ---- the trial number
 
 module _ (p s : ℕ) where
-  abbrev number : ℕ
-  number = cond (is_trial_pair (record { primary = p; secondary = s })) (trial_number (record { primary = p; secondary = s })) 12
+  abbrev number : Option ℕ
+  number = cond (is_trial_pair (record { primary = p; secondary = s })) (Some (trial_number (record { primary = p; secondary = s }))) None
 
   second-index : (n : ℕ) → n ≤ 2 → index_of n secondaries ≡ n
   unfolding index_of secondaries
@@ -84,25 +83,25 @@ module _ (p s : ℕ) where
   first-index (suc (suc zero)) h = refl
   first-index (suc (suc (suc n))) h = absurd (omega arith)
 
-  pub number-none : 2 < s → 12 ≡ number
+  pub number-none : 2 < s → None ≡ number
   number-none h = rw (← no-secondary p s h)
 
-  pub number-low : s ≤ 2 → p ≤ 2 → s * 4 + p ≡ number
+  pub number-low : s ≤ 2 → p ≤ 2 → Some (s * 4 + p) ≡ number
   unfolding trial_number
   number-low h k = rw (← primary-low p s h (λ e. omega arith), le-leb p 2 k, second-index s h, first-index p k)
 
-  pub number-four : s ≤ 2 → p ≡ 4 → s * 4 + 3 ≡ number
+  pub number-four : s ≤ 2 → p ≡ 4 → Some (s * 4 + 3) ≡ number
   unfolding trial_number index_of primaries
   number-four h k = rw (← primary-four p s h k, second-index s h, k)
 
-  pub number-other : s ≤ 2 → 2 < p → (p ≡ 4 → ⊥) → 12 ≡ number
+  pub number-other : s ≤ 2 → 2 < p → (p ≡ 4 → ⊥) → None ≡ number
   number-other h k n = rw (← primary-low p s h n, lt-leb p 2 k)
 
 -- ---- the test
 
-pub is-trial : (p : UnitPair) (n : ℕ) → n ≡ cond (is_trial_pair p) (trial_number p) 12 → leb n 11 ≡ is_trial_pair p
-is-trial p n = go (is_trial_pair p) refl
+pub is-trial : (p : UnitPair) (o : Option ℕ) → o ≡ cond (is_trial_pair p) (Some (trial_number p)) None → is_some o ≡ is_trial_pair p
+is-trial p o e = rw e (go (is_trial_pair p))
   where
-    go : (b : Bool) → is_trial_pair p ≡ b → n ≡ cond b (trial_number p) 12 → leb n 11 ≡ b
-    go true e h = le-leb n 11 (omega (arith, (trial-of p e).0, h))
-    go false e h = lt-leb n 11 (omega (arith, h))
+    go : (b : Bool) → is_some (cond b (Some (trial_number p)) None) ≡ b
+    go true = refl
+    go false = refl

@@ -1,5 +1,5 @@
 -- The proof of demand 3 (RULES, Agreement).
-use Rattle.std.specs.Prelude.{◌≡◌, refl, Bool, true, false, cond, ◌&&◌, ℤ, get_or, length}
+use Rattle.std.specs.Prelude.{◌≡◌, refl, Bool, true, false, cond, ◌&&◌, ℤ, get_or, length, Option}
 use Rattle.std.proofs.Math.Path.{sym, ap}
 use Rattle.std.proofs.Common.{◌∙◌, eqb-true, eq-eqb, pow_pos}
 use mathlib.Core.List.{List, [], ◌∷◌}
@@ -8,7 +8,6 @@ use native.Mathlib.Omega.{arith}
 use Rattle.std.proofs.Math.Dec.{eqb}
 use Rattle.std.proofs.Math.IntN.{pos}
 use Rattle.cdef_spec.specs.declared.SignalledDamping.{SignalledDamping}
-use Rattle.cdef_spec.specs.declared.DampingChoice.{DampingChoice}
 use Rattle.cdef_spec.specs.declared.UnitPair.{UnitPair}
 use Rattle.cdef_spec.specs.declared.Visible.{Visible}
 use Rattle.cdef_spec.specs.WordsLaws.{length-table, get_or-table, and_both, and-make}
@@ -93,7 +92,7 @@ module _ (q : Picture) (visible : Visible) (snapshot original : List ℕ) (pairs
         (applied-low q s snapshot pairs fine no-mark (2 ^ q.depth) fits (k / plane_width q) (k % plane_width q) (row_of (plane_width q) (plane_height q) k l).0 (row_of (plane_width q) (plane_height q) k l).1))
 
     -- measuring accepts what applying left, with directions, variances and a damping of its own
-    module _ (dirs vars : List ℕ) (dm : DampingChoice) (measured : List ℤ) (scratch : List ℕ) where
+    module _ (dirs vars : List ℕ) (dm : Option SignalledDamping) (measured : List ℤ) (scratch : List ℕ) where
       abbrev own : Picture
       own = with_directions q dirs vars
 
@@ -128,7 +127,7 @@ module _ (q : Picture) (visible : Visible) (snapshot original : List ℕ) (pairs
 
 -- ---- what an accepted call leaves
 
-module _ (q : Picture) (d : DampingChoice) (v : Visible) (snapshot original : List ℕ) (totals : List ℤ) (z : trying_no q d v snapshot original totals ≡ 0) where
+module _ (q : Picture) (d : Option SignalledDamping) (v : Visible) (snapshot original : List ℕ) (totals : List ℤ) (z : trying_no q d v snapshot original totals ≡ 0) where
   trying-taken : Taken q (in_force d) (snapshot ∷ original ∷ []) (eqb (length totals) (12 * units q) && visible_taken q v) true (snapshot ∷ original ∷ [])
   trying-taken = unfold trying_no in questions-yes q _ _ _ _ _ z
 
@@ -143,11 +142,11 @@ module _ (q : Picture) (d : DampingChoice) (v : Visible) (snapshot original : Li
       let md : (12 * u + t) % 12 ≡ t = omega arith in
       rw z (get_or-table (12 * units q) _ (pos 0) (12 * u + t) (omega arith) ∙ rw (dv, md))
 
-applied-left : (q : Picture) (d : DampingChoice) (snapshot : List ℕ) (pairs : List UnitPair) → applying_no q d snapshot pairs snapshot ≡ 0 → (applying_outcome q d snapshot pairs snapshot).plane ≡ applied_plane q (in_force d) snapshot pairs snapshot
+applied-left : (q : Picture) (d : Option SignalledDamping) (snapshot : List ℕ) (pairs : List UnitPair) → applying_no q d snapshot pairs snapshot ≡ 0 → (applying_outcome q d snapshot pairs snapshot).plane ≡ applied_plane q (in_force d) snapshot pairs snapshot
 unfolding applying_outcome
 applied-left q d snapshot pairs z = rw z
 
-module _ (q : Picture) (d : DampingChoice) (v : Visible) (plane original : List ℕ) (measured : List ℤ) (scratch : List ℕ) where
+module _ (q : Picture) (d : Option SignalledDamping) (v : Visible) (plane original : List ℕ) (measured : List ℤ) (scratch : List ℕ) where
   measuring-yes : Taken q (in_force d) (plane ∷ original ∷ []) ((eqb (length measured) (units q) && eqb (length scratch) (scratch_length q)) && visible_taken q v) (pair_taken off) (plane ∷ original ∷ [])
       → (measuring_outcome q d v plane original off measured scratch).answer ≡ taken nothing
   unfolding measuring_outcome measuring_no result_of
@@ -175,7 +174,7 @@ unfolding units with_directions
 same_units q dirs vars = refl
 
 -- each unit's measured total, for a picture q' whose totals with pair 0, 0 are those of q
-module _ (q q' : Picture) (visible : Visible) (snapshot original : List ℕ) (pairs : List UnitPair) (dt dm : DampingChoice) (totals measured : List ℤ) (scratch : List ℕ) where
+module _ (q q' : Picture) (visible : Visible) (snapshot original : List ℕ) (pairs : List UnitPair) (dt dm : Option SignalledDamping) (totals measured : List ℤ) (scratch : List ℕ) where
   all-units : units q' ≡ units q
       → ((plane : List ℕ) (u : ℕ) → measured_total q' (in_force dm) visible plane original off u ≡ measured_total q (in_force dt) visible plane original off u)
       → trying_no q dt visible snapshot original totals ≡ 0
@@ -196,7 +195,7 @@ module _ (q q' : Picture) (visible : Visible) (snapshot original : List ℕ) (pa
       }
 
 -- the premise on measuring's own input is no more than what measuring validates: it holds wherever measuring accepts its input
-pub own-from-accepted : (q : Picture) (d : DampingChoice) (v : Visible) (plane original : List ℕ) (measured : List ℤ) (scratch : List ℕ)
+pub own-from-accepted : (q : Picture) (d : Option SignalledDamping) (v : Visible) (plane original : List ℕ) (measured : List ℤ) (scratch : List ℕ)
     → (measuring_outcome q d v plane original off measured scratch).answer ≡ taken nothing → own_input_passes q d measured scratch ≡ true
 unfolding measuring_outcome measuring_no own_input_passes
 own-from-accepted q d v plane original measured scratch y =
@@ -207,7 +206,7 @@ own-from-accepted q d v plane original measured scratch y =
     and-make (and-make seven.0 lists.0) eight.0
 
 -- with the directions, variances and figure that were tried, totals and scratch of their length are all that the premise asks for
-pub own-from-tried : (q : Picture) (d dm : DampingChoice) (v : Visible) (snapshot original : List ℕ) (totals measured : List ℤ) (scratch : List ℕ)
+pub own-from-tried : (q : Picture) (d dm : Option SignalledDamping) (v : Visible) (snapshot original : List ℕ) (totals measured : List ℤ) (scratch : List ℕ)
     → trying_no q d v snapshot original totals ≡ 0 → in_force dm ≡ in_force d → length measured ≡ units q → length scratch ≡ scratch_length q → own_input_passes q dm measured scratch ≡ true
 unfolding own_input_passes
 own-from-tried q d dm v snapshot original totals measured scratch z e hm hs =

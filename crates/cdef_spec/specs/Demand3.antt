@@ -2,8 +2,8 @@
 -- Trying and applying share a picture (plane kind with its layout, depth, sizes, skip flags, directions, variances), a snapshot and the figure in force, however each came by it.
 -- Each unit's pair is any of the twelve. Applying reads the snapshot and writes into a copy of it. Measuring, with pair 0, 0, gets what applying left, and the same original, depth, layout, skip flags and visible size;
 -- its directions, variances and damping are its own.
-use Rattle.std.specs.Prelude.{◌≡◌, Bool, true, ◌&&◌, List, ℕ, ◌+◌, ◌*◌, ◌<◌, eqb, ℤ, pos, get_or, length}
-use Rattle.cdef_spec.specs.declared.DampingChoice.{DampingChoice}
+use Rattle.std.specs.Prelude.{◌≡◌, Bool, true, ◌&&◌, List, ℕ, ◌+◌, ◌*◌, ◌<◌, eqb, ℤ, pos, get_or, length, Option}
+use Rattle.cdef_spec.specs.declared.SignalledDamping.{SignalledDamping}
 use Rattle.cdef_spec.specs.declared.UnitPair.{UnitPair}
 use Rattle.cdef_spec.specs.declared.Visible.{Visible}
 use Rattle.cdef_spec.specs.Document01.{in_force, trial_number, is_trial_pair}
@@ -32,7 +32,7 @@ pub record Agrees (q : Picture) (pairs : List UnitPair) (tried measured : List �
 
 -- what measuring is given of its own passes questions 7 and 8: the lengths of its totals and scratch, its directions, variances and the figure that its damping puts in force.
 -- (The skip flags, which it shares with trying, are tested here again; trying's acceptance implies that they pass.)
-unfoldable pub own_input_passes : Picture → DampingChoice → List ℤ → List ℕ → Bool
+unfoldable pub own_input_passes : Picture → Option SignalledDamping → List ℤ → List ℕ → Bool
 own_input_passes q damping measured scratch = (picture_listed q && (eqb (length measured) (units q) && eqb (length scratch) (scratch_length q))) && picture_taken q (in_force damping)
 
 -- for every input that trying and applying accept, and whatever directions, variances, damping, totals and scratch of its own measuring is given that pass questions 7 and 8:
@@ -40,7 +40,7 @@ own_input_passes q damping measured scratch = (picture_listed q && (eqb (length 
 abbrev pub Demand3 : Type 0
 Demand3 =
     (q : Picture) (visible : Visible) (snapshot original : List ℕ) (pairs : List UnitPair)
-    (damping_tried damping_applied damping_measured : DampingChoice) (totals measured : List ℤ) (dirs vars scratch : List ℕ)
+    (damping_tried damping_applied damping_measured : Option SignalledDamping) (totals measured : List ℤ) (dirs vars scratch : List ℕ)
     → in_force damping_applied ≡ in_force damping_tried
     → ((u : ℕ) → u < units q → is_trial_pair (pair_at pairs u) ≡ true)
     → let tried : TryingOutcome = trying_outcome q damping_tried visible snapshot original totals in

@@ -6,13 +6,13 @@ pub mod Root
 pub mod Distance
 pub mod Picture
 pub mod Answers
+pub mod Lent
 pub mod Questions
 pub mod BlockCalls
 pub mod FrameCalls
 pub mod Demand3
 -- The forms that the code uses.
 pub mod CodeForm
-pub mod Lent
 pub mod LoopForm
 -- Laws: of the definitions, and that the code's forms equal them.
 pub mod AnswerLaws

@@ -16,7 +16,7 @@ pub data PlaneKind : Type 0 where
   luma : List ℕ → PlaneKind
   chroma : ℕ → ℕ → PlaneKind
 
--- what the frame calls share. Width and height are luma's; per block a skip flag, 1 where the block is skipped, and a direction.
+-- what the frame calls share. Width and height are luma's; per block a skip flag, 1 where the block is skipped, and luma's direction, for a chroma plane too.
 -- Passed separately (RULES, Glossary): the snapshot, the plane before filtering, and the original, the plane that distances compare with
 pub record Picture : Type 0 where
   pub kind : PlaneKind

@@ -1,10 +1,10 @@
-// The plain data that the calls take and return. No code.
+// The plain data that the calls take and return.
 #![tactic(auto)]
 
 pub mod full; // full.rt: a plane whose samples are as many as its sides say
 pub mod codes; // codes.rt: refusals as error codes and as text
 
-// The damping as the frame header carries it, 3 to 6.
+// The damping that the frame header signals, the standard's CdefDamping, 3 to 6.
 #[derive(Clone, Copy)]
 pub struct SignalledDamping(pub u8);
 
@@ -12,14 +12,7 @@ pub struct SignalledDamping(pub u8);
 #[derive(Clone, Copy)]
 pub struct WorkingDamping(pub u8);
 
-// A frame call's damping: the signalled figure, or none stated, as in a frame header without CDEF fields.
-#[derive(Clone, Copy)]
-pub enum DampingChoice {
-    Given(SignalledDamping),
-    Unstated,
-}
-
-// The pair (RULES, Glossary) of a unit, a 64 by 64 luma square: its primary and its secondary strength, as signalled.
+// The pair (RULES, Glossary) of a unit, a 64 by 64 luma square: its primary and its secondary strength, before shift and adjustment. A coded secondary of 3 is 4 here.
 #[derive(Clone, Copy)]
 pub struct UnitPair {
     pub primary: u8,
@@ -53,6 +46,7 @@ pub struct FilterParams {
 }
 
 // The two kinds of trial: with a luma block's variance, or, for chroma, without one.
+// Kept as an enum: the None of an Option<u32> would not say that the block is of a chroma plane.
 #[derive(Clone, Copy)]
 pub enum TrialWay {
     Luma(u32),
@@ -64,55 +58,6 @@ pub enum TrialWay {
 pub struct DistanceConstants {
     pub c1: f64,
     pub c2: f64,
-}
-
-// What a call returns whose results are in the caller's slices: done, or the error code of the first failed check.
-#[derive(Clone, Copy)]
-pub enum Answer {
-    Done,
-    Refused(u8),
-}
-
-// What constrain returns: the constrained difference, or an error code.
-#[derive(Clone, Copy)]
-pub enum DifferenceAnswer {
-    Difference(i32),
-    NoDifference(u8),
-}
-
-// What adjust returns: the adjusted strength, or an error code.
-#[derive(Clone, Copy)]
-pub enum StrengthAnswer {
-    Strength(u32),
-    NoStrength(u8),
-}
-
-// What the damping of a quality index returns: a signalled damping, or an error code.
-#[derive(Clone, Copy)]
-pub enum DampingAnswer {
-    Damping(SignalledDamping),
-    NoDamping(u8),
-}
-
-// What the working damping of a plane returns: a working damping, or an error code.
-#[derive(Clone, Copy)]
-pub enum WorkingAnswer {
-    Working(WorkingDamping),
-    NoWorking(u8),
-}
-
-// What the direction of a block returns: the direction and the variance, or an error code.
-#[derive(Clone, Copy)]
-pub enum DirectionAnswer {
-    Direction(u8, u32),
-    NoDirection(u8),
-}
-
-// What a distance returns: an integer, or an error code.
-#[derive(Clone, Copy)]
-pub enum DistanceAnswer {
-    Distance(i64),
-    NoDistance(u8),
 }
 
 // Why a call refuses its input: the first of its checks that fails. The number of each is its error code (RULES, Questions).
@@ -137,6 +82,7 @@ pub struct Found {
 }
 
 // A plane as a call receives it, nothing of it checked: its samples row by row, and its sides.
+// Kept beside `FullPlane`, whose ghost fields a plane has only once its length and sides have been checked: the entries of the C interface pass planes before that.
 #[derive(Clone, Copy)]
 pub struct Plane<'a> {
     pub samples: &'a [u16],
@@ -144,14 +90,15 @@ pub struct Plane<'a> {
     pub height: usize,
 }
 
-// Which plane of a picture: luma, with a variance per block; or a chroma plane, with its two subsampling flags.
+// Which plane of a picture: luma, with a variance per block; or a chroma plane, with its two subsampling flags, horizontal and vertical.
+// Kept as numbers, the flags: the C interface passes them as bytes, and question 3 refuses those that are not 0 or 1.
 #[derive(Clone, Copy)]
 pub enum PlaneKind<'a> {
     Luma { vars: &'a [u32] },
     Chroma { sx: u8, sy: u8 },
 }
 
-// What the frame calls share of a plane of a picture, nothing of it checked. The sides are luma's; per block a skip flag and a direction.
+// What the frame calls share of a plane of a picture, nothing of it checked. The sides are luma's; per 8 by 8 luma block a skip flag and luma's direction, for a chroma plane too.
 #[derive(Clone, Copy)]
 pub struct Picture<'a> {
     pub kind: PlaneKind<'a>,

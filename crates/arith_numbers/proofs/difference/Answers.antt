@@ -6,7 +6,6 @@ use lib.IntN.{pos, nat_abs, ◌-ℤ◌}
 use mir.Syntax.{w16}
 use mir.Val.{to_z}
 use Rattle.cdef_spec.specs.SignedLaws.{size-diff, fits, back, back-nat}
-use borrow.Author.Rules.{rules}
 use Rattle.arith_numbers.proofs.difference.Goals as goal
 use Rattle.arith_numbers.proofs.difference.Goals.{Start}
 
@@ -15,12 +14,6 @@ diff s = rw (back-nat w16 s.args.a (omega (arith, s.requires.0)), back-nat w16 s
 
 small : (s : Start) → nat_abs (pos s.args.a -ℤ pos s.args.b) < 32768
 small s = omega (arith, size-diff s.args.a s.args.b, s.requires.0, s.requires.1)
-
-pub overflow_cast-result : goal.overflow_cast-result
-overflow_cast-result c = search rules
-
-pub overflow_cast-result-2 : goal.overflow_cast-result-2
-overflow_cast-result-2 c = search rules
 
 pub overflow_sub-result : goal.overflow_sub-result
 overflow_sub-result c = rw (diff c) (fits w16 _ (small c))

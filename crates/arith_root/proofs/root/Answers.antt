@@ -1,5 +1,4 @@
 -- `arith_root::root` meets its contract.
-use borrow.Author.Rules.{rules}
 use mathlib.Core.Path.{◌≡◌, sym, ap, subst}
 use Prim.Native.Nat.{ℕ, ◌+◌, ◌-◌, ◌*◌, ◌/◌, ◌^◌, ◌≤◌, ◌<◌}
 use native.Mathlib.Omega.{arith}
@@ -23,12 +22,6 @@ B c = to_bits binary64 c.before.args.v
 
 moved : (c : Joined-field-eq0) → Moved (B c) c.if-field-eq0.h
 moved c = elim c.if-field-eq0.branch [ then-field-eq0 w ↦ even-case (B c) c.if-field-eq0.h w.if-field-eq0.true w.h-is | else-field-eq0 w ↦ odd-case (B c) c.if-field-eq0.h w.if-field-eq0.false w.h-is ]
-
-pub overflow_add-m : goal.overflow_add-m
-overflow_add-m c = search rules
-
-pub overflow_mul-h : goal.overflow_mul-h
-overflow_mul-h c = search rules
 
 pub wide_root-n-requires : goal.wide_root-n-requires
 wide_root-n-requires c = omega (arith, moved c)

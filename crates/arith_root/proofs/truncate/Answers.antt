@@ -1,5 +1,4 @@
 -- `arith_root::truncate` meets its contract.
-use borrow.Author.Rules.{rules}
 use mathlib.Core.Path.{sym, ◌∙◌, subst}
 use Prim.Native.Nat.{ℕ, ◌+◌, ◌-◌, ◌*◌, ◌/◌, ◌%◌, ◌^◌, ◌≤◌, ◌<◌}
 use native.Mathlib.Nat.{le_of_eq, lt_of_le_of_lt, div-le_self}
@@ -38,14 +37,8 @@ known c =
 pub float_to_bits-b : goal.float_to_bits-b
 float_to_bits-b c = normal-no-nan c.args.x c.requires.0
 
-pub overflow_add-m : goal.overflow_add-m
-overflow_add-m c = search rules
-
 pub overflow_sub-result : goal.overflow_sub-result
 overflow_sub-result c = omega (arith, known c.before)
-
-pub overflow_shr-result : goal.overflow_shr-result
-overflow_shr-result c = search rules
 
 pub returns-then-field-lt1023 : goal.returns-then-field-lt1023
 returns-then-field-lt1023 c = let s = c.before in

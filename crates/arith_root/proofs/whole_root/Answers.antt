@@ -4,17 +4,8 @@ use native.Mathlib.Omega.{arith}
 use Rattle.arith_root.specs.NewtonLaws.{root-so, quotient-low, next-range, next-less}
 use Rattle.arith_root.proofs.whole_root.Goals as goal
 
-pub first_guess-g-requires : goal.first_guess-g-requires
-first_guess-g-requires c = omega arith
-
 pub loop-g-init : goal.loop-g-init
 loop-g-init c = (c.first_guess-g.ensures.0, omega (arith, c.first_guess-g.ensures.1))
-
-pub settled-requires : goal.settled-requires
-settled-requires c = omega arith
-
-pub nonzero_div-g : goal.nonzero_div-g
-nonzero_div-g c = omega arith
 
 pub overflow_add-g : goal.overflow_add-g
 overflow_add-g c = let p = c.before.before in omega (arith, quotient-low p.before.before.args.h p.loop-g.g (omega arith) (omega arith) (omega arith) (omega arith))

@@ -1,5 +1,4 @@
 -- `arith_root::wide_root` meets its contract.
-use borrow.Author.Rules.{rules}
 use native.Mathlib.Omega.{arith}
 use Prim.Native.Nat.{ℕ, ◌-◌, ◌*◌, ◌/◌, ◌%◌, ◌^◌}
 use Rattle.arith_root.specs.WideLaws.{Parts, parts, up-by-one, stay}
@@ -20,15 +19,6 @@ U c = (H c - Top c * Top c) * 2 ^ 26 % (Top c * 2)
 
 all : (c : After-whole_root-top) → Parts (H c) (Top c) (Q c) (U c)
 all c = parts (H c) (Top c) c.before.requires.0 c.before.requires.1 c.whole_root-top.ensures.0 c.whole_root-top.ensures.1
-
-pub whole_root-top-requires : goal.whole_root-top-requires
-whole_root-top-requires c = search rules
-
-pub overflow_mul-rest : goal.overflow_mul-rest
-overflow_mul-rest c = search rules
-
-pub overflow_sub-rest : goal.overflow_sub-rest
-overflow_sub-rest c = search rules
 
 pub overflow_mul-rest-2 : goal.overflow_mul-rest-2
 overflow_mul-rest-2 c = omega (arith, all c)

@@ -3,11 +3,7 @@ use mathlib.Core.Path.{sym, ◌∙◌}
 use native.Mathlib.Omega.{arith}
 use Rattle.arith_sample.specs.SampleLaws.{finish-mark, finish-on}
 use Rattle.arith_sample.proofs.Sums16.{back}
-use borrow.Author.Rules.{rules}
 use Rattle.arith_sample.proofs.finish.Goals as goal
-
-pub clipped-v-requires : goal.clipped-v-requires
-clipped-v-requires c = search rules
 
 pub returns-then-c-eq-MARK : goal.returns-then-c-eq-MARK
 returns-then-c-eq-MARK c = let a = c.before.before.args in sym (finish-mark a.c a.sum a.lo a.hi c.if-c-eq-MARK.true)

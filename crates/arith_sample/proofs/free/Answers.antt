@@ -3,11 +3,7 @@ use mathlib.Core.Path.{sym, ◌∙◌}
 use native.Mathlib.Omega.{arith}
 use Rattle.arith_sample.specs.SampleLaws.{free-mark, free_on}
 use Rattle.arith_sample.proofs.Sums16.{back}
-use borrow.Author.Rules.{rules}
 use Rattle.arith_sample.proofs.free.Goals as goal
-
-pub raised-v-requires : goal.raised-v-requires
-raised-v-requires c = search rules
 
 pub returns-then-c-eq-MARK : goal.returns-then-c-eq-MARK
 returns-then-c-eq-MARK c = let a = c.before.before.args in sym (free-mark a.c a.sum c.if-c-eq-MARK.true)

@@ -4,15 +4,11 @@ use Prim.Native.Nat.{◌≤◌}
 use native.Mathlib.Omega.{arith}
 use Rattle.arith_sample.specs.SampleLaws.{moved-neg, moved-pos}
 use Rattle.arith_sample.proofs.Sums16.{back, near_fits, moved-fits, moved_back}
-use borrow.Author.Rules.{rules}
 use Rattle.arith_sample.proofs.moved.Goals as goal
 use Rattle.arith_sample.proofs.moved.Goals.{Joined-sum-lt0, else-sum-lt0, then-sum-lt0}
 
 small : (c : Joined-sum-lt0) → c.if-sum-lt0.g-bits ≤ 8
 small c = elim c.if-sum-lt0.branch [ then-sum-lt0 w ↦ omega arith | else-sum-lt0 w ↦ omega arith ]
-
-pub overflow_cast-result : goal.overflow_cast-result
-overflow_cast-result c = search rules
 
 pub overflow_add-result : goal.overflow_add-result
 overflow_add-result c = near_fits c.before.args.c c.if-sum-lt0.g-bits c.before.args.sum c.before.requires.0 (small c) c.before.requires.1

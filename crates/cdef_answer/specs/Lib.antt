@@ -1,2 +1,0 @@
--- Outcomes as one equation of records.
-pub mod JoinLaws

@@ -1,11 +1,12 @@
 // The direction of an 8 by 8 block and its variance: line sums, costs, the best of them.
+// Kept as parameters: plane, x, y and depth, as in direction_levels.
 #![tactic(auto)]
 
-ghost use Rattle.std.specs.Prelude.{◌≡◌, true, ◌≤◌, ◌<◌};
+ghost use Rattle.std.specs.Prelude.{◌≡◌};
 ghost use Rattle.cdef_spec.specs.Document01.{direction_input, block_direction, block_variance};
 ghost use Rattle.cdef_spec.specs.Lent.{plane_in_full};
-ghost use Rattle.cdef_spec.specs.Questions.{cut_taken};
 ghost use Rattle.direction_block.specs.Found.{cost_list, CostsFit, found_of};
+ghost use Rattle.direction_levels.specs.Levels.{BlockIn};
 ghost use Rattle.direction_lines.specs.Lines.{partials_of};
 
 use cdef_spec::Found;
@@ -18,8 +19,7 @@ use direction_lines::Partials;
 // with 25 and 50 j = first - 8 + n + i, with 24 and 47 j = n - i / 2, with 24 and 49 j = first - 8 + n + i / 2. So line n has, by row r and column c of the block:
 // d0 n = r + c, d1 n = r + c / 2, d2 n = r, d3 n = 3 + r - c / 2, d4 n = 7 + r - c, d5 n = 3 + c - r / 2, d6 n = c, d7 n = c + r / 2 (7.15.2).
 pub fn cdef_direction_partials(plane: &FullPlane<'_>, x: usize, y: usize, depth: u8) -> Partials
-    requires corner_on_plane { (x < plane.now.width) × (y < plane.now.height) × (8 ≤ depth) × (depth ≤ 12) }
-    requires samples_fit { cut_taken (plane_in_full plane.now) depth y x ≡ true }
+    requires { BlockIn (plane_in_full plane.now) depth y x }
     ensures { result ≡ partials_of (direction_input (plane_in_full plane.now) depth y x) }
 {
     let b = direction_levels::levels(plane, x, y, depth);
@@ -43,23 +43,15 @@ pub fn costs(p: Partials) -> [u32; 8]
     requires { CostsFit p }
     ensures { result ≡ cost_list p }
 {
-    let l0 = p.d0;
-    let l1 = p.d1;
-    let l2 = p.d2;
-    let l3 = p.d3;
-    let l4 = p.d4;
-    let l5 = p.d5;
-    let l6 = p.d6;
-    let l7 = p.d7;
     [
-        direction_costs::cost_diagonal(&l0),
-        direction_costs::cost_between(&l1),
-        direction_costs::cost_straight(&l2),
-        direction_costs::cost_between(&l3),
-        direction_costs::cost_diagonal(&l4),
-        direction_costs::cost_between(&l5),
-        direction_costs::cost_straight(&l6),
-        direction_costs::cost_between(&l7),
+        direction_costs::cost_diagonal(&p.d0),
+        direction_costs::cost_between(&p.d1),
+        direction_costs::cost_straight(&p.d2),
+        direction_costs::cost_between(&p.d3),
+        direction_costs::cost_diagonal(&p.d4),
+        direction_costs::cost_between(&p.d5),
+        direction_costs::cost_straight(&p.d6),
+        direction_costs::cost_between(&p.d7),
     ]
 }
 
@@ -73,8 +65,7 @@ pub fn cdef_direction_cost(p: Partials) -> Found
 
 // The direction and the variance of the block at (x, y); beyond the plane's right or bottom edge, the nearest sample is used.
 pub fn cdef_direction(plane: &FullPlane<'_>, x: usize, y: usize, depth: u8) -> Found
-    requires corner_on_plane { (x < plane.now.width) × (y < plane.now.height) × (8 ≤ depth) × (depth ≤ 12) }
-    requires samples_fit { cut_taken (plane_in_full plane.now) depth y x ≡ true }
+    requires { BlockIn (plane_in_full plane.now) depth y x }
     ensures direction_value { result.direction ≡ block_direction (plane_in_full plane.now) depth y x }
     ensures variance_value { result.variance ≡ block_variance (plane_in_full plane.now) depth y x }
 {

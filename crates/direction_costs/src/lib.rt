@@ -1,5 +1,7 @@
 // The cost of a direction from its line sums. No cost exceeds 880,803,840 = 840 * 64 * 128 * 128: the sum of a line of n samples, each at most 128 in size,
 // is at most 128 * n, so that its square times 840 / n is at most 840 * 128 * 128 * n, and the lines of a direction have 64 samples.
+// Kept as clauses: 1 ≤ n and n ≤ 8, the range of the divisors: each call here writes its n out; and at most 880803840, which is a bound on what a function computes of its list,
+// not on the list: a ghost field could hold it only of a list and a direction together, three types for three functions.
 #![tactic(auto)]
 
 ghost use Rattle.std.specs.Prelude.{◌≡◌, ◌+◌, ◌*◌, ◌≤◌, ◌<◌};

@@ -1,5 +1,5 @@
 -- The best direction of each of eight blocks, in the code's form. Definitions only.
-use Rattle.std.specs.Prelude.{List, ℕ, ◌+◌, ◌-◌, ◌*◌, ◌%◌, ◌≤◌, get_or, ℤ}
+use Rattle.std.specs.Prelude.{List, ℕ, ◌+◌, ◌-◌, ◌*◌, ◌%◌, get_or, ℤ}
 use Rattle.cdef_spec.specs.Words.{◌>>◌}
 use Rattle.cdef_spec.specs.Standard.{best, direction, variance}
 use Rattle.arith_sample.specs.Upto.{upto}
@@ -7,10 +7,6 @@ use Rattle.direction_best.specs.Best.{best_to}
 use Rattle.direction_eight.specs.declared.best.Best8.{Best8}
 use Rattle.direction_eight.specs.declared.Found8.{Found8}
 use Rattle.direction_lane_sums.specs.Lines.{lane_of}
-
--- no cost above 64 * 128 * 128 * 840, that of 64 values of -128, the largest there is
-pub record CostListFits (c : List ℕ) : Type 0 where
-  pub all : (k : ℕ) → get_or c k 0 ≤ 880803840
 
 -- the costs of lane l
 unfoldable pub lane_cost : List ℕ → ℕ → ℕ → ℕ

@@ -3,23 +3,21 @@ use Rattle.std.specs.Prelude.{◌≡◌, Bool, List, ℤ}
 use Rattle.std.proofs.Math.Path.{refl, ap}
 use Rattle.std.proofs.Common.{◌∙◌, add-one}
 use Rattle.std.proofs.Math.Bool.{true, false, cond}
-use Prim.Native.Nat.{ℕ, zero, suc, ◌+◌, ◌-◌, ◌*◌, ◌/◌, ◌%◌, ◌≤◌, ◌<◌}
+use Prim.Native.Nat.{ℕ, zero, suc, ◌+◌, ◌-◌, ◌*◌, ◌/◌, ◌%◌, ◌≤◌, ◌<◌, max}
 use Rattle.std.proofs.Math.Decide.{dec_lt}
 use native.Mathlib.Omega.{arith}
 use borrow.Author.Tests.{ltb-true, ltb-false}
 use Rattle.std.proofs.Math.Dec.{ltb}
-use Rattle.std.proofs.Math.ListN.{get_or, get_or-eq_default}
+use Rattle.std.proofs.Math.ListN.{get_or}
 use Rattle.cdef_spec.specs.Words.{◌>>◌}
 use Rattle.cdef_spec.specs.Standard.{cost, Best, better, best, direction, variance}
-use Rattle.arith_sample.specs.Bounds.{Within}
-use Rattle.arith_sample.specs.Upto.{upto, length-upto, get_or-upto, upto-ext}
+use Rattle.arith_sample.specs.Upto.{upto, get_or-upto, upto-ext}
 use Rattle.direction_best.specs.Best.{best_to}
 use Rattle.direction_best.specs.BestLaws.{best-all}
 use Rattle.direction_best.specs.BestLaws.{best-same}
 use Rattle.direction_lane_sums.specs.Lines.{lane_of}
 use Rattle.direction_lane_costs.specs.Costs.{cost_at, costs_of}
-use Rattle.direction_lane_costs.specs.CostsLaws.{cost-fits}
-use Rattle.direction_eight.specs.Best.{CostListFits, lane_cost, bests_of, lane_direction, lane_variance, found_by_costs, found_by_samples}
+use Rattle.direction_eight.specs.Best.{lane_cost, bests_of, lane_direction, lane_variance, found_by_costs, found_by_samples}
 
 -- ---- one more direction
 
@@ -32,24 +30,15 @@ module _ (c : ℕ → ℕ) where
       go true = refl
       go false = refl
 
-  pub most-more : (n : ℕ) → cond (ltb (best_to c n).best_cost (c n)) (c n) (best_to c n).best_cost ≡ (best_to c (n + 1)).best_cost
+  pub most-more : (n : ℕ) → max (best_to c n).best_cost (c n) ≡ (best_to c (n + 1)).best_cost
   unfolding best_to better
-  most-more n = rw (add-one n) (go (ltb (best_to c n).best_cost (c n)))
+  most-more n = rw (add-one n) (go (ltb (best_to c n).best_cost (c n)) refl)
     where
-      go : (t : Bool) → cond t (c n) (best_to c n).best_cost ≡ (cond t (record { best_cost = c n; y_dir = n }) (best_to c n)).best_cost
-      go true = refl
-      go false = refl
+      go : (t : Bool) → ltb (best_to c n).best_cost (c n) ≡ t → max (best_to c n).best_cost (c n) ≡ (cond t (record { best_cost = c n; y_dir = n }) (best_to c n)).best_cost
+      go true e = let h : (best_to c n).best_cost < c n = ltb-true _ _ e in omega arith
+      go false e = let h : c n ≤ (best_to c n).best_cost = ltb-false _ _ e in omega arith
 
   -- ---- bounds
-
-  most-held : (m : ℕ) → ((k : ℕ) → c k ≤ m) → (n : ℕ) → (best_to c n).best_cost ≤ m
-  unfolding best_to better
-  most-held m h zero = omega arith
-  most-held m h (suc n) = go (most-held m h n) (ltb (best_to c n).best_cost (c n))
-    where
-      go : (best_to c n).best_cost ≤ m → (t : Bool) → (cond t (record { best_cost = c n; y_dir = n }) (best_to c n)).best_cost ≤ m
-      go ih true = h n
-      go ih false = ih
 
   dir-low : (n : ℕ) → (best_to c n).y_dir ≤ n - 1
   unfolding best_to better
@@ -82,10 +71,6 @@ module _ (c : List ℕ) (n l : ℕ) (hl : l < 8) where
   pub most-at : get_or (bests_of c n).most l 0 ≡ (best_to (lane_cost c l) n).best_cost
   unfolding bests_of
   most-at = get_or-upto _ 8 l 0 hl
-
-pub lane-held : (c : List ℕ) (l n : ℕ) → CostListFits c → (best_to (lane_cost c l) n).best_cost ≤ 880803840
-unfolding lane_cost
-lane-held c l n h = most-held _ 880803840 (λ k. h.all (k * 8 + l)) n
 
 module _ (c : List ℕ) (l : ℕ) where
   pub dir-8 : (best_to (lane_cost c l) 8).y_dir < 8
@@ -130,11 +115,3 @@ module _ (s : List ℤ) where
       let a : upto (lane_direction (costs_of s)) 8 ≡ upto (λ l. direction (lane_of s l)) 8 = upto-ext _ _ 8 direction-is in
       let b : upto (lane_variance (costs_of s)) 8 ≡ upto (λ l. variance (lane_of s l)) 8 = upto-ext _ _ 8 variance-is in
       rw (a, b)
-
-  pub costs-held : Within s 128 → CostListFits (costs_of s)
-  unfolding costs_of
-  costs-held w = record { all = λ k. at k (dec_lt k 64) }
-    where
-      at : (k : ℕ) → Dec (k < 64) → get_or (upto (cost_at s) 64) k 0 ≤ 880803840
-      at k (yes h) = rw (get_or-upto (cost_at s) 64 k 0 h) (cost-fits s w (k % 8) (k / 8) (omega arith))
-      at k (no h) = rw (get_or-eq_default (upto (cost_at s) 64) 0 {n = k} (omega (arith, length-upto (cost_at s) 64))) (omega arith)

@@ -2,6 +2,8 @@
 use Rattle.std.specs.Prelude.{◌≡◌, cond, List, ℕ, zero, suc, ◌+◌, ◌-◌, ◌*◌, ◌/◌, ◌%◌, ◌≤◌, ◌<◌, eqb, get_or, set, take, length, ℤ}
 use Rattle.cdef_spec.specs.Standard.{square, cost}
 use Rattle.arith_sample.specs.Upto.{upto}
+use Rattle.direction_lane_costs.specs.declared.Lines.{Lines}
+use Rattle.direction_lane_costs.specs.declared.Lines.TheVariants.{Straight, Between, Diagonal}
 use Rattle.direction_lane_sums.specs.Lines.{lane_of, lane_line}
 
 -- lines n and 14 - n side by side
@@ -30,20 +32,20 @@ between_of c d e f g h = (c * 4 + d * 2 + (f + g + h)) * (840 / 8) + e * (840 / 
 abbrev pub diagonal_of : ℕ → ℕ → ℕ → ℕ → ℕ → ℕ → ℕ → ℕ → ℕ
 diagonal_of a b c d e f g h = (a * 8 + b * 4 + d * 2 + h) * (840 / 8) + (c * 2 + f) * (840 / 6) + e * (840 / 5) + g * (840 / 7)
 
--- kind 0: straight (directions 2 and 6), 1: between (1, 3, 5, 7), else diagonal (0 and 4); e 7 has line 7 twice
-unfoldable pub weigh : ℕ → (ℕ → ℕ) → ℕ
-weigh kind e =
-    cond (eqb kind 0) (straight_of (e 0) (e 1) (e 2) (e 3) (e 4) (e 5) (e 6) (e 7 / 2))
-    (cond (eqb kind 1) (between_of (e 2) (e 3) (e 4) (e 5) (e 6) (e 7 / 2)) (diagonal_of (e 0) (e 1) (e 2) (e 3) (e 4) (e 5) (e 6) (e 7 / 2)))
+-- e 7 has line 7 twice
+unfoldable pub weigh : Lines → (ℕ → ℕ) → ℕ
+weigh Straight e = straight_of (e 0) (e 1) (e 2) (e 3) (e 4) (e 5) (e 6) (e 7 / 2)
+weigh Between e = between_of (e 2) (e 3) (e 4) (e 5) (e 6) (e 7 / 2)
+weigh Diagonal e = diagonal_of (e 0) (e 1) (e 2) (e 3) (e 4) (e 5) (e 6) (e 7 / 2)
 
-unfoldable pub weighed_of : ℕ → List ℕ → ℕ → ℕ
+unfoldable pub weighed_of : Lines → List ℕ → ℕ → ℕ
 weighed_of kind q l = weigh kind (λ n. get_or q (n * 8 + l) 0)
 
-unfoldable pub cost_of : List ℤ → ℕ → ℕ → ℕ
+unfoldable pub cost_of : List ℤ → Lines → ℕ → ℕ
 cost_of p kind l = weigh kind (end_squares p l)
 
 -- no cost above 64 * 128 * 128 * 840, that of 64 values of -128, the largest there is
-pub record LaneCostsFit (p : List ℤ) (kind : ℕ) : Type 0 where
+pub record LaneCostsFit (p : List ℤ) (kind : Lines) : Type 0 where
   pub all : (l : ℕ) → l < 8 → cost_of p kind l ≤ 880803840
 
 -- n entries of q, written from `at` on

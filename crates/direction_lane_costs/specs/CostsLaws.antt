@@ -5,17 +5,20 @@ use Rattle.std.proofs.Common.{ap, ◌∙◌}
 use Prim.Native.Nat.{ℕ, zero, suc, ◌+◌, ◌-◌, ◌*◌, ◌/◌, ◌%◌, ◌≤◌, ◌<◌}
 use Rattle.std.proofs.Math.Numerals.{add-one}
 use native.Mathlib.Omega.{arith}
-use borrow.Author.Tests.{ne_eqb}
 use Rattle.std.proofs.Math.ListN.{length-set}
 use Rattle.cdef_spec.specs.Standard.{partial, square, div_table, cost_straight, cost_diagonal, cost_between, cost}
 use Rattle.arith_sample.specs.Bounds.{Within}
 use Rattle.arith_sample.specs.Upto.{upto, get_or-upto, upto-more, upto-at}
 use Rattle.direction_costs.specs.CostsLaws.{straight-is, diagonal-is, between_is}
 use Rattle.direction_block.specs.FoundLaws.{costs-are, costs-fit}
+use Rattle.direction_lane_costs.specs.declared.Lines.{Lines}
+use Rattle.direction_lane_costs.specs.declared.Lines.TheVariants.{Straight, Between, Diagonal}
+use Rattle.direction_lane_sums.specs.declared.Step.{Step}
+use Rattle.direction_lane_sums.specs.declared.Step.TheVariants.{Same, Next, Back}
 use Rattle.direction_lane_sums.specs.Lines.{lane_of, neighbour_sums, lane_lines, lane_line}
 use Rattle.direction_lane_sums.specs.LinesLaws.{lines-within}
 use Rattle.direction_lane_sums.specs.PartialLaws.{lines-0, lines-1, lines-2, lines-3, lines-4, lines-5, lines-6, lines-7, straight_none}
-use Rattle.direction_lane_costs.specs.Costs.{end_at, ends_of, end_squares, squares_of, straight_of, between_of, diagonal_of, weigh, weighed_of, cost_of, LaneCostsFit, written, cost_at, CostsTo}
+use Rattle.direction_lane_costs.specs.Costs.{end_at, ends_of, end_squares, squares_of, weigh, weighed_of, cost_of, LaneCostsFit, written, cost_at, CostsTo}
 
 -- ---- lines n and 14 - n side by side
 
@@ -47,25 +50,14 @@ end-squares p k h =
 
 -- ---- weights
 
-module _ (kind : ℕ) (e : ℕ → ℕ) where
-  pub weigh-straight : kind ≡ 0 → weigh kind e ≡ straight_of (e 0) (e 1) (e 2) (e 3) (e 4) (e 5) (e 6) (e 7 / 2)
-  unfolding weigh
-  weigh-straight h = rw h
-
-  pub weigh-between : kind ≡ 1 → weigh kind e ≡ between_of (e 2) (e 3) (e 4) (e 5) (e 6) (e 7 / 2)
-  unfolding weigh
-  weigh-between h = rw h
-
-  pub weigh-diagonal : (kind ≡ 0 → ⊥) → (kind ≡ 1 → ⊥) → weigh kind e ≡ diagonal_of (e 0) (e 1) (e 2) (e 3) (e 4) (e 5) (e 6) (e 7 / 2)
-  unfolding weigh
-  weigh-diagonal h g = rw (ne_eqb kind 0 h, ne_eqb kind 1 g)
-
-weigh-same : (kind : ℕ) (e g : ℕ → ℕ) → ((n : ℕ) → n < 8 → e n ≡ g n) → weigh kind e ≡ weigh kind g
+weigh-same : (kind : Lines) (e g : ℕ → ℕ) → ((n : ℕ) → n < 8 → e n ≡ g n) → weigh kind e ≡ weigh kind g
 unfolding weigh
-weigh-same kind e g h = rw (h 0 (omega arith), h 1 (omega arith), h 2 (omega arith), h 3 (omega arith), h 4 (omega arith), h 5 (omega arith), h 6 (omega arith), h 7 (omega arith))
+weigh-same Straight e g h = rw (h 0 (omega arith), h 1 (omega arith), h 2 (omega arith), h 3 (omega arith), h 4 (omega arith), h 5 (omega arith), h 6 (omega arith), h 7 (omega arith))
+weigh-same Between e g h = rw (h 2 (omega arith), h 3 (omega arith), h 4 (omega arith), h 5 (omega arith), h 6 (omega arith), h 7 (omega arith))
+weigh-same Diagonal e g h = rw (h 0 (omega arith), h 1 (omega arith), h 2 (omega arith), h 3 (omega arith), h 4 (omega arith), h 5 (omega arith), h 6 (omega arith), h 7 (omega arith))
 
 -- a lane of the squares
-pub lane-cost : (p : List ℤ) (kind l : ℕ) → l < 8 → weighed_of kind (squares_of p) l ≡ cost_of p kind l
+pub lane-cost : (p : List ℤ) (kind : Lines) (l : ℕ) → l < 8 → weighed_of kind (squares_of p) l ≡ cost_of p kind l
 unfolding weighed_of squares_of cost_of
 lane-cost p kind l hl = weigh-same kind _ _ (λ n h. at n h)
   where
@@ -75,10 +67,14 @@ lane-cost p kind l hl = weigh-same kind _ _ (λ n h. at n h)
         let b : (n * 8 + l) / 8 ≡ n = omega arith in
         get_or-upto _ 64 (n * 8 + l) 0 (omega arith) ∙ rw (a, b)
 
+-- no cost from the squares of lines whose costs fit is too high
+pub squares_fit : (p : List ℤ) (q : List ℕ) (kind : Lines) → q ≡ squares_of p → LaneCostsFit p kind → (l : ℕ) → l < 8 → weighed_of kind q l ≤ 880803840
+squares_fit p q kind e h l hl = rw (e, lane-cost p kind l hl) (h.all l hl)
+
 -- ---- the costs of lines p
 
 module _ (q : List ℤ) (p : ℕ → ℤ) (l : ℕ) where
-  straight-cost : ((n : ℕ) → n < 8 → lane_line q l n ≡ p n) → ((n : ℕ) → 8 ≤ n → n < 16 → lane_line q l n ≡ pos 0) → cost_of q 0 l ≡ cost_straight p
+  straight-cost : ((n : ℕ) → n < 8 → lane_line q l n ≡ p n) → ((n : ℕ) → 8 ≤ n → n < 16 → lane_line q l n ≡ pos 0) → cost_of q Straight l ≡ cost_straight p
   unfolding cost_of weigh end_squares div_table square
   straight-cost h g =
       rw (
@@ -100,7 +96,7 @@ module _ (q : List ℤ) (p : ℕ → ℤ) (l : ℕ) where
       )
       (omega (arith, straight-is p))
 
-  between-cost : ((n : ℕ) → n < 14 → lane_line q l (n + 2) ≡ p n) → cost_of q 1 l ≡ cost_between p
+  between-cost : ((n : ℕ) → n < 14 → lane_line q l (n + 2) ≡ p n) → cost_of q Between l ≡ cost_between p
   unfolding cost_of weigh end_squares div_table
   between-cost h =
       rw (
@@ -118,7 +114,7 @@ module _ (q : List ℤ) (p : ℕ → ℤ) (l : ℕ) where
       )
       (omega (arith, between_is p))
 
-  diagonal-cost : ((n : ℕ) → n < 15 → lane_line q l n ≡ p n) → cost_of q 2 l ≡ cost_diagonal p
+  diagonal-cost : ((n : ℕ) → n < 15 → lane_line q l n ≡ p n) → cost_of q Diagonal l ≡ cost_diagonal p
   unfolding cost_of weigh end_squares div_table
   diagonal-cost h =
       rw (
@@ -147,35 +143,35 @@ diagonal-back p = omega (arith, diagonal-is p, diagonal-is (λ n. p (14 - n)))
 
 -- THE COSTS of a lane are the standard's
 module _ (s : List ℤ) (l : ℕ) (hl : l < 8) where
-  pub cost-0 : cost_of (lane_lines s 8 0 1) 2 l ≡ cost (lane_of s l) 0
+  pub cost-0 : cost_of (lane_lines s 8 0 Next) Diagonal l ≡ cost (lane_of s l) 0
   unfolding cost
   cost-0 = diagonal-cost _ (partial (lane_of s l) 0) l (λ n h. lines-0 s l hl n (omega arith))
 
-  pub cost-1 : cost_of (lane_lines (neighbour_sums s 16 64 8) 4 2 1) 1 l ≡ cost (lane_of s l) 1
+  pub cost-1 : cost_of (lane_lines (neighbour_sums s 16 64 8) 4 2 Next) Between l ≡ cost (lane_of s l) 1
   unfolding cost
   cost-1 = between-cost _ (partial (lane_of s l) 1) l (lines-1 s l hl)
 
-  pub cost-2 : cost_of (lane_lines (neighbour_sums s 16 64 8) 4 0 0) 0 l ≡ cost (lane_of s l) 2
+  pub cost-2 : cost_of (lane_lines (neighbour_sums s 16 64 8) 4 0 Same) Straight l ≡ cost (lane_of s l) 2
   unfolding cost
   cost-2 = straight-cost _ (partial (lane_of s l) 2) l (λ n h. lines-2 s l hl n (omega arith)) (λ n a b. straight_none _ l n hl a b)
 
-  pub cost-3 : cost_of (lane_lines (neighbour_sums s 16 64 8) 4 2 2) 1 l ≡ cost (lane_of s l) 3
+  pub cost-3 : cost_of (lane_lines (neighbour_sums s 16 64 8) 4 2 Back) Between l ≡ cost (lane_of s l) 3
   unfolding cost
   cost-3 = between-cost _ (partial (lane_of s l) 3) l (lines-3 s l hl)
 
-  pub cost-4 : cost_of (lane_lines s 8 0 2) 2 l ≡ cost (lane_of s l) 4
+  pub cost-4 : cost_of (lane_lines s 8 0 Back) Diagonal l ≡ cost (lane_of s l) 4
   unfolding cost
   cost-4 = diagonal-cost _ (λ n. partial (lane_of s l) 4 (14 - n)) l (lines-4 s l hl) ∙ diagonal-back (partial (lane_of s l) 4)
 
-  pub cost-5 : cost_of (lane_lines (neighbour_sums s 128 8 64) 4 2 2) 1 l ≡ cost (lane_of s l) 5
+  pub cost-5 : cost_of (lane_lines (neighbour_sums s 128 8 64) 4 2 Back) Between l ≡ cost (lane_of s l) 5
   unfolding cost
   cost-5 = between-cost _ (partial (lane_of s l) 5) l (lines-5 s l hl)
 
-  pub cost-6 : cost_of (lane_lines (neighbour_sums s 128 8 64) 4 0 0) 0 l ≡ cost (lane_of s l) 6
+  pub cost-6 : cost_of (lane_lines (neighbour_sums s 128 8 64) 4 0 Same) Straight l ≡ cost (lane_of s l) 6
   unfolding cost
   cost-6 = straight-cost _ (partial (lane_of s l) 6) l (λ n h. lines-6 s l hl n (omega arith)) (λ n a b. straight_none _ l n hl a b)
 
-  pub cost-7 : cost_of (lane_lines (neighbour_sums s 128 8 64) 4 2 1) 1 l ≡ cost (lane_of s l) 7
+  pub cost-7 : cost_of (lane_lines (neighbour_sums s 128 8 64) 4 2 Next) Between l ≡ cost (lane_of s l) 7
   unfolding cost
   cost-7 = between-cost _ (partial (lane_of s l) 7) l (lines-7 s l hl)
 
@@ -185,9 +181,9 @@ unfolding lane_of
 cost-fits s w l d h = rw (costs-are (lane_of s l) d h) at ((costs-fit (lane_of s l) (λ i j hi hj. w.all (i * 64 + j * 8 + l))).all d h)
 
 -- what `cost` asks of the lines p of direction d
-pub cost-ready : (s z p : List ℤ) (rows first way kind d : ℕ) → Within s 128 → Within z 256 → rows ≤ 8 → d < 8 → p ≡ lane_lines z rows first way
-    → ((l : ℕ) → l < 8 → cost_of (lane_lines z rows first way) kind l ≡ cost (lane_of s l) d) → Within p 2048 × LaneCostsFit p kind
-cost-ready s z p rows first way kind d ws wz hr hd e law = (rw e (lines-within z rows first way wz hr), record { all = λ l hl. rw (e, law l hl) (cost-fits s ws l d hd) })
+pub cost-ready : (s z p : List ℤ) (rows first : ℕ) (step : Step) (kind : Lines) (d : ℕ) → Within s 128 → Within z 256 → rows ≤ 8 → d < 8 → p ≡ lane_lines z rows first step
+    → ((l : ℕ) → l < 8 → cost_of (lane_lines z rows first step) kind l ≡ cost (lane_of s l) d) → Within p 2048 × LaneCostsFit p kind
+cost-ready s z p rows first step kind d ws wz hr hd e law = (rw e (lines-within z rows first step wz hr), record { all = λ l hl. rw (e, law l hl) (cost-fits s ws l d hd) })
 
 -- ---- entries written
 
@@ -215,10 +211,10 @@ module _ (c : List ℕ) (at : ℕ) (q : List ℕ) where
       (upto-more f (written c at q n) (at + n) (get_or q n 0) (written-upto f e n (omega arith) (λ k l. g k (omega arith))) (omega (arith, length-written n)) (g n (omega arith)))
 
 -- the costs q of one more direction, from its lines p
-pub costs-more : (s z p : List ℤ) (c q r : List ℕ) (rows first way kind d : ℕ) → d < 8 → CostsTo s c (d * 8) → p ≡ lane_lines z rows first way
-    → q ≡ upto (cost_of p kind) 8 → r ≡ written c (d * 8) q 8 → ((l : ℕ) → l < 8 → cost_of (lane_lines z rows first way) kind l ≡ cost (lane_of s l) d)
+pub costs-more : (s z p : List ℤ) (c q r : List ℕ) (rows first : ℕ) (step : Step) (kind : Lines) (d : ℕ) → d < 8 → CostsTo s c (d * 8) → p ≡ lane_lines z rows first step
+    → q ≡ upto (cost_of p kind) 8 → r ≡ written c (d * 8) q 8 → ((l : ℕ) → l < 8 → cost_of (lane_lines z rows first step) kind l ≡ cost (lane_of s l) d)
     → CostsTo s r (d * 8 + 8)
-costs-more s z p c q r rows first way kind d hd t ep eq er law = record {
+costs-more s z p c q r rows first step kind d hd t ep eq er law = record {
   size = ap length er ∙ length-written c (d * 8) q 8 ∙ t.size;
   first = rw er (written-upto c (d * 8) q (cost_at s) t.first 8 (omega (arith, t.size)) (λ l hl. at l hl));
 }
@@ -227,4 +223,4 @@ costs-more s z p c q r rows first way kind d hd t ep eq er law = record {
     at l hl =
         let a : (d * 8 + l) % 8 ≡ l = omega arith in
         let b : (d * 8 + l) / 8 ≡ d = omega arith in
-        rw (a, b, eq, ep) (get_or-upto (cost_of (lane_lines z rows first way) kind) 8 l 0 hl ∙ law l hl)
+        rw (a, b, eq, ep) (get_or-upto (cost_of (lane_lines z rows first step) kind) 8 l 0 hl ∙ law l hl)

@@ -1,7 +1,9 @@
 -- The line sums of eight blocks in lanes, as the code adds them. Definitions only.
-use Rattle.std.specs.Prelude.{ℕ, ◌+◌, ◌-◌, ◌*◌, ◌/◌, ◌%◌, cond, ◌&&◌, List, leb, ltb, eqb, get_or, ℤ, pos, ◌+ℤ◌}
+use Rattle.std.specs.Prelude.{ℕ, zero, suc, set, ◌+◌, ◌-◌, ◌*◌, ◌/◌, ◌%◌, cond, ◌&&◌, List, leb, ltb, get_or, ℤ, pos, ◌+ℤ◌}
 use Rattle.cdef_spec.specs.Words.{sum_ℤ}
 use Rattle.arith_sample.specs.Upto.{upto}
+use Rattle.direction_lane_sums.specs.declared.Step.{Step}
+use Rattle.direction_lane_sums.specs.declared.Step.TheVariants.{Same, Next, Back}
 
 -- sample (i, j) of block l, where s holds it at 64 i + 8 j + l
 unfoldable pub lane_of : List ℤ → ℕ → ℕ → ℕ → ℤ
@@ -21,13 +23,20 @@ added_at z to from n m = cond (leb to m && ltb m (to + n)) (get_or z (from + (m 
 unfoldable pub added_of : List ℤ → List ℤ → ℕ → ℕ → List ℤ
 added_of p z to from = upto (λ m. get_or p m (pos 0) +ℤ added_at z to from 64 m) 128
 
--- the line on which row i starts: way 0, each row on line `first`; 1, each row one line after the row before; 2, one line before it
-unfoldable pub place_of : ℕ → ℕ → ℕ → ℕ → ℕ
-place_of i rows first way = cond (eqb way 0) first (cond (eqb way 1) (first + i) (first + (rows - 1 - i)))
+-- n entries of z added to the first of p
+unfoldable pub sums_of : List ℤ → List ℤ → ℕ → List ℤ
+sums_of p z zero = p
+sums_of p z (suc n) = set (sums_of p z n) n (get_or p n (pos 0) +ℤ get_or z n (pos 0))
+
+-- the line on which row i starts: each row on line `first`, or one line after the row before, or one line before it
+unfoldable pub place_of : ℕ → ℕ → ℕ → Step → ℕ
+place_of i rows first Same = first
+place_of i rows first Next = first + i
+place_of i rows first Back = first + (rows - 1 - i)
 
 -- the sums of the lines, block l's of line n at 8 n + l. Direction 4 is summed with its lines in reverse, n at 14 - n, at the same cost
-unfoldable pub lane_lines : List ℤ → ℕ → ℕ → ℕ → List ℤ
-lane_lines z rows first way = upto (λ m. sum_ℤ rows (λ i. added_at z (place_of i rows first way * 8) (i * 64) 64 m)) 128
+unfoldable pub lane_lines : List ℤ → ℕ → ℕ → Step → List ℤ
+lane_lines z rows first step = upto (λ m. sum_ℤ rows (λ i. added_at z (place_of i rows first step * 8) (i * 64) 64 m)) 128
 
 -- line n of lane l
 unfoldable pub lane_line : List ℤ → ℕ → ℕ → ℤ

@@ -1,5 +1,7 @@
 -- Laws of the line sums: forms, magnitudes.
-use Rattle.std.specs.Prelude.{◌≡◌, Bool, ◌&&◌, List, ℕ, zero, suc, ◌+◌, ◌-◌, ◌*◌, ◌≤◌, ◌<◌, leb, eqb, get_or, set, length, ℤ, ◌+ℤ◌}
+use Rattle.std.specs.Prelude.{◌≡◌, Bool, ◌&&◌, List, ℕ, zero, suc, ◌+◌, ◌-◌, ◌*◌, ◌≤◌, ◌<◌, leb, get_or, set, length, take, drop, ℤ, ◌+ℤ◌}
+use Rattle.std.proofs.lemmas.List.{places}
+use borrow.Rule.Slice.PartMut.{put_mid}
 use Rattle.std.proofs.Math.Path.{refl, sym}
 use Rattle.std.proofs.Common.{◌∙◌, add-one, length-set, ext_get_or, get_or-set_same, get_or-set_other}
 use Rattle.std.proofs.Math.Bool.{true, false, cond}
@@ -12,57 +14,20 @@ use Rattle.cdef_spec.specs.SignedLaws.{size-add}
 use Rattle.cdef_spec.specs.Words.{sum_ℤ}
 use Rattle.arith_sample.specs.Bounds.{Within}
 use Rattle.arith_sample.specs.Upto.{upto, length-upto, get_or-upto, upto-ext, upto-all-of}
-use Rattle.direction_lane_sums.specs.Lines.{neighbour_sum, neighbour_sums, added_at, added_of, place_of, lane_lines}
+use Rattle.direction_lane_sums.specs.declared.Step.{Step}
+use Rattle.direction_lane_sums.specs.declared.Step.TheVariants.{Same, Next, Back}
+use Rattle.direction_lane_sums.specs.Lines.{neighbour_sum, neighbour_sums, added_at, added_of, sums_of, place_of, lane_lines}
 
--- ---- a value stored among the values of a function
-
-pub upto-set : {A : Type 0} (f g : ℕ → A) (n j : ℕ) (d v : A) → j < n → v ≡ g j → ((k : ℕ) → (k ≡ j → ⊥) → f k ≡ g k) → set (upto f n) j v ≡ upto g n
-upto-set f g n j d v hj e same =
-    ext_get_or d (set (upto f n) j v) (upto g n) (length-set (upto f n) j v ∙ length-upto f n ∙ sym (length-upto g n))
-    (λ k h. at k (omega (arith, length-set (upto f n) j v, length-upto f n)) (ℕ_discrete k j))
+below : (k n : ℕ) → k < suc n → (k ≡ n → ⊥) → k < n
+below k n h q = go (dec_lt k n)
   where
-    at : (k : ℕ) → k < n → Dec (k ≡ j) → get_or (set (upto f n) j v) k d ≡ get_or (upto g n) k d
-    at k h (yes q) = rw q (get_or-set_same (upto f n) j v d (omega (arith, length-upto f n)) ∙ e ∙ sym (get_or-upto g n j d hj))
-    at k h (no q) = get_or-set_other (upto f n) j k v d q ∙ get_or-upto f n k d h ∙ same k q ∙ sym (get_or-upto g n k d h)
+    go : Dec (k < n) → k < n
+    go (yes l) = l
+    go (no l) = absurd (q (omega (arith, l)))
 
 -- ---- a row that is added
 
 module _ (z : List ℤ) (to from : ℕ) where
-  pub add_none : (m : ℕ) → added_at z to from 0 m ≡ pos 0
-  unfolding added_at
-  add_none m = go (dec_le to m)
-    where
-      go : Dec (to ≤ m) → cond (leb to m && ltb m (to + 0)) (get_or z (from + (m - to)) (pos 0)) (pos 0) ≡ pos 0
-      go (yes h) = let l : to + 0 ≤ m = omega arith in rw (le-leb to m h, le-ltb m (to + 0) l)
-      go (no h) = let l : m < to = omega arith in rw (lt-leb to m l)
-
-  -- the entry that comes next has nothing yet, and then its own
-  pub add-before : (n : ℕ) → added_at z to from n (to + n) ≡ pos 0
-  unfolding added_at
-  add-before n =
-      let h : to ≤ to + n = omega arith in
-      let l : to + n ≤ to + n = omega arith in
-      rw (le-leb to (to + n) h, le-ltb (to + n) (to + n) l)
-
-  pub add_at : (n : ℕ) → added_at z to from (n + 1) (to + n) ≡ get_or z (from + n) (pos 0)
-  unfolding added_at
-  add_at n =
-      let h : to ≤ to + n = omega arith in
-      let l : to + n < to + (n + 1) = omega arith in
-      let e : to + n - to ≡ n = omega arith in
-      rw (le-leb to (to + n) h, lt-ltb (to + n) (to + (n + 1)) l, e)
-
-  pub add-else : (n m : ℕ) → (m ≡ to + n → ⊥) → added_at z to from n m ≡ added_at z to from (n + 1) m
-  unfolding added_at
-  add-else n m h = rw (same (dec_lt m (to + n)))
-    where
-      same : Dec (m < to + n) → ltb m (to + n) ≡ ltb m (to + (n + 1))
-      same (yes l) = let k : m < to + (n + 1) = omega arith in lt-ltb m (to + n) l ∙ sym (lt-ltb m (to + (n + 1)) k)
-      same (no l) =
-          let a : to + n ≤ m = omega arith in
-          let k : to + (n + 1) ≤ m = omega arith in
-          le-ltb m (to + n) a ∙ sym (le-ltb m (to + (n + 1)) k)
-
   pub add-size : (n m w : ℕ) → Within z w → nat_abs (added_at z to from n m) ≤ w
   unfolding added_at
   add-size n m w h = go (leb to m && ltb m (to + n))
@@ -71,34 +36,71 @@ module _ (z : List ℤ) (to from : ℕ) where
       go true = h.all (from + (m - to))
       go false = omega arith
 
--- one more entry stored
-pub added_more : (p z : List ℤ) (to from n : ℕ) (l : List ℤ) (v : ℤ) → to + n < 128 → l ≡ upto (λ m. get_or p m (pos 0) +ℤ added_at z to from n m) 128
-    → v ≡ get_or p (to + n) (pos 0) +ℤ get_or z (from + n) (pos 0) → set l (to + n) v ≡ upto (λ m. get_or p m (pos 0) +ℤ added_at z to from (n + 1) m) 128
-added_more p z to from n l v h e q =
-    rw e (upto-set _ _ 128 (to + n) (pos 0) v h (rw (q, add_at z to from n)) (λ k g. rw (add-else z to from n k g)))
+-- ---- a row added to as many lines
 
--- the entry that comes next
-pub added_next : (p z : List ℤ) (to from n : ℕ) (l : List ℤ) → to + n < 128 → l ≡ upto (λ m. get_or p m (pos 0) +ℤ added_at z to from n m) 128
-    → get_or l (to + n) (pos 0) ≡ get_or p (to + n) (pos 0)
-added_next p z to from n l h e = rw e (get_or-upto _ 128 (to + n) (pos 0) h ∙ rw (add-before z to from n) (+ℤ_idr _))
+module _ (p z : List ℤ) where
+  pub row-none : p ≡ sums_of p z 0
+  unfolding sums_of
+  row-none = refl
 
--- at first p as it is
-pub added_none : (p z : List ℤ) (to from : ℕ) → length p ≡ 128 → p ≡ upto (λ m. get_or p m (pos 0) +ℤ added_at z to from 0 m) 128
-added_none p z to from h =
-    ext_get_or (pos 0) p _ (h ∙ sym (length-upto _ 128))
-    (λ k l. sym (get_or-upto _ 128 k (pos 0) (omega arith) ∙ rw (add_none z to from k) (+ℤ_idr _)))
+  pub sums_next : (n : ℕ) (l : List ℤ) (v : ℤ) → l ≡ sums_of p z n → v ≡ get_or p n (pos 0) +ℤ get_or z n (pos 0) → set l n v ≡ sums_of p z (n + 1)
+  unfolding sums_of
+  sums_next n l v e g = rw (add-one n, e, g)
+
+  pub length-sums : (n : ℕ) → length (sums_of p z n) ≡ length p
+  unfolding sums_of
+  length-sums zero = refl
+  length-sums (suc n) = length-set (sums_of p z n) n _ ∙ length-sums n
+
+  pub sums-past : (n k : ℕ) → n ≤ k → get_or (sums_of p z n) k (pos 0) ≡ get_or p k (pos 0)
+  unfolding sums_of
+  sums-past zero k h = refl
+  sums-past (suc n) k h = get_or-set_other (sums_of p z n) n k _ (pos 0) (λ e. omega (arith, e)) ∙ sums-past n k (omega arith)
+
+  pub sums_at : (n k : ℕ) → k < n → n ≤ length p → get_or (sums_of p z n) k (pos 0) ≡ get_or p k (pos 0) +ℤ get_or z k (pos 0)
+  unfolding sums_of
+  sums_at zero k h b = absurd (omega arith)
+  sums_at (suc n) k h b = go (ℕ_discrete k n) (λ j. sums_at n k j (omega arith))
+    where
+      go : Dec (k ≡ n) → (k < n → get_or (sums_of p z n) k (pos 0) ≡ get_or p k (pos 0) +ℤ get_or z k (pos 0))
+          → get_or (set (sums_of p z n) n (get_or p n (pos 0) +ℤ get_or z n (pos 0))) k (pos 0) ≡ get_or p k (pos 0) +ℤ get_or z k (pos 0)
+      go (yes e) old = rw e (get_or-set_same (sums_of p z n) n _ (pos 0) (omega (arith, length-sums n)))
+      go (no q) old = get_or-set_other (sums_of p z n) n k _ (pos 0) q ∙ old (let j : k < n = below k n h q in j)
+
+-- a part of p, with a row of z added, in its place
+pub added-mid : (p z part : List ℤ) (to from k e : ℕ) → k ≡ 64 → e ≡ 64 → length p ≡ 128 → to ≤ 64 → from + 64 ≤ length z
+    → part ≡ sums_of (take k (drop to p)) (take e (drop from z)) 64 → put_mid to k p part ≡ added_of p z to from
+unfolding added_of added_at
+added-mid p z part to from k e ek ee hp ht hz q =
+    let a : length (take k (drop to p)) ≡ 64 = grind (arith, places, ek, hp, ht) in
+    let m : length part ≡ 64 = rw q (length-sums _ _ 64 ∙ a) in
+    let w : length (put_mid to k p part) ≡ 128 = grind (arith, places, m, ek, hp, ht) in
+    ext_get_or (pos 0) (put_mid to k p part) _ (w ∙ sym (length-upto _ 128)) (λ i l. let h : i < 128 = omega (arith, w) in go i h a m (dec_le to i) (dec_lt i (to + 64)) ∙ sym (get_or-upto _ 128 i (pos 0) h))
+  where
+    go : (i : ℕ) → i < 128 → length (take k (drop to p)) ≡ 64 → length part ≡ 64 → Dec (to ≤ i) → Dec (i < to + 64)
+        → get_or (put_mid to k p part) i (pos 0) ≡ get_or p i (pos 0) +ℤ cond (leb to i && ltb i (to + 64)) (get_or z (from + (i - to)) (pos 0)) (pos 0)
+    go i h a m (no x) y = let v : i < to = omega (arith, x) in rw (lt-leb to i v, +ℤ_idr (get_or p i (pos 0))) (grind (arith, places, m, ek, hp, v))
+    go i h a m (yes x) (no y) =
+        let v : to + 64 ≤ i = omega (arith, y) in
+        rw (le-leb to i x, le-ltb i (to + 64) v, +ℤ_idr (get_or p i (pos 0))) (grind (arith, places, m, ek, hp, v))
+    go i h a m (yes x) (yes y) =
+        let j : i - to < 64 = omega arith in
+        let b : get_or (put_mid to k p part) i (pos 0) ≡ get_or part (i - to) (pos 0) = grind (arith, places, m, ek, hp, x, y) in
+        let c : get_or (take k (drop to p)) (i - to) (pos 0) ≡ get_or p i (pos 0) = grind (arith, places, ek, hp, x, y) in
+        let d : get_or (take e (drop from z)) (i - to) (pos 0) ≡ get_or z (from + (i - to)) (pos 0) = grind (arith, places, ee, hz, j) in
+        rw (le-leb to i x, lt-ltb i (to + 64) y) (b ∙ rw q (sums_at _ _ 64 (i - to) j (omega (arith, a)) ∙ rw (c, d)))
 
 -- ---- the rows added up
 
-module _ (z : List ℤ) (rows first way : ℕ) where
+module _ (z : List ℤ) (rows first : ℕ) (step : Step) where
   -- the sums of the first n rows
-  pub sums_none : (k : ℕ) → upto (λ (m : ℕ). pos 0) k ≡ upto (λ m. sum_ℤ 0 (λ i. added_at z (place_of i rows first way * 8) (i * 64) 64 m)) k
+  pub sums_none : (k : ℕ) → upto (λ (m : ℕ). pos 0) k ≡ upto (λ m. sum_ℤ 0 (λ i. added_at z (place_of i rows first step * 8) (i * 64) 64 m)) k
   unfolding sum_ℤ
   sums_none k = refl
 
-  pub sums-more : (n : ℕ) (p l : List ℤ) → p ≡ upto (λ m. sum_ℤ n (λ i. added_at z (place_of i rows first way * 8) (i * 64) 64 m)) 128
-      → l ≡ added_of p z (place_of n rows first way * 8) (n * 64)
-      → l ≡ upto (λ m. sum_ℤ (n + 1) (λ i. added_at z (place_of i rows first way * 8) (i * 64) 64 m)) 128
+  pub sums-more : (n : ℕ) (p l : List ℤ) → p ≡ upto (λ m. sum_ℤ n (λ i. added_at z (place_of i rows first step * 8) (i * 64) 64 m)) 128
+      → l ≡ added_of p z (place_of n rows first step * 8) (n * 64)
+      → l ≡ upto (λ m. sum_ℤ (n + 1) (λ i. added_at z (place_of i rows first step * 8) (i * 64) 64 m)) 128
   unfolding sum_ℤ added_of
   sums-more n p l e g = g ∙ rw (add-one n) (upto-ext _ _ 128 (λ k h. rw (e, get_or-upto _ 128 k (pos 0) h)))
 
@@ -109,15 +111,15 @@ unfolding sum_ℤ
 sum-size f w h zero = omega arith
 sum-size f w h (suc n) = omega (arith, sum-size f w h n, size-add (sum_ℤ n f) (f n), h n)
 
-pub sums-within : (z : List ℤ) (rows first way n : ℕ) → Within z 256 → n ≤ 8 → Within (upto (λ m. sum_ℤ n (λ i. added_at z (place_of i rows first way * 8) (i * 64) 64 m)) 128) 2048
-sums-within z rows first way n h hn = record { all = upto-all-of (λ (z : ℤ). nat_abs z ≤ 2048) _ 128 (pos 0) (λ m. at m) (omega arith) }
+pub sums-within : (z : List ℤ) (rows first : ℕ) (step : Step) (n : ℕ) → Within z 256 → n ≤ 8 → Within (upto (λ m. sum_ℤ n (λ i. added_at z (place_of i rows first step * 8) (i * 64) 64 m)) 128) 2048
+sums-within z rows first step n h hn = record { all = upto-all-of (λ (z : ℤ). nat_abs z ≤ 2048) _ 128 (pos 0) (λ m. at m) (omega arith) }
   where
-    at : (m : ℕ) → nat_abs (sum_ℤ n (λ i. added_at z (place_of i rows first way * 8) (i * 64) 64 m)) ≤ 2048
-    at m = omega (arith, sum-size (λ i. added_at z (place_of i rows first way * 8) (i * 64) 64 m) 256 (λ i. add-size z _ _ 64 m 256 h) n)
+    at : (m : ℕ) → nat_abs (sum_ℤ n (λ i. added_at z (place_of i rows first step * 8) (i * 64) 64 m)) ≤ 2048
+    at m = omega (arith, sum-size (λ i. added_at z (place_of i rows first step * 8) (i * 64) 64 m) 256 (λ i. add-size z _ _ 64 m 256 h) n)
 
-pub lines-within : (z : List ℤ) (rows first way : ℕ) → Within z 256 → rows ≤ 8 → Within (lane_lines z rows first way) 2048
+pub lines-within : (z : List ℤ) (rows first : ℕ) (step : Step) → Within z 256 → rows ≤ 8 → Within (lane_lines z rows first step) 2048
 unfolding lane_lines
-lines-within z rows first way h hr = sums-within z rows first way rows h hr
+lines-within z rows first step h hr = sums-within z rows first step rows h hr
 
 pub pair_size : (s : List ℤ) (at next l : ℕ) → Within s 128 → nat_abs (neighbour_sum s at next l) ≤ 256
 unfolding neighbour_sum
@@ -133,11 +135,8 @@ length_pairs s down on next = length-upto _ 256
 
 -- ---- where a row starts
 
-pub place-high : (i rows first way : ℕ) → i < rows → place_of i rows first way ≤ first + (rows - 1)
+pub place-high : (i rows first : ℕ) (step : Step) → i < rows → place_of i rows first step ≤ first + (rows - 1)
 unfolding place_of
-place-high i rows first way h = go (eqb way 0) (eqb way 1)
-  where
-    go : (t u : Bool) → cond t first (cond u (first + i) (first + (rows - 1 - i))) ≤ first + (rows - 1)
-    go true u = omega arith
-    go false true = omega arith
-    go false false = omega arith
+place-high i rows first Same h = omega arith
+place-high i rows first Next h = omega arith
+place-high i rows first Back h = omega arith

@@ -13,6 +13,8 @@ use Rattle.cdef_spec.specs.DirectionLocal.{sum_ℤ-same}
 use Rattle.cdef_spec.specs.Standard.{line_of, partial}
 use Rattle.arith_sample.specs.Upto.{get_or-upto}
 use Rattle.direction_lines.specs.LinesLaws.{row_is, turned-is}
+use Rattle.direction_lane_sums.specs.declared.Step.{Step}
+use Rattle.direction_lane_sums.specs.declared.Step.TheVariants.{Same, Next, Back}
 use Rattle.direction_lane_sums.specs.Lines.{lane_of, neighbour_sum, neighbour_sums, added_at, place_of, lane_lines, lane_line}
 use Rattle.direction_lane_sums.specs.LinesLaws.{place-high}
 
@@ -53,9 +55,9 @@ module _ (s n l : ℕ) (hl : l < 8) where
       go (no h) = let a : n < s = omega arith in rw (lt-leb s n a)
 
 -- the lines of a lane
-line-sum : (z : List ℤ) (rows first way l n : ℕ) → l < 8 → n < 16 → lane_line (lane_lines z rows first way) l n ≡ sum_ℤ rows (λ i. on_line (lane_of z l i) (place_of i rows first way) n)
+line-sum : (z : List ℤ) (rows first : ℕ) (step : Step) (l n : ℕ) → l < 8 → n < 16 → lane_line (lane_lines z rows first step) l n ≡ sum_ℤ rows (λ i. on_line (lane_of z l i) (place_of i rows first step) n)
 unfolding lane_line lane_lines
-line-sum z rows first way l n hl hn = get_or-upto _ 128 (n * 8 + l) (pos 0) (omega arith) ∙ sum_ℤ-same rows _ _ (λ i hi. row-lane (place_of i rows first way) n l hl z i)
+line-sum z rows first step l n hl hn = get_or-upto _ 128 (n * 8 + l) (pos 0) (omega arith) ∙ sum_ℤ-same rows _ _ (λ i hi. row-lane (place_of i rows first step) n l hl z i)
 
 -- ---- a row of the standard
 
@@ -120,17 +122,17 @@ by-pairs : (f : ℕ → ℤ) → sum_ℤ 8 f ≡ sum_ℤ 4 (λ m. f (2 * m) +ℤ
 unfolding sum_ℤ
 by-pairs f = simp (+ℤ_assoc, +ℤ_idl)
 
-module _ (z : List ℤ) (x : ℕ → ℕ → ℤ) (first way l : ℕ) (hl : l < 8) (hf : first ≤ 2)
+module _ (z : List ℤ) (x : ℕ → ℕ → ℤ) (first : ℕ) (step : Step) (l : ℕ) (hl : l < 8) (hf : first ≤ 2)
     (pairs : (m j : ℕ) → m < 4 → j < 8 → lane_of z l m j ≡ x (2 * m) j +ℤ x (2 * m + 1) j) where
-  pair-lines : (n : ℕ) → n < 16 → lane_line (lane_lines z 4 first way) l n ≡ sum_ℤ 8 (λ i. on_line (x i) (place_of (i / 2) 4 first way) n)
-  pair-lines n hn = line-sum z 4 first way l n hl hn ∙ sum_ℤ-same 4 _ _ (λ m hm. one m hm) ∙ sym (by-pairs (λ i. on_line (x i) (place_of (i / 2) 4 first way) n))
+  pair-lines : (n : ℕ) → n < 16 → lane_line (lane_lines z 4 first step) l n ≡ sum_ℤ 8 (λ i. on_line (x i) (place_of (i / 2) 4 first step) n)
+  pair-lines n hn = line-sum z 4 first step l n hl hn ∙ sum_ℤ-same 4 _ _ (λ m hm. one m hm) ∙ sym (by-pairs (λ i. on_line (x i) (place_of (i / 2) 4 first step) n))
     where
       one : (m : ℕ) → m < 4
-          → on_line (lane_of z l m) (place_of m 4 first way) n ≡ on_line (x (2 * m)) (place_of (2 * m / 2) 4 first way) n +ℤ on_line (x (2 * m + 1)) (place_of ((2 * m + 1) / 2) 4 first way) n
+          → on_line (lane_of z l m) (place_of m 4 first step) n ≡ on_line (x (2 * m)) (place_of (2 * m / 2) 4 first step) n +ℤ on_line (x (2 * m + 1)) (place_of ((2 * m + 1) / 2) 4 first step) n
       one m hm =
           let a : 2 * m / 2 ≡ m = omega arith in
           let b : (2 * m + 1) / 2 ≡ m = omega arith in
-          rw (a, b, on-add (x (2 * m)) (x (2 * m + 1)) (place_of m 4 first way) n) (on_same _ _ (place_of m 4 first way) n (λ j hj. pairs m j hm hj))
+          rw (a, b, on-add (x (2 * m)) (x (2 * m + 1)) (place_of m 4 first step) n) (on_same _ _ (place_of m 4 first step) n (λ j hj. pairs m j hm hj))
 
 -- the sums of neighbours in a column, and in a row
 pair-at : (s : List ℤ) (down on next m j l : ℕ) → m < 4 → j < 8 → l < 8 → lane_of (neighbour_sums s down on next) l m j ≡ neighbour_sum s (m * down + j * on) next l
@@ -141,8 +143,8 @@ pair-at s down on next m j l hm hj hl =
     let c : (m * 64 + j * 8 + l) % 8 ≡ l = omega arith in
     get_or-upto _ 256 (m * 64 + j * 8 + l) (pos 0) (omega arith) ∙ rw (a, b, c)
 
-half-low : (i first way : ℕ) → i < 8 → first ≤ 2 → place_of (i / 2) 4 first way ≤ 8
-half-low i first way hi hf = omega (arith, place-high (i / 2) 4 first way (omega arith))
+half-low : (i first : ℕ) (step : Step) → i < 8 → first ≤ 2 → place_of (i / 2) 4 first step ≤ 8
+half-low i first step hi hf = omega (arith, place-high (i / 2) 4 first step (omega arith))
 
 module _ (s : List ℤ) (l : ℕ) (hl : l < 8) where
   column-pairs : (m j : ℕ) → m < 4 → j < 8 → lane_of (neighbour_sums s 128 8 64) l m j ≡ lane_of s l (2 * m) j +ℤ lane_of s l (2 * m + 1) j
@@ -161,60 +163,60 @@ module _ (s : List ℤ) (l : ℕ) (hl : l < 8) where
 
   -- ---- THE EIGHT DIRECTIONS: line n of the standard, at its index
 
-  row_line : (d way n m : ℕ) → m < 16
-      → ((i j : ℕ) → i < 8 → j < 8 → (line_of d i j ≡ n → j + place_of i 8 0 way ≡ m) × (j + place_of i 8 0 way ≡ m → line_of d i j ≡ n))
-      → lane_line (lane_lines s 8 0 way) l m ≡ partial (lane_of s l) d n
+  row_line : (d : ℕ) (step : Step) (n m : ℕ) → m < 16
+      → ((i j : ℕ) → i < 8 → j < 8 → (line_of d i j ≡ n → j + place_of i 8 0 step ≡ m) × (j + place_of i 8 0 step ≡ m → line_of d i j ≡ n))
+      → lane_line (lane_lines s 8 0 step) l m ≡ partial (lane_of s l) d n
   unfolding partial
-  row_line d way n m hm line = line-sum s 8 0 way l m hl hm ∙ sym (rows_are (lane_of s l) (line_of d) (λ i. place_of i 8 0 way) n m (λ i hi. omega (arith, place-high i 8 0 way hi)) line)
+  row_line d step n m hm line = line-sum s 8 0 step l m hl hm ∙ sym (rows_are (lane_of s l) (line_of d) (λ i. place_of i 8 0 step) n m (λ i hi. omega (arith, place-high i 8 0 step hi)) line)
 
-  column-pair-line : (d way first n m : ℕ) → first ≤ 2 → m < 16
-      → ((i j : ℕ) → i < 8 → j < 8 → (line_of d i j ≡ n → j + place_of (i / 2) 4 first way ≡ m) × (j + place_of (i / 2) 4 first way ≡ m → line_of d i j ≡ n))
-      → lane_line (lane_lines (neighbour_sums s 128 8 64) 4 first way) l m ≡ partial (lane_of s l) d n
+  column-pair-line : (d : ℕ) (step : Step) (first n m : ℕ) → first ≤ 2 → m < 16
+      → ((i j : ℕ) → i < 8 → j < 8 → (line_of d i j ≡ n → j + place_of (i / 2) 4 first step ≡ m) × (j + place_of (i / 2) 4 first step ≡ m → line_of d i j ≡ n))
+      → lane_line (lane_lines (neighbour_sums s 128 8 64) 4 first step) l m ≡ partial (lane_of s l) d n
   unfolding partial
-  column-pair-line d way first n m hf hm line =
-      pair-lines _ (lane_of s l) first way l hl hf column-pairs m hm
-      ∙ sym (rows_are (lane_of s l) (line_of d) (λ i. place_of (i / 2) 4 first way) n m (λ i hi. half-low i first way hi hf) line)
+  column-pair-line d step first n m hf hm line =
+      pair-lines _ (lane_of s l) first step l hl hf column-pairs m hm
+      ∙ sym (rows_are (lane_of s l) (line_of d) (λ i. place_of (i / 2) 4 first step) n m (λ i hi. half-low i first step hi hf) line)
 
-  row-pair-line : (d way first n m : ℕ) → first ≤ 2 → m < 16
-      → ((i j : ℕ) → i < 8 → j < 8 → (line_of d j i ≡ n → j + place_of (i / 2) 4 first way ≡ m) × (j + place_of (i / 2) 4 first way ≡ m → line_of d j i ≡ n))
-      → lane_line (lane_lines (neighbour_sums s 16 64 8) 4 first way) l m ≡ partial (lane_of s l) d n
-  row-pair-line d way first n m hf hm line =
-      pair-lines _ (λ i j. lane_of s l j i) first way l hl hf row-pairs m hm
-      ∙ sym (rows_are (λ i j. lane_of s l j i) (λ i j. line_of d j i) (λ i. place_of (i / 2) 4 first way) n m (λ i hi. half-low i first way hi hf) line) ∙ turned-is (lane_of s l) d n
+  row-pair-line : (d : ℕ) (step : Step) (first n m : ℕ) → first ≤ 2 → m < 16
+      → ((i j : ℕ) → i < 8 → j < 8 → (line_of d j i ≡ n → j + place_of (i / 2) 4 first step ≡ m) × (j + place_of (i / 2) 4 first step ≡ m → line_of d j i ≡ n))
+      → lane_line (lane_lines (neighbour_sums s 16 64 8) 4 first step) l m ≡ partial (lane_of s l) d n
+  row-pair-line d step first n m hf hm line =
+      pair-lines _ (λ i j. lane_of s l j i) first step l hl hf row-pairs m hm
+      ∙ sym (rows_are (λ i j. lane_of s l j i) (λ i j. line_of d j i) (λ i. place_of (i / 2) 4 first step) n m (λ i hi. half-low i first step hi hf) line) ∙ turned-is (lane_of s l) d n
 
-  pub lines-0 : (n : ℕ) → n < 16 → lane_line (lane_lines s 8 0 1) l n ≡ partial (lane_of s l) 0 n
+  pub lines-0 : (n : ℕ) → n < 16 → lane_line (lane_lines s 8 0 Next) l n ≡ partial (lane_of s l) 0 n
   unfolding line_of place_of
-  lines-0 n h = row_line 0 1 n n h (λ i j hi hj. (λ e. omega arith, λ e. omega arith))
+  lines-0 n h = row_line 0 Next n n h (λ i j hi hj. (λ e. omega arith, λ e. omega arith))
 
-  pub lines-1 : (n : ℕ) → n < 14 → lane_line (lane_lines (neighbour_sums s 16 64 8) 4 2 1) l (n + 2) ≡ partial (lane_of s l) 1 n
+  pub lines-1 : (n : ℕ) → n < 14 → lane_line (lane_lines (neighbour_sums s 16 64 8) 4 2 Next) l (n + 2) ≡ partial (lane_of s l) 1 n
   unfolding line_of place_of
-  lines-1 n h = row-pair-line 1 1 2 n (n + 2) (omega arith) (omega arith) (λ i j hi hj. (λ e. omega arith, λ e. omega arith))
+  lines-1 n h = row-pair-line 1 Next 2 n (n + 2) (omega arith) (omega arith) (λ i j hi hj. (λ e. omega arith, λ e. omega arith))
 
-  pub lines-2 : (n : ℕ) → n < 16 → lane_line (lane_lines (neighbour_sums s 16 64 8) 4 0 0) l n ≡ partial (lane_of s l) 2 n
+  pub lines-2 : (n : ℕ) → n < 16 → lane_line (lane_lines (neighbour_sums s 16 64 8) 4 0 Same) l n ≡ partial (lane_of s l) 2 n
   unfolding line_of place_of
-  lines-2 n h = row-pair-line 2 0 0 n n (omega arith) h (λ i j hi hj. (λ e. omega arith, λ e. omega arith))
+  lines-2 n h = row-pair-line 2 Same 0 n n (omega arith) h (λ i j hi hj. (λ e. omega arith, λ e. omega arith))
 
-  pub lines-3 : (n : ℕ) → n < 14 → lane_line (lane_lines (neighbour_sums s 16 64 8) 4 2 2) l (n + 2) ≡ partial (lane_of s l) 3 n
+  pub lines-3 : (n : ℕ) → n < 14 → lane_line (lane_lines (neighbour_sums s 16 64 8) 4 2 Back) l (n + 2) ≡ partial (lane_of s l) 3 n
   unfolding line_of place_of
-  lines-3 n h = row-pair-line 3 2 2 n (n + 2) (omega arith) (omega arith) (λ i j hi hj. (λ e. omega arith, λ e. omega arith))
+  lines-3 n h = row-pair-line 3 Back 2 n (n + 2) (omega arith) (omega arith) (λ i j hi hj. (λ e. omega arith, λ e. omega arith))
 
-  pub lines-4 : (n : ℕ) → n < 15 → lane_line (lane_lines s 8 0 2) l n ≡ partial (lane_of s l) 4 (14 - n)
+  pub lines-4 : (n : ℕ) → n < 15 → lane_line (lane_lines s 8 0 Back) l n ≡ partial (lane_of s l) 4 (14 - n)
   unfolding line_of place_of
-  lines-4 n h = row_line 4 2 (14 - n) n (omega arith) (λ i j hi hj. (λ e. omega arith, λ e. omega arith))
+  lines-4 n h = row_line 4 Back (14 - n) n (omega arith) (λ i j hi hj. (λ e. omega arith, λ e. omega arith))
 
-  pub lines-5 : (n : ℕ) → n < 14 → lane_line (lane_lines (neighbour_sums s 128 8 64) 4 2 2) l (n + 2) ≡ partial (lane_of s l) 5 n
+  pub lines-5 : (n : ℕ) → n < 14 → lane_line (lane_lines (neighbour_sums s 128 8 64) 4 2 Back) l (n + 2) ≡ partial (lane_of s l) 5 n
   unfolding line_of place_of
-  lines-5 n h = column-pair-line 5 2 2 n (n + 2) (omega arith) (omega arith) (λ i j hi hj. (λ e. omega arith, λ e. omega arith))
+  lines-5 n h = column-pair-line 5 Back 2 n (n + 2) (omega arith) (omega arith) (λ i j hi hj. (λ e. omega arith, λ e. omega arith))
 
-  pub lines-6 : (n : ℕ) → n < 16 → lane_line (lane_lines (neighbour_sums s 128 8 64) 4 0 0) l n ≡ partial (lane_of s l) 6 n
+  pub lines-6 : (n : ℕ) → n < 16 → lane_line (lane_lines (neighbour_sums s 128 8 64) 4 0 Same) l n ≡ partial (lane_of s l) 6 n
   unfolding line_of place_of
-  lines-6 n h = column-pair-line 6 0 0 n n (omega arith) h (λ i j hi hj. (λ e. omega arith, λ e. omega arith))
+  lines-6 n h = column-pair-line 6 Same 0 n n (omega arith) h (λ i j hi hj. (λ e. omega arith, λ e. omega arith))
 
-  pub lines-7 : (n : ℕ) → n < 14 → lane_line (lane_lines (neighbour_sums s 128 8 64) 4 2 1) l (n + 2) ≡ partial (lane_of s l) 7 n
+  pub lines-7 : (n : ℕ) → n < 14 → lane_line (lane_lines (neighbour_sums s 128 8 64) 4 2 Next) l (n + 2) ≡ partial (lane_of s l) 7 n
   unfolding line_of place_of
-  lines-7 n h = column-pair-line 7 1 2 n (n + 2) (omega arith) (omega arith) (λ i j hi hj. (λ e. omega arith, λ e. omega arith))
+  lines-7 n h = column-pair-line 7 Next 2 n (n + 2) (omega arith) (omega arith) (λ i j hi hj. (λ e. omega arith, λ e. omega arith))
 
 -- past the eighth, straight lines have no samples
-pub straight_none : (z : List ℤ) (l n : ℕ) → l < 8 → 8 ≤ n → n < 16 → lane_line (lane_lines z 4 0 0) l n ≡ pos 0
+pub straight_none : (z : List ℤ) (l n : ℕ) → l < 8 → 8 ≤ n → n < 16 → lane_line (lane_lines z 4 0 Same) l n ≡ pos 0
 unfolding sum_ℤ on_line place_of
-straight_none z l n hl hn hm = line-sum z 4 0 0 l n hl hm ∙ rw (le-leb 0 n (omega arith), le-ltb n 8 hn)
+straight_none z l n hl hn hm = line-sum z 4 0 Same l n hl hm ∙ rw (le-leb 0 n (omega arith), le-ltb n 8 hn)

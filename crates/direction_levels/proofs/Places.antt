@@ -14,6 +14,8 @@ use Rattle.cdef_spec.specs.declared.full.FullPlane.{FullPlane}
 use Rattle.cdef_spec.specs.Document01.{Plane, edge_sample, direction_input}
 use Rattle.cdef_spec.specs.Questions.{cut_taken}
 use Rattle.arith_sample.proofs.Sums16.{back}
+use Rattle.cdef_spec.specs.Lent.{plane_in_full}
+use Rattle.direction_levels.specs.Levels.{BlockIn}
 use Rattle.direction_levels.specs.LevelLaws.{less-128, shifted-low}
 
 place-low : (w h r c : ℕ) → r < h → c < w → r * w + c < w * h
@@ -25,6 +27,11 @@ plane-low w h a b = mul-le-mul a b
 -- a row and a column of a plane have a place among its samples, of which there are at most 4,096 * 4,096
 pub place-in : (p : FullPlane) (r c : ℕ) → r < p.height → c < p.width → (r * p.width + c < length p.samples.now) × (length p.samples.now ≤ 4096 * 4096)
 place-in p r c hr hc = (omega (arith, place-low p.width p.height r c hr hc, p.full), omega (arith, plane-low p.width p.height p.sides.0 p.sides.1, p.full))
+
+-- what is known of a block's corner and depth
+pub corner : (p : FullPlane) {depth y x : ℕ} → BlockIn (plane_in_full p) depth y x → (x < p.width) × (y < p.height) × (8 ≤ depth) × (depth ≤ 12)
+unfolding plane_in_full
+corner p q = (q.x-in, q.y-in, q.depth_low, q.depth-high)
 
 abbrev sized : List ℕ → ℕ → ℕ → Plane
 sized s w h = record { samples = s; width = w; height = h }

@@ -1,16 +1,17 @@
 -- Eight blocks side by side: the direction and the variance of a lane are those of its block, and the lists are filled further by eight.
-use Rattle.std.specs.Prelude.{◌≡◌, List, ℕ, ◌+◌, ◌*◌, ◌/◌, ◌%◌, ◌≤◌, ◌<◌, ℤ, pos, get_or, length}
-use Rattle.std.proofs.Common.{◌∙◌}
+use Rattle.std.specs.Prelude.{◌≡◌, List, [], ◌∷◌, ◌++◌, ℤ, pos, length, take}
+use Rattle.std.proofs.Common.{sym, ap, ◌∙◌, append-nil, append_assoc}
+use Rattle.std.proofs.lemmas.Slice.{take-put_mid}
+use borrow.Rule.Slice.PartMut.{put_mid}
+use Prim.Native.Nat.{ℕ, zero, suc, ◌+◌, ◌*◌, ◌/◌, ◌%◌, ◌≤◌, ◌<◌}
 use native.Mathlib.Omega.{arith}
 use Rattle.cdef_spec.specs.Standard.{direction, variance}
 use Rattle.cdef_spec.specs.Document01.{Plane, direction_input, block_direction, block_variance}
 use Rattle.cdef_spec.specs.DirectionLocal.{direction-same, variance-same}
-use Rattle.arith_sample.specs.Upto.{get_or-upto, upto-at}
+use Rattle.arith_sample.specs.Upto.{upto, length-upto, get_or-upto, upto-at, upto-ext}
 use Rattle.direction_lanes.specs.Lanes.{lanes_of}
 use Rattle.direction_eight.specs.declared.Found8.{Found8}
 use Rattle.direction_lane_sums.specs.Lines.{lane_of}
-use Rattle.direction_lane_costs.specs.Costs.{written}
-use Rattle.direction_lane_costs.specs.CostsLaws.{written-upto}
 use Rattle.direction_eight.specs.Best.{found_by_samples}
 use Rattle.pass_one.specs.Pass.{direction_at, variance_at, Filled}
 use Rattle.pass_one.specs.PassLaws.{at_block}
@@ -33,29 +34,40 @@ module _ (p : Plane) (depth y x l : ℕ) (hl : l < 8) where
   unfolding block_variance
   lane-variance = variance-same _ _ lane-input
 
--- of block bx + l of row by
-module _ (p : Plane) (depth cols by bx l : ℕ) (hl : l < 8) (hb : bx + l < cols) (z : List ℤ) (f : Found8) (ez : z ≡ lanes_of p depth (by * 8) (bx * 8)) (ef : f ≡ found_by_samples z) where
-  lane_place : (g : ℕ → ℕ → ℕ) → g (by * 8) (bx * 8 + l * 8) ≡ g ((by * cols + bx + l) / cols * 8) ((by * cols + bx + l) % cols * 8)
-  lane_place g =
+-- values listed one after the other
+upto_join : (f : ℕ → ℕ) (a n : ℕ) → upto f a ++ upto (λ l. f (a + l)) n ≡ upto f (a + n)
+unfolding upto
+upto_join f a zero = let e : a ≡ a + 0 = omega arith in append-nil (upto f a) ∙ ap (upto f) e
+upto_join f a (suc n) =
+    let e : suc (a + n) ≡ a + suc n = omega arith in
+    sym (append_assoc (upto f a) (upto (λ l. f (a + l)) n) (f (a + n) ∷ [])) ∙ rw (upto_join f a n) (ap (upto f) e)
+
+-- a list whose first entries are f's, with eight more of them copied into it
+filled-on : (f : ℕ → ℕ) (l ys : List ℕ) (at k : ℕ) → take at l ≡ upto f at → at ≤ length l → ys ≡ upto (λ n. f (at + n)) 8 → take (at + 8) (put_mid at k l ys) ≡ upto f (at + 8)
+filled-on f l ys at k e h g = take-put_mid at k l ys (at + 8) (rw (g, length-upto (λ n. f (at + n)) 8)) h ∙ rw (e, g) (upto_join f at 8)
+
+-- of the blocks bx to bx + 7 of row by
+module _ (p : Plane) (depth cols by bx : ℕ) (hb : bx + 8 ≤ cols) (z : List ℤ) (f : Found8) (ez : z ≡ lanes_of p depth (by * 8) (bx * 8)) (ef : f ≡ found_by_samples z) where
+  lane_place : (g : ℕ → ℕ → ℕ) (l : ℕ) → l < 8 → g (by * 8) (bx * 8 + l * 8) ≡ g ((by * cols + bx + l) / cols * 8) ((by * cols + bx + l) % cols * 8)
+  lane_place g l hl =
       let a : bx * 8 + l * 8 ≡ (bx + l) * 8 = omega arith in
       let b : by * cols + bx + l ≡ by * cols + (bx + l) = omega arith in
-      rw (a, b) (at_block g cols by (bx + l) hb)
+      rw (a, b) (at_block g cols by (bx + l) (omega arith))
 
-  found-direction : get_or f.directions l 0 ≡ direction_at p depth cols (by * cols + bx + l)
+  found-directions : f.directions ≡ upto (λ l. direction_at p depth cols (by * cols + bx + l)) 8
   unfolding found_by_samples
-  found-direction = rw (ef, ez) (get_or-upto _ 8 l 0 hl ∙ lane-direction p depth (by * 8) (bx * 8) l hl ∙ lane_place (block_direction p depth))
+  found-directions = rw (ef, ez) (upto-ext _ _ 8 (λ l hl. lane-direction p depth (by * 8) (bx * 8) l hl ∙ lane_place (block_direction p depth) l hl))
 
-  found-variance : get_or f.variances l 0 ≡ variance_at p depth cols (by * cols + bx + l)
+  found-variances : f.variances ≡ upto (λ l. variance_at p depth cols (by * cols + bx + l)) 8
   unfolding found_by_samples
-  found-variance = rw (ef, ez) (get_or-upto _ 8 l 0 hl ∙ lane-variance p depth (by * 8) (bx * 8) l hl ∙ lane_place (block_variance p depth))
+  found-variances = rw (ef, ez) (upto-ext _ _ 8 (λ l hl. lane-variance p depth (by * 8) (bx * 8) l hl ∙ lane_place (block_variance p depth) l hl))
 
 -- by eight blocks
 module _ (p : Plane) (depth by bx : ℕ) (dirs vars : List ℕ) (t : Filled p depth (by * (p.width / 8) + bx) dirs vars) where
-  pub filled-eight : (z : List ℤ) (f : Found8) (ds vs : List ℕ) → bx + 8 ≤ p.width / 8 → by * (p.width / 8) + bx + 8 ≤ length dirs
-      → by * (p.width / 8) + bx + 8 ≤ length vars → z ≡ lanes_of p depth (by * 8) (bx * 8) → f ≡ found_by_samples z
-      → ds ≡ written dirs (by * (p.width / 8) + bx) f.directions 8 → vs ≡ written vars (by * (p.width / 8) + bx) f.variances 8
-      → Filled p depth (by * (p.width / 8) + (bx + 8)) ds vs
-  filled-eight z f ds vs hb hd hv ez ef ed ev = record {
-    dirs-are = rw ed (upto-at _ _ _ _ (omega arith) (written-upto dirs _ f.directions _ t.dirs-are 8 hd (λ l hl. found-direction p depth (p.width / 8) by bx l hl (omega arith) z f ez ef)));
-    vars-are = rw ev (upto-at _ _ _ _ (omega arith) (written-upto vars _ f.variances _ t.vars-are 8 hv (λ l hl. found-variance p depth (p.width / 8) by bx l hl (omega arith) z f ez ef)));
+  pub filled-eight : {z : List ℤ} {f : Found8} {ds vs : List ℕ} (k m : ℕ) → bx + 8 ≤ p.width / 8 → by * (p.width / 8) + bx + 8 ≤ length dirs
+      → by * (p.width / 8) + bx + 8 ≤ length vars → z ≡ lanes_of p depth (by * 8) (bx * 8) → f ≡ found_by_samples z → ds ≡ f.directions → vs ≡ f.variances
+      → Filled p depth (by * (p.width / 8) + (bx + 8)) (put_mid (by * (p.width / 8) + bx) k dirs ds) (put_mid (by * (p.width / 8) + bx) m vars vs)
+  filled-eight k m hb hd hv ez ef ed ev = record {
+    dirs-are = upto-at _ _ _ _ (omega arith) (filled-on _ _ _ _ k t.dirs-are (omega arith) (ed ∙ found-directions p depth (p.width / 8) by bx hb _ _ ez ef));
+    vars-are = upto-at _ _ _ _ (omega arith) (filled-on _ _ _ _ m t.vars-are (omega arith) (ev ∙ found-variances p depth (p.width / 8) by bx hb _ _ ez ef));
   }

@@ -1,4 +1,6 @@
 // Eight blocks of the direction pass, side by side.
+// Kept as parameters: the two lists, since the C interface passes them as two. What holds of them is PassIn and Filled; and `a` and `s`, the two arrays of direction_lanes,
+// which are made once per plane.
 #![tactic(auto)]
 
 ghost use Rattle.std.specs.Prelude.{◌≡◌, ◌+◌, ◌*◌, ◌/◌, ◌≤◌, ◌<◌, length};
@@ -20,17 +22,11 @@ pub fn eight_blocks(
 )
     requires pass_in { PassIn (plane_in_full plane.now) depth dirs.old vars.old × (bx + 8 ≤ plane.now.width / 8) × (by < plane.now.height / 8) }
     requires filled { Filled (plane_in_full plane.now) depth (by * (plane.now.width / 8) + bx) dirs.old vars.old }
-    requires a_len { (length a.old ≡ 512) × (length s.old ≡ 512) }
-    ensures filled_2 { Filled (plane_in_full plane.now) depth (by * (plane.now.width / 8) + (bx + 8)) dirs.new vars.new }
-    ensures a_len_2 { (length a.new ≡ 512) × (length s.new ≡ 512) }
+    ensures { Filled (plane_in_full plane.now) depth (by * (plane.now.width / 8) + (bx + 8)) dirs.new vars.new }
 {
     direction_lanes::lanes(s, a, plane, bx * 8, by * 8, depth);
     let f = direction_eight::eight(s);
-    let directions = f.directions;
-    let variances = f.variances;
     let at = by * (plane.width / 8) + bx;
-    for l in 0..8usize {
-        dirs[at + l] = directions[l];
-        vars[at + l] = variances[l];
-    }
+    dirs[at..at + 8].copy_from_slice(&f.directions);
+    vars[at..at + 8].copy_from_slice(&f.variances);
 }

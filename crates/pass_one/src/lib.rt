@@ -1,4 +1,5 @@
 // One block of the direction pass.
+// Kept as parameters: the two lists, since the C interface passes them as two. What holds of them is PassIn and Filled.
 #![tactic(auto)]
 
 ghost use Rattle.std.specs.Prelude.{◌+◌, ◌*◌, ◌/◌, ◌<◌};

@@ -1,4 +1,5 @@
 // The direction pass: the direction and the variance of each 8 by 8 block of a luma plane.
+// Kept as parameters: the lists and the plane, as in pass_one; `a` and `s`, as in pass_eight.
 #![tactic(auto)]
 
 ghost use Rattle.std.specs.Prelude.{◌≡◌, ℕ, ◌+◌, ◌*◌, ◌/◌, ◌%◌, ◌^◌, ◌≤◌, ◌<◌, get_or, length};
@@ -10,6 +11,8 @@ ghost use Rattle.pass_one.specs.Pass.{PassIn, Filled};
 use cdef_spec::full::FullPlane;
 
 // A row of blocks: eight at a time, and the rest one by one.
+// Kept by index, as the rows below: the place of a block's samples is computed from its row and column. chunks_exact_mut(8) over both lists, zipped, would give eight entries of
+// each, but not where their samples are: the column would be counted beside it, and the last blocks of a row, up to seven, would be left over in two remainders.
 fn row(
     dirs: &mut [u8],
     vars: &mut [u32],
@@ -21,9 +24,7 @@ fn row(
 )
     requires pass_in { PassIn (plane_in_full plane.now) depth dirs.old vars.old × (by < plane.now.height / 8) }
     requires filled { Filled (plane_in_full plane.now) depth (by * (plane.now.width / 8)) dirs.old vars.old }
-    requires a_len { (length a.old ≡ 512) × (length s.old ≡ 512) }
-    ensures filled_2 { Filled (plane_in_full plane.now) depth ((by + 1) * (plane.now.width / 8)) dirs.new vars.new }
-    ensures a_len_2 { (length a.new ≡ 512) × (length s.new ≡ 512) }
+    ensures { Filled (plane_in_full plane.now) depth ((by + 1) * (plane.now.width / 8)) dirs.new vars.new }
 {
     let whole = plane.width / 64;
     for u in 0..whole {
@@ -34,7 +35,7 @@ fn row(
     }
 }
 
-// Fills dirs and vars, one entry per block, row by row. The sides are multiples of 8.
+// Fills dirs and vars, one entry per block, row by row. The sides are multiples of 8. Kept by index: see `row`.
 pub fn direction_pass(dirs: &mut [u8], vars: &mut [u32], plane: &FullPlane<'_>, depth: u8)
     requires one_entry_per_block { (length dirs.old ≡ plane.now.height / 8 * (plane.now.width / 8))
         × (length vars.old ≡ plane.now.height / 8 * (plane.now.width / 8)) }

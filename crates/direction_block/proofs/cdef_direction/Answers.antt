@@ -10,8 +10,8 @@ use Rattle.direction_block.proofs.cdef_direction.Goals as goal
 
 pub cdef_direction_cost-requires : goal.cdef_direction_cost-requires
 cdef_direction_cost-requires c = let a = c.args in
-    let h = c.requires.corner_on_plane in
-    unfold plane_in_full in rw c.cdef_direction_partials.ensures (costs-fit (direction_input (plane_in_full a.plane.now) a.depth a.y a.x) (input-small a.plane.now.samples.now a.plane.now.width a.plane.now.height a.depth a.y a.x h.1 h.0 c.requires.samples_fit h.2))
+    let q = c.requires in
+    unfold plane_in_full in rw c.cdef_direction_partials.ensures (costs-fit (direction_input (plane_in_full a.plane.now) a.depth a.y a.x) (input-small a.plane.now.samples.now a.plane.now.width a.plane.now.height a.depth a.y a.x q.y-in q.x-in q.low q.depth_low))
 
 pub returns : goal.returns
 returns c = unfold block_direction block_variance in let e = c.cdef_direction_cost.ensures ∙ ap found_of c.cdef_direction_partials.ensures ∙ found-are _ in

@@ -6,27 +6,29 @@ use lib.ListN.{length}
 use Rattle.arith_sample.specs.Bounds.{Within}
 use Rattle.direction_lane_sums.specs.LinesLaws.{pairs-within, length_pairs}
 use Rattle.direction_lane_costs.specs.CostsLaws.{cost-4, cost-5, cost-6, cost-7, cost-ready, costs-more}
+use Rattle.direction_lane_sums.specs.declared.Step.TheVariants.{Same, Next, Back}
+use Rattle.direction_lane_costs.specs.declared.Lines.TheVariants.{Straight, Between, Diagonal}
 use Rattle.direction_lane_costs.proofs.last_costs.Goals as goal
 use Rattle.direction_lane_costs.proofs.last_costs.Goals.{After-pairs-v, Start}
 
 -- the samples, and the sums of neighbours
 wide : (s : Start) → Within s.args.s.now 256
-wide s = record { all = λ k. omega (arith, s.requires.s_len.1.all k) }
+wide s = record { all = λ k. omega (arith, s.requires.within.all k) }
 
 pairs-wide : (c : After-pairs-v) → Within c.pairs-v.result 256
-pairs-wide c = rw c.pairs-v.ensures (pairs-within _ 128 8 64 c.requires.s_len.1)
+pairs-wide c = rw c.pairs-v.ensures (pairs-within _ 128 8 64 c.requires.within)
 
 pairs-length : (c : After-pairs-v) → length c.pairs-v.result ≡ 256
 pairs-length c = ap length c.pairs-v.ensures ∙ length_pairs _ 128 8 64
 
 pub pairs-v-requires : goal.pairs-v-requires
-pairs-v-requires c = (leb-true 512 512 refl, c.requires.s_len.1)
+pairs-v-requires c = (leb-true 512 512 refl, c.requires.within)
 
 pub lines-requires : goal.lines-requires
-lines-requires c = (leb-true 8 8 refl, leb-true 8 9 refl, rw c.requires.s_len.0 (leb-true 512 512 refl), wide c.before.before.before)
+lines-requires c = (leb-true 8 8 refl, leb-true 8 9 refl, rw c.told-s (leb-true 512 512 refl), wide c.before.before.before)
 
 pub cost-requires : goal.cost-requires
-cost-requires c = cost-ready _ _ _ 8 0 2 2 4 c.requires.s_len.1 (wide c.before.before.before.before.before) (leb-true 8 8 refl) (leb-true 5 8 refl) c.lines.ensures (cost-4 _)
+cost-requires c = cost-ready _ _ _ 8 0 Back Diagonal 4 c.requires.within (wide c.before.before.before.before.before) (leb-true 8 8 refl) (leb-true 5 8 refl) c.lines.ensures (cost-4 _)
 
 pub put-requires : goal.put-requires
 put-requires c = leb-true 5 8 refl
@@ -38,7 +40,7 @@ pub lines-requires-2 : goal.lines-requires-2
 lines-requires-2 c = (leb-true 4 8 refl, leb-true 6 9 refl, rw (pairs-length c.before.before.before.before.before.before.before.before.before) (leb-true 256 256 refl), pairs-wide c.before.before.before.before.before.before.before.before.before)
 
 pub cost-requires-2 : goal.cost-requires-2
-cost-requires-2 c = cost-ready _ _ _ 4 2 2 1 5 c.requires.s_len.1 (pairs-wide c.before.before.before.before.before.before.before.before.before.before.before) (leb-true 4 8 refl) (leb-true 6 8 refl) c.lines-2.ensures (λ l h. rw c.pairs-v.ensures (cost-5 _ l h))
+cost-requires-2 c = cost-ready _ _ _ 4 2 Back Between 5 c.requires.within (pairs-wide c.before.before.before.before.before.before.before.before.before.before.before) (leb-true 4 8 refl) (leb-true 6 8 refl) c.lines-2.ensures (λ l h. rw c.pairs-v.ensures (cost-5 _ l h))
 
 pub put-requires-2 : goal.put-requires-2
 put-requires-2 c = leb-true 6 8 refl
@@ -50,7 +52,7 @@ pub lines-requires-3 : goal.lines-requires-3
 lines-requires-3 c = (leb-true 4 8 refl, leb-true 4 9 refl, rw (pairs-length c.before.before.before.before.before.before.before.before.before.before.before.before.before.before.before.before) (leb-true 256 256 refl), pairs-wide c.before.before.before.before.before.before.before.before.before.before.before.before.before.before.before.before)
 
 pub cost-requires-3 : goal.cost-requires-3
-cost-requires-3 c = cost-ready _ _ _ 4 0 0 0 6 c.requires.s_len.1 (pairs-wide c.before.before.before.before.before.before.before.before.before.before.before.before.before.before.before.before.before.before) (leb-true 4 8 refl) (leb-true 7 8 refl) c.lines-3.ensures (λ l h. rw c.pairs-v.ensures (cost-6 _ l h))
+cost-requires-3 c = cost-ready _ _ _ 4 0 Same Straight 6 c.requires.within (pairs-wide c.before.before.before.before.before.before.before.before.before.before.before.before.before.before.before.before.before.before) (leb-true 4 8 refl) (leb-true 7 8 refl) c.lines-3.ensures (λ l h. rw c.pairs-v.ensures (cost-6 _ l h))
 
 pub put-requires-3 : goal.put-requires-3
 put-requires-3 c = leb-true 7 8 refl
@@ -62,13 +64,13 @@ pub lines-requires-4 : goal.lines-requires-4
 lines-requires-4 c = (leb-true 4 8 refl, leb-true 6 9 refl, rw (pairs-length c.before.before.before.before.before.before.before.before.before.before.before.before.before.before.before.before.before.before.before.before.before.before.before) (leb-true 256 256 refl), pairs-wide c.before.before.before.before.before.before.before.before.before.before.before.before.before.before.before.before.before.before.before.before.before.before.before)
 
 pub cost-requires-4 : goal.cost-requires-4
-cost-requires-4 c = cost-ready _ _ _ 4 2 1 1 7 c.requires.s_len.1 (pairs-wide c.before.before.before.before.before.before.before.before.before.before.before.before.before.before.before.before.before.before.before.before.before.before.before.before.before) (leb-true 4 8 refl) (leb-true 8 8 refl) c.lines-4.ensures (λ l h. rw c.pairs-v.ensures (cost-7 _ l h))
+cost-requires-4 c = cost-ready _ _ _ 4 2 Next Between 7 c.requires.within (pairs-wide c.before.before.before.before.before.before.before.before.before.before.before.before.before.before.before.before.before.before.before.before.before.before.before.before.before) (leb-true 4 8 refl) (leb-true 8 8 refl) c.lines-4.ensures (λ l h. rw c.pairs-v.ensures (cost-7 _ l h))
 
 pub put-requires-4 : goal.put-requires-4
 put-requires-4 c = leb-true 8 8 refl
 
 pub returns : goal.returns
-returns c = let a = costs-more _ _ _ _ _ _ 8 0 2 2 4 (leb-true 5 8 refl) c.requires.costs_to c.lines.ensures c.cost.ensures c.put.ensures (cost-4 _) in
-    let b = costs-more _ _ _ _ _ _ 4 2 2 1 5 (leb-true 6 8 refl) a c.lines-2.ensures c.cost-2.ensures c.put-2.ensures (λ l h. rw c.pairs-v.ensures (cost-5 _ l h)) in
-    let d = costs-more _ _ _ _ _ _ 4 0 0 0 6 (leb-true 7 8 refl) b c.lines-3.ensures c.cost-3.ensures c.put-3.ensures (λ l h. rw c.pairs-v.ensures (cost-6 _ l h)) in
-    costs-more _ _ _ _ _ _ 4 2 1 1 7 (leb-true 8 8 refl) d c.lines-4.ensures c.cost-4.ensures c.put-4.ensures (λ l h. rw c.pairs-v.ensures (cost-7 _ l h))
+returns c = let a = costs-more _ _ _ _ _ _ 8 0 Back Diagonal 4 (leb-true 5 8 refl) c.requires.costs_to c.lines.ensures c.cost.ensures c.put.ensures (cost-4 _) in
+    let b = costs-more _ _ _ _ _ _ 4 2 Back Between 5 (leb-true 6 8 refl) a c.lines-2.ensures c.cost-2.ensures c.put-2.ensures (λ l h. rw c.pairs-v.ensures (cost-5 _ l h)) in
+    let d = costs-more _ _ _ _ _ _ 4 0 Same Straight 6 (leb-true 7 8 refl) b c.lines-3.ensures c.cost-3.ensures c.put-3.ensures (λ l h. rw c.pairs-v.ensures (cost-6 _ l h)) in
+    costs-more _ _ _ _ _ _ 4 2 Next Between 7 (leb-true 8 8 refl) d c.lines-4.ensures c.cost-4.ensures c.put-4.ensures (λ l h. rw c.pairs-v.ensures (cost-7 _ l h))

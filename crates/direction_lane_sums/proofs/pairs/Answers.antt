@@ -16,18 +16,18 @@ use Rattle.direction_lane_sums.proofs.pairs.Goals.{After-add, In-loop-i, Start}
 
 -- the two groups of an iteration are in the array
 inside : (c : In-loop-i)
-    → let a = c.args in c.loop-m.m * a.down + c.loop-i.i * a.on + a.next + 8 ≤ 512
+    → let a = c.args in c.loop-m.m * a.down + c.loop-i.i * a.apart + a.next + 8 ≤ 512
 inside c =
     let m : c.loop-m.m ≤ 3 = omega arith in
     let i : c.loop-i.i ≤ 7 = omega arith in
-    omega (arith, mul-le-mul_right c.args.down m, mul-le-mul_right c.args.on i, c.requires.0)
+    omega (arith, mul-le-mul_right c.args.down m, mul-le-mul_right c.args.apart i, c.requires.0)
 
 -- what was read
 at : (s : Start) (k : ℕ) → Is (get_or s.args.s.now k (pos 0)) (get_or s.args.s.now k (pos 0)) 128
 at s k = record { is = refl; small = s.requires.1.all k }
 
 read : (c : After-add)
-    → let a = c.args in to_z w16 (of_z w16 c.add.result) ≡ neighbour_sum a.s.now (c.loop-m.m * a.down + c.loop-i.i * a.on) a.next c.loop-l.l
+    → let a = c.args in to_z w16 (of_z w16 c.add.result) ≡ neighbour_sum a.s.now (c.loop-m.m * a.down + c.loop-i.i * a.apart) a.next c.loop-l.l
 unfolding neighbour_sum
 read c = back_is (add_is (at c.before.before.before.before.before.before.before.before.before _) (at c.before.before.before.before.before.before.before.before.before _) (omega arith) c.add.ensures) (omega arith)
 
@@ -83,7 +83,7 @@ pub add-requires : goal.add-requires
 add-requires c = add_ok (at c.before.before.before.before.before.before.before.before _) (at c.before.before.before.before.before.before.before.before _) (omega arith)
 
 pub loop-l-preserved : goal.loop-l-preserved
-loop-l-preserved c = (upto-at _ _ _ _ (omega arith) (upto-more _ _ _ _ c.loop-l.invariant.0 (omega arith) (sum-at _ c.args.down c.args.on c.args.next _ _ _ _ _ c.loop-i-test.true c.loop-l-test.true refl (read c))), simp length-set c.loop-l.invariant.1, omega arith)
+loop-l-preserved c = (upto-at _ _ _ _ (omega arith) (upto-more _ _ _ _ c.loop-l.invariant.0 (omega arith) (sum-at _ c.args.down c.args.apart c.args.next _ _ _ _ _ c.loop-i-test.true c.loop-l-test.true refl (read c))), simp length-set c.loop-l.invariant.1, omega arith)
 
 pub loop-i-preserved : goal.loop-i-preserved
 loop-i-preserved c = (upto-at _ _ _ _ (omega arith) c.loop-l.invariant.0, c.loop-l.invariant.1, omega arith)

@@ -1,14 +1,14 @@
 -- `direction_lanes::lanes` meets its contract.
-use mathlib.Core.Path.{◌≡◌, ap, ◌∙◌}
+use mathlib.Core.Path.{◌≡◌, ◌∙◌}
 use mathlib.Core.List.{List}
 use Prim.Native.Nat.{ℕ, ◌^◌, ◌≤◌, ◌<◌}
 use native.Mathlib.Omega.{arith}
 use lib.IntN.{ℤ}
-use lib.ListN.{get_or, length}
+use lib.ListN.{get_or}
 use Rattle.cdef_spec.specs.Document01.{Plane}
 use Rattle.arith_sample.specs.Bounds.{Within}
 use Rattle.direction_lanes.specs.Lanes.{rows_of, interleaved_of, lanes_of}
-use Rattle.direction_lanes.specs.LanesLaws.{rows-within, interleaved-within, length-rows, length-interleaved, lanes-are}
+use Rattle.direction_lanes.specs.LanesLaws.{rows-within, interleaved-within, lanes-are}
 use Rattle.direction_lanes.proofs.lanes.Goals as goal
 
 -- each array's entries are small
@@ -23,28 +23,17 @@ glue : (p : Plane) (depth y x : ℕ) (a b d e : List ℤ) → a ≡ rows_of p de
     → e ≡ interleaved_of d 64 8 256 → e ≡ lanes_of p depth y x
 glue p depth y x a b d e ea eb ed ee = ee ∙ rw (ed, eb, ea) (lanes-are p depth y x)
 
-pub rows-requires : goal.rows-requires
-rows-requires c = (c.requires.1, c.requires.2)
-
 pub interleaved-requires : goal.interleaved-requires
-interleaved-requires c = (c.requires.0, omega arith, small _ _ _ _ _ c.rows.ensures c.requires.2.depth_low c.requires.2.low)
+interleaved-requires c = (omega arith, small _ _ _ _ _ c.rows.ensures c.requires.depth_low c.requires.low)
 
 pub interleaved-requires-2 : goal.interleaved-requires-2
-interleaved-requires-2 c = (
-  ap length c.rows.ensures ∙ length-rows _ _ _ _,
-  omega arith,
-  small-next _ _ _ _ _ c.interleaved.ensures (small _ _ _ _ _ c.rows.ensures c.requires.2.depth_low c.requires.2.low),
-)
+interleaved-requires-2 c = (omega arith, small-next _ _ _ _ _ c.interleaved.ensures (small _ _ _ _ _ c.rows.ensures c.requires.depth_low c.requires.low))
 
 pub interleaved-requires-3 : goal.interleaved-requires-3
 interleaved-requires-3 c = (
-  ap length c.interleaved.ensures ∙ length-interleaved _ _ _ _,
   omega arith,
-  small-next _ _ _ _ _ c.interleaved-2.ensures (small-next _ _ _ _ _ c.interleaved.ensures (small _ _ _ _ _ c.rows.ensures c.requires.2.depth_low c.requires.2.low)),
+  small-next _ _ _ _ _ c.interleaved-2.ensures (small-next _ _ _ _ _ c.interleaved.ensures (small _ _ _ _ _ c.rows.ensures c.requires.depth_low c.requires.low)),
 )
 
 pub returns : goal.returns
-returns c = record {
-  a_len = ap length c.interleaved-2.ensures ∙ length-interleaved _ _ _ _;
-  s_after = glue _ _ _ _ _ _ _ _ c.rows.ensures c.interleaved.ensures c.interleaved-2.ensures c.interleaved-3.ensures;
-}
+returns c = glue _ _ _ _ _ _ _ _ c.rows.ensures c.interleaved.ensures c.interleaved-2.ensures c.interleaved-3.ensures

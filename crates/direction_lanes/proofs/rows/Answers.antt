@@ -36,37 +36,37 @@ stored p {depth} {y} {x} {i} {k} q hi hk e =
     ∙ row_at p.samples.now p.width p.height depth y x i k q.x-in q.y-in hi hk
 
 pub overflow_sub-shift : goal.overflow_sub-shift
-overflow_sub-shift c = omega (arith, c.requires.1.depth_low)
+overflow_sub-shift c = omega (arith, c.requires.depth_low)
 
 pub loop-i-init : goal.loop-i-init
-loop-i-init c = (sym (upto-none _), c.requires.0, omega arith)
+loop-i-init c = (sym (upto-none _), c.told-a, omega arith)
 
 pub overflow_add-at : goal.overflow_add-at
-overflow_add-at c = unfold plane_in_full in omega (arith, c.requires.1.y-in, c.args.plane.now.sides)
+overflow_add-at c = unfold plane_in_full in omega (arith, c.requires.y-in, c.args.plane.now.sides)
 
 pub overflow_mul-at : goal.overflow_mul-at
-overflow_mul-at c = omega (arith, inside c.args.plane.now c.requires.1 c.loop-i-test.true)
+overflow_mul-at c = omega (arith, inside c.args.plane.now c.requires c.loop-i-test.true)
 
 pub overflow_add-at-in-loop-i : goal.overflow_add-at-in-loop-i
-overflow_add-at-in-loop-i c = omega (arith, inside c.args.plane.now c.requires.1 c.loop-i-test.true)
+overflow_add-at-in-loop-i c = omega (arith, inside c.args.plane.now c.requires c.loop-i-test.true)
 
 pub loop-k-init : goal.loop-k-init
 loop-k-init c = (upto-at _ _ _ _ (omega arith) c.loop-i.invariant.0, c.loop-i.invariant.1, omega arith)
 
 pub overflow_add-at-in-loop-k : goal.overflow_add-at-in-loop-k
-overflow_add-at-in-loop-k c = omega (arith, inside c.args.plane.now c.requires.1 c.loop-i-test.true)
+overflow_add-at-in-loop-k c = omega (arith, inside c.args.plane.now c.requires c.loop-i-test.true)
 
 pub offset_bounds-plane-at : goal.offset_bounds-plane-at
-offset_bounds-plane-at c = omega (arith, inside c.args.plane.now c.requires.1 c.loop-i-test.true)
+offset_bounds-plane-at c = omega (arith, inside c.args.plane.now c.requires c.loop-i-test.true)
 
 pub bounds-plane-at : goal.bounds-plane-at
-bounds-plane-at c = omega (arith, (inside c.args.plane.now c.requires.1 c.loop-i-test.true).0)
+bounds-plane-at c = omega (arith, (inside c.args.plane.now c.requires c.loop-i-test.true).0)
 
 pub level-requires : goal.level-requires
-level-requires c = unfold plane_in_full in let q = c.requires.1 in (omega (arith, q.depth-high), shifted-low _ _ q.depth_low (q.low _))
+level-requires c = unfold plane_in_full in let q = c.requires in (omega (arith, q.depth-high), shifted-low _ _ q.depth_low (q.low _))
 
 pub loop-k-preserved : goal.loop-k-preserved
-loop-k-preserved c = (upto-at _ _ _ _ (omega arith) (upto-more _ _ _ _ c.loop-k.invariant.0 (omega (arith, c.loop-k.invariant.1)) (stored c.args.plane.now c.requires.1 c.loop-i-test.true c.loop-k-test.true c.level.ensures)), simp length-set c.loop-k.invariant.1, omega arith)
+loop-k-preserved c = (upto-at _ _ _ _ (omega arith) (upto-more _ _ _ _ c.loop-k.invariant.0 (omega (arith, c.loop-k.invariant.1)) (stored c.args.plane.now c.requires c.loop-i-test.true c.loop-k-test.true c.level.ensures)), simp length-set c.loop-k.invariant.1, omega arith)
 
 pub loop-i-preserved : goal.loop-i-preserved
 loop-i-preserved c = (upto-at _ _ _ _ (omega arith) c.loop-k.invariant.0, c.loop-k.invariant.1, omega arith)

@@ -9,7 +9,7 @@ use Rattle.cdef_spec.specs.Document01.{edge_sample, direction_input}
 use Rattle.cdef_spec.specs.Lent.{plane_in_full}
 use Rattle.arith_sample.specs.Upto.{upto-none, upto-more, upto-at, upto_all}
 use Rattle.direction_levels.specs.Levels.{block_of}
-use Rattle.direction_levels.proofs.Places.{place-in, inside_is, read_low, stored_is}
+use Rattle.direction_levels.proofs.Places.{corner, place-in, inside_is, read_low, stored_is}
 use Rattle.direction_levels.proofs.levels_inside.Goals as goal
 use Rattle.direction_levels.proofs.levels_inside.Goals.{After-level, In-loop-j}
 
@@ -24,8 +24,8 @@ stored : (c : After-level) → let a = c.args in let i = c.loop-i.i in let j = c
 unfolding plane_in_full
 stored c e =
     let a = c.args in
-    let h = c.requires.inside in
-    stored_is a.plane.now.samples.now a.plane.now.width a.plane.now.height a.depth a.y a.x (omega arith) (omega arith) c.requires.samples_fit h.2 _ _ c.loop-i-test.true c.loop-j-test.true _ e c.level.ensures
+    let h = corner a.plane.now c.requires.block in
+    stored_is a.plane.now.samples.now a.plane.now.width a.plane.now.height a.depth a.y a.x h.1 h.0 c.requires.block.low h.2 _ _ c.loop-i-test.true c.loop-j-test.true _ e c.level.ensures
 
 pub loop-i-init : goal.loop-i-init
 loop-i-init c = (sym (upto-none _), refl, omega arith)
@@ -50,8 +50,8 @@ bounds-plane-at c = omega (arith, place-in c.args.plane.now (c.args.y + c.loop-i
 
 pub level-requires : goal.level-requires
 level-requires c = unfold plane_in_full in let a = c.args in
-    let h = c.requires.inside in
-    (omega arith, read_low a.plane.now.samples.now a.plane.now.width a.plane.now.height a.depth a.y a.x (omega arith) (omega arith) c.requires.samples_fit h.2 _ _ c.loop-i-test.true c.loop-j-test.true _ (read (goal.at.level-requires c).In-loop-j))
+    let h = corner a.plane.now c.requires.block in
+    (omega (arith, h), read_low a.plane.now.samples.now a.plane.now.width a.plane.now.height a.depth a.y a.x h.1 h.0 c.requires.block.low h.2 _ _ c.loop-i-test.true c.loop-j-test.true _ (read (goal.at.level-requires c).In-loop-j))
 
 pub loop-j-preserved : goal.loop-j-preserved
 loop-j-preserved c = (upto-at _ _ _ _ (omega arith) (upto-more _ _ _ _ c.loop-j.invariant.0 (omega arith) (stored c (read (goal.at.loop-j-preserved c).In-loop-j))), simp length-set c.loop-j.invariant.1, omega arith)

@@ -13,8 +13,11 @@ overflow_mul-by c = omega (arith, c.requires.pass_in.2, c.args.plane.now.sides)
 pub cdef_direction-f-requires : goal.cdef_direction-f-requires
 cdef_direction-f-requires c = unfold plane_in_full in let q = c.requires.pass_in.0 in
     record {
-      corner_on_plane = (omega (arith, c.requires.pass_in.1), omega (arith, c.requires.pass_in.2), q.depth_low, q.depth-high);
-      samples_fit = low-cut _ c.args.depth _ _ q.low;
+      x-in = omega (arith, c.requires.pass_in.1);
+      y-in = omega (arith, c.requires.pass_in.2);
+      depth_low = q.depth_low;
+      depth-high = q.depth-high;
+      low = low-cut _ c.args.depth _ _ q.low;
     }
 
 pub overflow_mul-at : goal.overflow_mul-at

@@ -7,4 +7,4 @@ use Rattle.pass_one.specs.Pass.{Filled}
 use Rattle.pass_plane.proofs.direction_pass.Given as goal
 
 abbrev pub invariant-loop-by : goal.invariant-loop-by
-invariant-loop-by l = Filled (plane_in_full l.plane) l.depth (l.by * (l.plane.width / 8)) l.dirs l.vars × (length l.dirs ≡ length l.initial.dirs) × (length l.vars ≡ length l.initial.vars) × (length l.a ≡ 512) × (length l.s ≡ 512) × (l.by ≤ l.plane.height / 8)
+invariant-loop-by l = Filled (plane_in_full l.plane) l.depth (l.by * (l.plane.width / 8)) l.dirs l.vars × (length l.dirs ≡ length l.initial.dirs) × (length l.vars ≡ length l.initial.vars) × (l.by ≤ l.plane.height / 8)

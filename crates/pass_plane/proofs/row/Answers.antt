@@ -7,7 +7,7 @@ use Rattle.pass_one.specs.PassLaws.{pass_same, filled_at}
 use Rattle.pass_plane.proofs.row.Goals as goal
 
 pub loop-u-init : goal.loop-u-init
-loop-u-init c = unfold plane_in_full in (filled_at _ _ _ _ _ _ (omega arith) c.requires.filled, refl, refl, c.requires.a_len.0, c.requires.a_len.1, omega arith)
+loop-u-init c = unfold plane_in_full in (filled_at _ _ _ _ _ _ (omega arith) c.requires.filled, refl, refl, omega arith)
 
 pub overflow_mul-u : goal.overflow_mul-u
 overflow_mul-u c = omega (arith, c.args.plane.now.sides)
@@ -17,13 +17,12 @@ eight_blocks-requires c = unfold plane_in_full in let p = c.loop-u in
     record {
       pass_in = (pass_same c.requires.pass_in.0 p.invariant.1 p.invariant.2, omega arith, c.requires.pass_in.1);
       filled = p.invariant.0;
-      a_len = (p.invariant.3, p.invariant.4);
     }
 
 pub loop-u-preserved : goal.loop-u-preserved
 loop-u-preserved c = unfold plane_in_full in let b = c.eight_blocks in
     let p = c.loop-u in
-    (filled_at _ _ _ _ _ _ (omega arith) b.ensures.filled_2, b.auto.dirs ∙ p.invariant.1, b.auto.vars ∙ p.invariant.2, b.ensures.a_len_2.0, b.ensures.a_len_2.1, omega arith)
+    (filled_at _ _ _ _ _ _ (omega arith) b.ensures, b.auto.dirs ∙ p.invariant.1, b.auto.vars ∙ p.invariant.2, omega arith)
 
 pub loop-bx-init : goal.loop-bx-init
 loop-bx-init c = unfold plane_in_full in let p = c.loop-u in
@@ -44,4 +43,4 @@ pub returns : goal.returns
 returns c = unfold plane_in_full in let r = c.loop-bx in
     let p = c.loop-u in
     let e : r.bx ≡ c.args.plane.now.width / 8 = omega arith in
-    record { filled_2 = filled_at _ _ _ _ _ _ (omega arith) r.invariant.0; a_len_2 = (p.invariant.3, p.invariant.4) }
+    filled_at _ _ _ _ _ _ (omega arith) r.invariant.0

@@ -7,7 +7,7 @@ use Rattle.pass_one.specs.Pass.{Filled}
 use Rattle.pass_plane.proofs.row.Given as goal
 
 abbrev pub invariant-loop-u : goal.invariant-loop-u
-invariant-loop-u l = Filled (plane_in_full l.plane) l.depth (l.by * (l.plane.width / 8) + l.u * 8) l.dirs l.vars × (length l.dirs ≡ length l.initial.dirs) × (length l.vars ≡ length l.initial.vars) × (length l.a ≡ 512) × (length l.s ≡ 512) × (l.u ≤ l.plane.width / 64)
+invariant-loop-u l = Filled (plane_in_full l.plane) l.depth (l.by * (l.plane.width / 8) + l.u * 8) l.dirs l.vars × (length l.dirs ≡ length l.initial.dirs) × (length l.vars ≡ length l.initial.vars) × (l.u ≤ l.plane.width / 64)
 
 abbrev pub invariant-loop-bx : goal.invariant-loop-bx
 invariant-loop-bx l = Filled (plane_in_full l.plane) l.depth (l.by * (l.plane.width / 8) + l.bx) l.dirs l.vars × (length l.dirs ≡ length l.initial.dirs) × (length l.vars ≡ length l.initial.vars) × (l.bx ≤ l.plane.width / 8)

@@ -10,7 +10,7 @@ pub loop-d-init : goal.loop-d-init
 loop-d-init c = ((unfold bests_of best_to upto in refl), omega arith)
 
 pub better-b-requires : goal.better-b-requires
-better-b-requires c = (c.loop-d-test.true, c.requires, c.loop-d.invariant.0)
+better-b-requires c = (c.loop-d-test.true, c.loop-d.invariant.0)
 
 pub loop-d-preserved : goal.loop-d-preserved
 loop-d-preserved c = (c.better-b.ensures, omega arith)

@@ -1,4 +1,7 @@
 // The block filter: a block of a plane filtered into rows of a destination.
+// Window, taps and strengths stay apart, and Held, Near6, InRange and BeginsIn stay clauses (Kept): filter_rows and filter_window say why.
+// Usable is Kept as a clause: FilterParams is the struct that the public calls take with any numbers in it, so it cannot carry the fact.
+// (dst, y0) are Kept apart: the C interface takes them so, as a list and the number of its first row.
 #![tactic(auto)]
 
 ghost use Rattle.std.specs.Prelude.{◌≡◌, ◌+◌, ◌-◌, ◌*◌, ◌≤◌, ◌<◌, min, length};
@@ -18,6 +21,7 @@ use filter_rows::{Strength, Taps};
 
 // Filters the rows of a window, cols samples of each, into a destination w wide, from its row y and column x on.
 // It is the one caller of kernel_row, which the compiler inlines here.
+// Kept by index: i is the row of the window, which kernel_row reads two rows above and below, and the row of dst; store_row stores at it.
 pub fn filter_rows(
     dst: &mut [u16],
     w: usize,
@@ -30,7 +34,7 @@ pub fn filter_rows(
     f: Strength,
     g: Strength,
 )
-    requires cols_bound { (x + cols ≤ w) × (w ≤ 4096) × (y + rows ≤ 8192) × (rows ≤ 8) × (cols ≤ 8) × ((y + rows) * w ≤ length dst.old) }
+    requires rows_fit { (x + cols ≤ w) × (w ≤ 4096) × (y + rows ≤ 8192) × (rows ≤ 8) × (cols ≤ 8) × ((y + rows) * w ≤ length dst.old) }
     requires held { Held win.now × Near6 t × InRange f × InRange g }
     ensures { dst.new ≡ put_block dst.old w (window_tap win.now t f g y x) y x cols rows }
 {
@@ -50,8 +54,8 @@ pub fn filter_window(
     b: Block,
     q: FilterParams,
 )
-    requires x_lt_w { (b.x < w) × (b.y < h) × (w ≤ 4096) × (h ≤ 4096) × (b.width ≤ 8) × (b.height ≤ 8) }
-    requires y0_le_y { (y0 ≤ b.y) × ((b.y - y0 + min b.height (h - b.y)) * w ≤ length dst.old) }
+    requires begins { (b.x < w) × (b.y < h) × (w ≤ 4096) × (h ≤ 4096) × (b.width ≤ 8) × (b.height ≤ 8) }
+    requires rows_fit { (y0 ≤ b.y) × ((b.y - y0 + min b.height (h - b.y)) * w ≤ length dst.old) }
     requires held { Held win.now × Usable q }
     ensures { dst.new ≡ put_block dst.old w (block_tap win.now q (b.y - y0) b.x) (b.y - y0) b.x
         (min b.width (w - b.x)) (min b.height (h - b.y)) }

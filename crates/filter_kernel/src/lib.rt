@@ -1,4 +1,6 @@
 // The parameters of a filtered row of the window, and the filtered row.
+// The parameters of kernel_row stay apart, their bounds clauses (Kept): filter_rows says why. A damping is a number of at most 31 (Kept) in three functions:
+// a type with that ghost field would be one more beside WorkingDamping, whose 0 counts as 1 here.
 #![tactic(auto)]
 
 ghost use Rattle.std.specs.Prelude.{◌≡◌, ◌+◌, ◌≤◌, ◌<◌, max, get_or};
@@ -42,20 +44,20 @@ pub fn primary(s: u16, damping: u32, depth: u8) -> Strength
 {
     let odd = (s >> (depth - 8)) % 2;
     Strength {
-        s: s,
+        s,
         sh: shift_of(s, damping),
         w0: 4 - odd,
         w1: 2 + odd,
     }
 }
 
-// A secondary strength with its shift and its weights, 2, 1.
+// A secondary strength with its shift and its weights, 2, 1. Kept beside `primary`, whose weights depend on the depth.
 pub fn secondary(s: u16, damping: u32) -> Strength
     requires { damping ≤ 31 }
     ensures { result ≡ sec_of s damping }
 {
     Strength {
-        s: s,
+        s,
         sh: shift_of(s, damping),
         w0: 2,
         w1: 1,
@@ -63,18 +65,15 @@ pub fn secondary(s: u16, damping: u32) -> Strength
 }
 
 // The filtered row that starts at `row` of the window. The taps of a strength 0 are left out.
+// plane_rows::row and plane_fours::four make the same choice (Kept): one function for the three would take four closures in place of these four arms.
 pub fn kernel_row(w: &[u16; 144], row: usize, t: Taps, f: Strength, g: Strength) -> [u16; 8]
     requires { (26 ≤ row) × (row ≤ 110) × Held w.now × Near6 t × InRange f × InRange g }
     ensures { result ≡ upto (λ j. kernel_at w.now (row + j) t f g) 8 }
 {
-    if f.s == 0 {
-        if g.s == 0 {
-            return filter_rows::centre_row(w, row);
-        }
-        return filter_rows::alone::sec_row(w, row, t, g);
+    match (f.s, g.s) {
+        (0, 0) => filter_rows::centre_row(w, row),
+        (0, _) => filter_rows::alone::sec_row(w, row, t, g),
+        (_, 0) => filter_rows::alone::pri_row(w, row, t, f),
+        (_, _) => filter_rows::filtered_row(w, row, t, f, g),
     }
-    if g.s == 0 {
-        return filter_rows::alone::pri_row(w, row, t, f);
-    }
-    filter_rows::filtered_row(w, row, t, f, g)
 }

@@ -1,5 +1,5 @@
 -- The least and the greatest of a sample and its taps, as the window holds them: a mark is never the least, and counts as 0 for the greatest. A pair is a tap and its opposite. Definitions only.
-use Rattle.std.specs.Prelude.{cond, ℕ, ◌≤◌, min, max, eqb}
+use Rattle.std.specs.Prelude.{Bool, cond, ℕ, ◌≤◌, min, max, eqb}
 use Rattle.filter_limits.specs.declared.Pair.{Pair}
 use Rattle.filter_limits.specs.declared.Pairs.{Pairs}
 
@@ -38,3 +38,16 @@ unfoldable pub highest_of : Pairs → ℕ → ℕ
 highest_of e c =
     max (max (max (most_of e.p0) (most_of e.p1)) (max (most_of e.q0) (most_of e.q1)))
     (max (max (most_of e.r0) (most_of e.r1)) c)
+
+-- the limit that is the least (false) or the greatest (true): of two samples, of a tap as it is taken, of a pair, of six pairs and the centre
+unfoldable pub further_of : Bool → ℕ → ℕ → ℕ
+further_of b x y = cond b (max x y) (min x y)
+
+unfoldable pub seen_of : Bool → ℕ → ℕ
+seen_of b t = cond b (unmarked_of t) t
+
+unfoldable pub pair_limit : Bool → Pair → ℕ
+pair_limit b p = cond b (most_of p) (least_of p)
+
+unfoldable pub limit_of : Bool → Pairs → ℕ → ℕ
+limit_of b e c = cond b (highest_of e c) (lowest_of e c)

@@ -1,17 +1,24 @@
 // The least and the greatest of a sample and its taps, as the window holds them.
+// Kept as clauses, HeldPair and HeldPairs: as ghost fields they would ask a proof of `pair_of` and `pairs_of`, which read a tap of any list at any index.
 #![tactic(auto)]
 
 ghost use Rattle.std.specs.Prelude.{◌≡◌, ◌≤◌};
-ghost use Rattle.filter_limits.specs.Limits.{HeldPair, HeldPairs, least_of, unmarked_of, most_of, lowest_of, highest_of};
+ghost use Rattle.filter_limits.specs.Limits.{HeldPair, HeldPairs, further_of, seen_of, pair_limit, limit_of, lowest_of, highest_of};
 
-// a tap and its opposite, as the window holds them
+// Which of the two limits. Kept as a const parameter, LIMIT, of further, seen, pair_limit and limit: as closures, each of the four would take two of them,
+// the choice of two samples and what the mark counts.
+pub const LEAST: bool = false;
+
+pub const GREATEST: bool = true;
+
+// A tap and its opposite, as the window holds them.
 #[derive(Clone, Copy)]
 pub struct Pair {
     pub on: u16,
     pub back: u16,
 }
 
-// the taps of a sample
+// The taps of a sample: p in the direction itself, q in the one 2 further, r in the one 6 further; 0 near, 1 far.
 #[derive(Clone, Copy)]
 pub struct Pairs {
     pub p0: Pair,
@@ -22,48 +29,52 @@ pub struct Pairs {
     pub r1: Pair,
 }
 
-// The lesser of two taps. The mark is above each sample.
-fn least_of(p: Pair) -> u16
-    requires { HeldPair p }
-    ensures { (result ≡ least_of p) × (result ≤ 16384) }
+// The lesser or the greater of two samples.
+pub fn further<const LIMIT: bool>(a: u16, b: u16) -> u16
+    ensures { result ≡ further_of LIMIT a b }
 {
-    arith_sample::least(p.on, p.back)
+    if LIMIT { a.max(b) } else { a.min(b) }
 }
 
-// A tap; 0 where it is marked.
-fn unmarked(t: u16) -> u16
+// A tap as the limit takes it. The mark is above each sample, so it is never the least; for the greatest it counts 0.
+fn seen<const LIMIT: bool>(t: u16) -> u16
     requires { t ≤ 16384 }
-    ensures { result ≡ unmarked_of t }
+    ensures { (result ≡ seen_of LIMIT t) × (result ≤ 16384) }
 {
-    t % arith_sample::MARK
+    if LIMIT { t % arith_sample::MARK } else { t }
 }
 
-// The greater of two taps that are not marked.
-fn most_of(p: Pair) -> u16
+// The lesser or the greater of a tap and its opposite.
+fn pair_limit<const LIMIT: bool>(p: Pair) -> u16
     requires { HeldPair p }
-    ensures { (result ≡ most_of p) × (result ≤ 16384) }
+    ensures { (result ≡ pair_limit LIMIT p) × (result ≤ 16384) }
 {
-    arith_sample::most(unmarked(p.on), unmarked(p.back))
+    further::<LIMIT>(seen::<LIMIT>(p.on), seen::<LIMIT>(p.back))
 }
 
-// The least of the taps and the centre.
+// The least or the greatest of the taps and the centre.
+fn limit<const LIMIT: bool>(e: Pairs, c: u16) -> u16
+    requires { HeldPairs e × (c ≤ 16384) }
+    ensures { (result ≡ limit_of LIMIT e c) × (result ≤ 16384) }
+{
+    let p = further::<LIMIT>(pair_limit::<LIMIT>(e.p0), pair_limit::<LIMIT>(e.p1));
+    let q = further::<LIMIT>(pair_limit::<LIMIT>(e.q0), pair_limit::<LIMIT>(e.q1));
+    let r = further::<LIMIT>(pair_limit::<LIMIT>(e.r0), pair_limit::<LIMIT>(e.r1));
+    further::<LIMIT>(further::<LIMIT>(p, q), further::<LIMIT>(r, c))
+}
+
+// The least of a sample and its taps.
 pub fn lowest(e: Pairs, c: u16) -> u16
     requires { HeldPairs e × (c ≤ 16384) }
     ensures { (result ≡ lowest_of e c) × (result ≤ 16384) }
 {
-    let p = arith_sample::least(least_of(e.p0), least_of(e.p1));
-    let q = arith_sample::least(least_of(e.q0), least_of(e.q1));
-    let r = arith_sample::least(least_of(e.r0), least_of(e.r1));
-    arith_sample::least(arith_sample::least(p, q), arith_sample::least(r, c))
+    limit::<LEAST>(e, c)
 }
 
-// The greatest of them.
+// The greatest of a sample and its taps, marked ones left out.
 pub fn highest(e: Pairs, c: u16) -> u16
     requires { HeldPairs e × (c ≤ 16384) }
     ensures { (result ≡ highest_of e c) × (result ≤ 16384) }
 {
-    let p = arith_sample::most(most_of(e.p0), most_of(e.p1));
-    let q = arith_sample::most(most_of(e.q0), most_of(e.q1));
-    let r = arith_sample::most(most_of(e.r0), most_of(e.r1));
-    arith_sample::most(arith_sample::most(p, q), arith_sample::most(r, c))
+    limit::<GREATEST>(e, c)
 }

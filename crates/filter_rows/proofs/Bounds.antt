@@ -8,7 +8,7 @@ use Rattle.arith_sample.specs.Bounds.{Held}
 use Rattle.arith_sample.proofs.Joins.{Is, add_ok, add_is, back_is}
 use Rattle.filter_rows.specs.Sums.{InRange, pair_at, high_pair, pri_at, side_at, sec_at, low_at, high_at}
 use Rattle.filter_rows.specs.SumsLaws.{high-pair-le}
-use Rattle.filter_rows.specs.Pairs.{con_tap, pair_sum, weighed, pri_sum, sec_sum}
+use Rattle.filter_rows.specs.Pairs.{con_tap, pair_sum, weighed, pri_sum, sec_sum, alone_sum}
 use Rattle.filter_limits.specs.declared.Pair.{Pair}
 use Rattle.filter_limits.specs.declared.Pairs.{Pairs}
 use Rattle.filter_rows.specs.declared.Taps.{Taps}
@@ -95,6 +95,11 @@ module _ (e : Pairs) (c : ℕ) (f : Strength) (m : InRange f) where
   pub size-sec-sum : nat_abs (sec_sum e c f) ≤ 7680
   unfolding sec_sum weighed
   size-sec-sum = (two (scaled m.w0 (two (of e.q0) (of e.r0))) (scaled m.w1 (two (of e.q1) (of e.r1)))).small
+
+  pub size-alone : (b : Bool) → nat_abs (alone_sum b e c f) ≤ 7680
+  unfolding alone_sum
+  size-alone true = size-sec-sum
+  size-alone false = omega (arith, size-pri-sum)
 
 -- a number that is passed to a call
 pub small-back : {x a : ℤ} {m n : ℕ} → Is x a m → m ≤ n → n ≤ 32767 → nat_abs (to_z w16 (of_z w16 x)) ≤ n

@@ -1,5 +1,5 @@
 -- The sums of one sample from its taps as the window holds them; a marked one counts 0. A pair is a tap and its opposite. Definitions only.
-use Rattle.std.specs.Prelude.{ℕ, cond, List, ℤ, pos, ◌+ℤ◌, ◌*ℤ◌, ◌==◌, slice_index}
+use Rattle.std.specs.Prelude.{Bool, ℕ, cond, List, ℤ, pos, ◌+ℤ◌, ◌*ℤ◌, ◌==◌, slice_index}
 use Rattle.arith_sample.specs.Sample.{con_of}
 use Rattle.filter_rows.specs.Place.{on_from, back_from}
 use Rattle.filter_rows.specs.declared.Taps.{Taps}
@@ -39,3 +39,7 @@ sec_sum e c f =
     (pair_sum e.q0 c f.s f.sh +ℤ pair_sum e.r0 c f.s f.sh)
     (pair_sum e.q1 c f.s f.sh +ℤ pair_sum e.r1 c f.s f.sh)
     f
+
+-- the primary (false) or the secondary one (true)
+unfoldable pub alone_sum : Bool → Pairs → ℕ → Strength → ℤ
+alone_sum b e c f = cond b (sec_sum e c f) (pri_sum e c f)

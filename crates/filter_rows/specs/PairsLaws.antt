@@ -9,8 +9,8 @@ use Rattle.arith_sample.specs.Sample.{or_centre, size_of, con_of, moved_of, over
 use Rattle.arith_sample.specs.SampleLaws.{con-above, finish-mark}
 use Rattle.arith_sample.specs.Bounds.{Held}
 use Rattle.filter_rows.specs.Place.{on_from, back_from, tap_on, tap_back}
-use Rattle.filter_rows.specs.Sums.{pair_at, low_pair, high_pair, pri_at, side_at, sec_at, low_at, high_at, filtered_at}
-use Rattle.filter_rows.specs.Pairs.{pair_of, pairs_of, con_tap, pair_sum, weighed, pri_sum, sec_sum}
+use Rattle.filter_rows.specs.Sums.{pair_at, low_pair, high_pair, pri_at, side_at, sec_at, alone_at, low_at, high_at, filtered_at}
+use Rattle.filter_rows.specs.Pairs.{pair_of, pairs_of, con_tap, pair_sum, weighed, pri_sum, sec_sum, alone_sum}
 use Rattle.filter_limits.specs.Limits.{HeldPair, HeldPairs, least_of, unmarked_of, most_of, lowest_of, highest_of}
 use Rattle.filter_rows.specs.declared.Taps.{Taps}
 use Rattle.filter_rows.specs.declared.Strength.{Strength}
@@ -153,8 +153,13 @@ module _ (w : List ℕ) (k : ℕ) (t : Taps) (h : Held w) where
 
   -- the sample filtered with one strength alone, likewise
   module _ (f : Strength) where
-    pub pri-free : free_of (slice_index w k) (pri_sum (pairs_of w k t) (slice_index w k) f) ≡ free_of (slice_index w k) (pri_at w k t f)
+    pri-free : free_of (slice_index w k) (pri_sum (pairs_of w k t) (slice_index w k) f) ≡ free_of (slice_index w k) (pri_at w k t f)
     pri-free = kept (slice_index w k) _ _ (λ n. pri-is n f)
 
-    pub sec-free : free_of (slice_index w k) (sec_sum (pairs_of w k t) (slice_index w k) f) ≡ free_of (slice_index w k) (sec_at w k t f)
+    sec-free : free_of (slice_index w k) (sec_sum (pairs_of w k t) (slice_index w k) f) ≡ free_of (slice_index w k) (sec_at w k t f)
     sec-free = kept (slice_index w k) _ _ (λ n. sec-is n f)
+
+    pub alone-free : (b : Bool) → free_of (slice_index w k) (alone_sum b (pairs_of w k t) (slice_index w k) f) ≡ free_of (slice_index w k) (alone_at b w k t f)
+    unfolding alone_sum alone_at
+    alone-free true = sec-free
+    alone-free false = pri-free

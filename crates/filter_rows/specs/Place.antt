@@ -1,7 +1,5 @@
--- A tap of the window: a wrapped offset, added to an index or subtracted from it.
-use Rattle.std.specs.Prelude.{◌≡◌, ℕ, ◌+◌, ◌-◌, ◌%◌, ◌^◌, ◌<◌, ◌≤◌, ◌⊎◌, List, slice_index}
-use Rattle.std.proofs.Math.Logic.{⊎_elim}
-use Rattle.std.proofs.Common.{arith}
+-- A tap of the window: a wrapped offset, added to an index or subtracted from it. Definitions only.
+use Rattle.std.specs.Prelude.{ℕ, ◌+◌, ◌-◌, ◌%◌, ◌^◌, ◌<◌, ◌≤◌, ◌⊎◌, List, slice_index}
 use Rattle.arith_sample.specs.Sample.{or_centre}
 
 -- at most 26 forward or back, as a wrapped number
@@ -19,18 +17,3 @@ tap_on w k o c = or_centre (slice_index w (on_from k o)) c
 
 unfoldable pub tap_back : List ℕ → ℕ → ℕ → ℕ → ℕ
 tap_back w k o c = or_centre (slice_index w (back_from k o)) c
-
--- the wrapped indices stay in the window
-module _ (k o : ℕ) (lo : 26 ≤ k) (hi : k ≤ 117) (n : Near o) where
-  pub on_in : on_from k o < 144
-  unfolding on_from
-  on_in = ⊎_elim (λ w. omega arith) (λ w. omega arith) n.near
-
-  pub back_in : back_from k o < 144
-  unfolding back_from
-  back_in = ⊎_elim (λ w. omega arith) (λ w. omega arith) n.near
-
-  -- the index from which the offset leads to k
-  pub back_is : (r : ℕ) → r < 2 ^ 64 → (r + o) % 2 ^ 64 ≡ k → r ≡ back_from k o
-  unfolding back_from
-  back_is r h e = ⊎_elim (λ w. omega arith) (λ w. omega arith) n.near

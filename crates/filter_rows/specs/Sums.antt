@@ -1,5 +1,5 @@
 -- The sums of one sample of the window, and the least and the greatest of it and its taps. A pair is a tap and its opposite. Definitions only.
-use Rattle.std.specs.Prelude.{ℕ, ◌≤◌, min, max, List, ℤ, pos, ◌+ℤ◌, ◌*ℤ◌, slice_index, slice_index_or}
+use Rattle.std.specs.Prelude.{Bool, cond, ℕ, ◌≤◌, min, max, List, ℤ, pos, ◌+ℤ◌, ◌*ℤ◌, slice_index, slice_index_or}
 use Rattle.arith_sample.specs.Sample.{con_of, finish_of}
 use Rattle.filter_rows.specs.Place.{Near, tap_on, tap_back}
 use Rattle.filter_rows.specs.declared.Taps.{Taps}
@@ -46,6 +46,10 @@ side_at w k q r v s sh =
 -- the near ones, and the far ones
 unfoldable pub sec_at : List ℕ → ℕ → Taps → Strength → ℤ
 sec_at w k t f = side_at w k t.q0 t.r0 f.w0 f.s f.sh +ℤ side_at w k t.q1 t.r1 f.w1 f.s f.sh
+
+-- the primary (false) or the secondary ones (true)
+unfoldable pub alone_at : Bool → List ℕ → ℕ → Taps → Strength → ℤ
+alone_at b w k t f = cond b (sec_at w k t f) (pri_at w k t f)
 
 -- the least and the greatest of the sample at index k and its taps; a marked tap counts as the sample
 unfoldable pub low_at : List ℕ → ℕ → Taps → ℕ

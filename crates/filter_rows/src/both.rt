@@ -1,4 +1,7 @@
 // The taps of a sample as the window holds them, their sums, and the sample filtered with both strengths. Each of its taps is loaded once.
+// The clauses and the parameters stay as in lib.rt (Kept), whose head says why.
+// pair_sum, pri_sum and sec_sum are Kept beside those of plane_taps::plain, which make no test for the mark: as one function with a const parameter each of
+// the three, and each of their definitions, would take it as well.
 ghost use Rattle.std.specs.Prelude.{◌≡◌, ◌≤◌, unsigned_abs};
 ghost use Rattle.arith_sample.specs.Bounds.{Held};
 ghost use Rattle.filter_rows.specs.Place.{Near};
@@ -9,18 +12,19 @@ ghost use Rattle.filter_limits.specs.Limits.{HeldPair, HeldPairs};
 use crate::{Strength, Taps};
 use filter_limits::{Pair, Pairs};
 
+// The tap at an offset from k, and the opposite one.
+// Kept beside plane_taps::load::load, which has the same body in a crate above: it asks Reached of its index, this one Near of the offset.
 fn load_pair(w: &[u16; 144], k: usize, o: usize) -> Pair
     requires { (26 ≤ k) × (k ≤ 117) × Near o }
     ensures { result ≡ pair_of w.now k o }
 {
-    let i = std::num::wrapping_add_usize(k, o);
-    let j = std::num::wrapping_sub_usize(k, o);
     Pair {
-        on: w[i],
-        back: w[j],
+        on: w[k.wrapping_add(o)],
+        back: w[k.wrapping_sub(o)],
     }
 }
 
+// The taps of the sample at k.
 pub fn load_pairs(w: &[u16; 144], k: usize, t: Taps) -> Pairs
     requires { (26 ≤ k) × (k ≤ 117) × Near6 t }
     ensures { result ≡ pairs_of w.now k t }
@@ -44,11 +48,15 @@ fn constrain(t: u16, c: u16, s: u16, sh: u32) -> i16
     if t == arith_sample::MARK { 0 } else { d }
 }
 
-fn pair_sum(p: Pair, c: u16, s: u16, sh: u32) -> i16
-    requires { HeldPair p × (c ≤ 16384) × (s ≤ 240) × (sh ≤ 15) }
-    ensures { result ≡ pair_sum p c s sh }
+// A tap and its opposite, constrained; a marked one counts 0.
+fn pair_sum(p: Pair, c: u16, f: Strength) -> i16
+    requires { HeldPair p × (c ≤ 16384) × InRange f }
+    ensures { result ≡ pair_sum p c f.s f.sh }
 {
-    arith_sample::add(constrain(p.on, c, s, sh), constrain(p.back, c, s, sh))
+    arith_sample::add(
+        constrain(p.on, c, f.s, f.sh),
+        constrain(p.back, c, f.s, f.sh),
+    )
 }
 
 // The near and the far taps' sums by their weights.
@@ -59,23 +67,21 @@ pub fn weigh(a: i16, b: i16, f: Strength) -> i16
     arith_sample::add(arith_sample::scale(f.w0, a), arith_sample::scale(f.w1, b))
 }
 
+// The primary taps' sum.
 pub fn pri_sum(e: Pairs, c: u16, f: Strength) -> i16
     requires { HeldPairs e × (c ≤ 16384) × InRange f }
     ensures { result ≡ pri_sum e c f }
 {
-    weigh(
-        pair_sum(e.p0, c, f.s, f.sh),
-        pair_sum(e.p1, c, f.s, f.sh),
-        f,
-    )
+    weigh(pair_sum(e.p0, c, f), pair_sum(e.p1, c, f), f)
 }
 
+// The secondary taps' sum.
 pub fn sec_sum(e: Pairs, c: u16, f: Strength) -> i16
     requires { HeldPairs e × (c ≤ 16384) × InRange f }
     ensures { result ≡ sec_sum e c f }
 {
-    let a = arith_sample::add(pair_sum(e.q0, c, f.s, f.sh), pair_sum(e.r0, c, f.s, f.sh));
-    let b = arith_sample::add(pair_sum(e.q1, c, f.s, f.sh), pair_sum(e.r1, c, f.s, f.sh));
+    let a = arith_sample::add(pair_sum(e.q0, c, f), pair_sum(e.r0, c, f));
+    let b = arith_sample::add(pair_sum(e.q1, c, f), pair_sum(e.r1, c, f));
     weigh(a, b, f)
 }
 

@@ -1,4 +1,8 @@
 // Rows of eight samples of the window, filtered, returned by value.
+// Kept as clauses, InRange of a strength and Near6 of taps: as ghost fields they would ask a proof of pri_of, sec_of, pri_in, sec_in and taps_by, which
+// name a strength of any numbers and taps of any pitch; taps of a plane (plane_taps) are not Near6. Held of a window likewise: it is any 144 numbers.
+// The bounds of a row and of an index (26 ≤ row ≤ 110, 26 ≤ k ≤ 117) are Kept as clauses: a struct with such a ghost field would be made anew for each
+// row, and for each sample of it. Window, taps and strengths are Kept apart: a row takes both strengths or one of them, and the sums below take a strength and no taps.
 #![tactic(auto)]
 
 pub mod alone; // alone.rt: rows filtered with one strength
@@ -11,7 +15,8 @@ ghost use Rattle.filter_rows.specs.Sums.{Near6, InRange, filtered_at};
 
 use std::array;
 
-// offsets of the taps in a window of pitch 12, wrapped; the opposite tap lies as far the other way
+// The offsets of a sample's taps in a list, wrapped; the opposite tap lies as far the other way.
+// p in the direction itself, q in the one 2 further, r in the one 6 further; 0 near, 1 far.
 #[derive(Clone, Copy)]
 pub struct Taps {
     pub p0: usize,
@@ -22,7 +27,7 @@ pub struct Taps {
     pub r1: usize,
 }
 
-// a strength, its shift, and the weights of the near and the far taps
+// A strength, its shift, and the weights of the near and the far taps.
 #[derive(Clone, Copy)]
 pub struct Strength {
     pub s: u16,

@@ -1,4 +1,5 @@
 // The 12 by 12 samples around a block: those examined, and 16384 elsewhere.
+// Kept as a clause, BeginsIn: it joins a block and a plane, of which each stands without the other in every call above.
 #![tactic(auto)]
 
 ghost use Rattle.std.specs.Prelude.{◌≡◌, true, ◌+◌, ◌*◌, ◌≤◌, ◌<◌};
@@ -9,7 +10,9 @@ ghost use Rattle.filter_window.specs.Spans.{SpanOf, BeginsIn, Inside};
 
 use cdef_spec::Block;
 use cdef_spec::full::FullPlane;
+
 // The window's rows or columns that are examined: from lo on, below hi.
+// Kept beside std's Range<usize>: of `cols` the ends alone are used, as parts of an index, so that cols.start and cols.end would read as lo and hi do here.
 #[derive(Clone, Copy)]
 pub struct Span {
     pub lo: usize,
@@ -28,6 +31,7 @@ fn looked_at(at: usize, n: usize, m: usize) -> Span
 }
 
 // The window of any block: in each row that is examined, the columns that are.
+// Kept by index: of `out.chunks_exact_mut(12)` the check knows afterwards the length and no entry, so what the window holds stays open.
 fn window_part(src: &FullPlane<'_>, b: Block) -> [u16; 144]
     requires { BeginsIn src.now b }
     ensures { result ≡ upto (window_at (plane_in_full src.now) b) 144 }
@@ -46,6 +50,7 @@ fn window_part(src: &FullPlane<'_>, b: Block) -> [u16; 144]
 }
 
 // The window of a block inside the plane: the rows that are examined, eight samples of each, and four more of a block eight wide.
+// Kept by index, as in window_part. Kept beside it: with window_part alone the filter of a block took 1.04 to 1.14 times as long, the chroma trial 1.04 times.
 fn window_inside(src: &FullPlane<'_>, b: Block) -> [u16; 144]
     requires { BeginsIn src.now b × Inside src.now.width src.now.height b }
     ensures { result ≡ upto (window_at (plane_in_full src.now) b) 144 }
@@ -67,12 +72,7 @@ fn lies_inside(w: usize, h: usize, b: Block) -> bool
     requires { (b.x ≤ 4096) × (b.y ≤ 4096) × (b.width ≤ 8) × (b.height ≤ 8) }
     ensures { result ≡ true → Inside w h b }
 {
-    b.width % 4 == 0
-        && b.width != 0
-        && 2 <= b.x
-        && 2 <= b.y
-        && b.x + b.width + 2 <= w
-        && b.y + b.height + 2 <= h
+    b.width % 4 == 0 && b.width != 0 && plane_inside::inside(w, h, b.x, b.y, b.width, b.height)
 }
 
 // The window of a block of a plane.

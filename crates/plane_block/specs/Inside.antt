@@ -6,6 +6,8 @@ use Rattle.cdef_spec.specs.declared.FilterParams.{FilterParams}
 use Rattle.cdef_spec.specs.Document01.{filtered}
 use Rattle.cdef_spec.specs.LoopForm.{put_block}
 use Rattle.cdef_spec.specs.Lent.{plane_in_full}
+use Rattle.filter_rows.specs.declared.Strength.{Strength}
+use Rattle.plane_rows.specs.Rows.{pri_in, sec_in}
 
 -- ---- a block and its parameters, as they are passed
 
@@ -35,6 +37,12 @@ pub record Bytes (depth s sh s2 sh2 : ℕ) : Type 0 where
   pub sec : s2 ≤ 4
   pub some2 : 1 ≤ s2
   pub sec-shift : sh2 < 8
+
+-- strengths whose weights are the filter's: near and 6 - near (near 3 or more), 2 and 1
+pub record Weighted (f g : Strength) : Type 0 where
+  pub least : 3 ≤ f.w0
+  pub pri : pri_in f.s f.sh f.w0 ≡ f
+  pub sec : sec_in g.s g.sh ≡ g
 
 -- the block of cols by rows samples of a plane at row y and column x, filtered and stored in d, whose first row is the plane's row y0 (at most y)
 abbrev pub stored_block : List ℕ → FullPlane → FilterParams → ℕ → ℕ → ℕ → ℕ → ℕ → List ℕ

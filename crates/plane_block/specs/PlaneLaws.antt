@@ -18,7 +18,7 @@ use Rattle.arith_sample.specs.Sample.{or_centre}
 use Rattle.arith_sample.specs.Bounds.{Held}
 use Rattle.arith_sample.specs.Upto.{upto}
 use Rattle.filter_rows.specs.Place.{tap_on, tap_back}
-use Rattle.filter_rows.specs.Sums.{pair_at, low_pair, high_pair, pri_at, side_at, sec_at, low_at, high_at, filtered_at}
+use Rattle.filter_rows.specs.Sums.{InRange, pair_at, low_pair, high_pair, pri_at, side_at, sec_at, low_at, high_at, filtered_at}
 use Rattle.filter_rows.specs.declared.Strength.{Strength}
 use Rattle.filter_window.specs.Window.{plane_of, window_at}
 use Rattle.filter_window.specs.WindowLaws.{sample_in}
@@ -29,7 +29,7 @@ use Rattle.plane_taps.specs.Steps.{step_by, step_in, taps_by, taps_in}
 use Rattle.plane_taps.specs.StepLaws.{on-lands, back-lands, taps-reach}
 use Rattle.plane_taps.specs.Reach.{Around}
 use Rattle.plane_taps.specs.ReachLaws.{around-of}
-use Rattle.plane_rows.specs.Rows.{Strong, pri_in, sec_in, inside_tap}
+use Rattle.plane_rows.specs.Rows.{pri_in, sec_in, inside_tap}
 use Rattle.plane_block.specs.Inside.{Inner}
 use Rattle.plane_inside.specs.Inner.{inner_block}
 
@@ -163,9 +163,13 @@ module _ (s s2 d depth : ℕ) where
   unfolding sec_in sec_of
   sec-passed = refl
 
-  pub strong-passed : s ≤ 240 → s2 ≤ 240 → Strong (pri_of s d depth).s (pri_of s d depth).sh (pri_of s d depth).w0 (sec_of s2 d).s (sec_of s2 d).sh
-  unfolding pri_of sec_of shift_of
-  strong-passed h k = record { pri = h; pri-shift = omega arith; least = omega arith; most = omega arith; sec = k; sec-shift = omega arith }
+  pub pri-range : s ≤ 240 → InRange (pri_of s d depth)
+  unfolding pri_of shift_of
+  pri-range h = record { s = h; sh = omega arith; w0 = omega arith; w1 = omega arith }
+
+  pub sec-range : s2 ≤ 240 → InRange (sec_of s2 d)
+  unfolding sec_of shift_of
+  sec-range h = record { s = h; sh = omega arith; w0 = omega arith; w1 = omega arith }
 
 -- n samples, and two rows and two columns more on each side
 pub around : (len w at n dir : ℕ) → w ≤ 4096 → dir < 8 → 2 * w + 2 ≤ at → at + n + (2 * w + 2) ≤ len → len ≤ 2 ^ 24 → Around len at n (taps_in w dir)

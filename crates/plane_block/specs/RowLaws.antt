@@ -4,11 +4,12 @@ use Rattle.std.proofs.Common.{arith}
 use Rattle.std.proofs.Math.Decide.{dec_le}
 use Rattle.filter_rows.specs.declared.Taps.{Taps}
 use Rattle.filter_rows.specs.declared.Strength.{Strength}
+use Rattle.filter_rows.specs.Sums.{InRange}
 use Rattle.filter_kernel.specs.Kernel.{pri_of}
 use Rattle.plane_taps.specs.Reach.{Along, Around}
-use Rattle.plane_rows.specs.Rows.{Strong, Stored}
-use Rattle.plane_bytes.specs.Eights.{Strong8}
-use Rattle.plane_block.specs.Inside.{Bytes}
+use Rattle.plane_rows.specs.Rows.{Stored}
+use Rattle.plane_bytes.specs.Eights.{StrongBytes}
+use Rattle.plane_block.specs.Inside.{Bytes, Weighted}
 
 -- a row and the next one
 joined : (len w k o : ℕ) → Along len k 8 o → Along len (k + w) 8 o → Along len k (w + 8) o
@@ -40,8 +41,12 @@ two-rows len m w at to n t u e h i l =
 pub stored-as : (l d last : List ℕ) (w at to : ℕ) (t u : Taps) (f g : Strength) (m n : ℕ) → t ≡ u → m ≡ n → Stored l d last w at to t f g 8 m → Stored l d last w at to u f g 8 n
 stored-as l d last w at to t u f g m n e k h = rw (← e, ← k) h
 
-pub eighth-is : {depth s sh near s2 sh2 : ℕ} → Bytes depth s sh s2 sh2 → Strong s sh near s2 sh2 → 3 ≤ near → Strong8 s sh near s2 sh2
-eighth-is b g l = record { pri = b.pri; some = b.some; pri-shift = b.pri-shift; least = l; most = g.most; sec = b.sec; some2 = b.some2; sec-shift = b.sec-shift }
+pub eighth-is : {depth : ℕ} {f g : Strength} → Bytes depth f.s f.sh g.s g.sh → InRange f → Weighted f g → StrongBytes f g
+eighth-is b r m = record {
+  strong = record { pri = b.pri; some = b.some; pri-shift = b.pri-shift; least = m.least; most = r.w0; sec = b.sec; some2 = b.some2; sec-shift = b.sec-shift };
+  pri = m.pri;
+  sec = m.sec;
+}
 
 -- the near weight of the primary taps
 pub near-least : (s d depth : ℕ) → 3 ≤ (pri_of s d depth).w0

@@ -1,4 +1,6 @@
 // Blocks of a plane without marks: those two samples or more inside it are filtered straight from the plane, the others through their window.
+// The parameters (dst, y0, src) stay apart, and BeginsIn, y0 ≤ b.y and Usable stay clauses (Kept): the head of filter_block says why; of AllLow and AllByte
+// that of plane_rows.
 #![tactic(auto)]
 
 ghost use Rattle.std.specs.Prelude.{◌≡◌, ◌+◌, ◌-◌, ◌*◌, ◌≤◌, min, length};
@@ -13,8 +15,8 @@ mod rows; // rows.rt: rows of eight samples
 use cdef_spec::full::FullPlane;
 use cdef_spec::{Block, FilterParams, WorkingDamping};
 
-// Filters a block inside the plane into a destination whose first row is the plane's row y0. Its sides and parameters are passed one by one:
-// as structs they went through memory once more, and a block of 4 by 4 took a quarter longer.
+// Filters a block inside the plane into a destination whose first row is the plane's row y0. Kept one by one, its sides and parameters:
+// as structs they went through memory once more, and a block of 4 by 4 took a quarter longer (applying chroma 1.28 times).
 fn filter_inside(
     dst: &mut [u16],
     y0: usize,
@@ -43,40 +45,14 @@ fn filter_inside(
     let to = (y - y0) * w + x;
     let dir = dir as usize;
     if bw == 8 {
-        rows::eight_wide(
-            dst,
-            to,
-            src.samples,
-            w,
-            at,
-            bh,
-            dir,
-            depth,
-            f.s,
-            f.sh,
-            f.w0,
-            g.s,
-            g.sh,
-        );
+        rows::eight_wide(dst, to, src.samples, w, at, bh, dir, depth, f, g);
         return;
     }
-    plane_fours::rows(dst, to, src.samples, w, at, dir, f.s, f.sh, f.w0, g.s, g.sh);
+    plane_fours::rows(dst, to, src.samples, w, at, dir, f, g);
     if bh == 4 {
         return;
     }
-    plane_fours::rows(
-        dst,
-        to + 4 * w,
-        src.samples,
-        w,
-        at + 4 * w,
-        dir,
-        f.s,
-        f.sh,
-        f.w0,
-        g.s,
-        g.sh,
-    );
+    plane_fours::rows(dst, to + 4 * w, src.samples, w, at + 4 * w, dir, f, g);
 }
 
 // Filters a block of the plane src into a destination whose first row is the plane's row y0.

@@ -1,5 +1,5 @@
 -- One sample from its taps in bytes: what is above the centre and what is below it are summed apart. Definitions only.
-use Rattle.std.specs.Prelude.{◌≡◌, ℕ, ◌+◌, ◌-◌, min, max, ◌⊎◌}
+use Rattle.std.specs.Prelude.{◌≡◌, Bool, cond, ℕ, ◌+◌, ◌-◌, min, max, ◌⊎◌}
 use Rattle.plane_byte.specs.Arithmetic.{above_of, excess_of}
 
 -- two opposite taps a and b: the sum of what is above the centre c, and of what is below it
@@ -41,6 +41,26 @@ high_four a0 b0 a1 b1 c = max (max (a0 - c) (b0 - c)) (max (a1 - c) (b1 - c))
 
 unfoldable pub low_four : ℕ → ℕ → ℕ → ℕ → ℕ → ℕ
 low_four a0 b0 a1 b1 c = max (max (c - a0) (c - b0)) (max (c - a1) (c - b1))
+
+-- the same above the centre (true) or below it (false): how far a tap is, constrained, of a pair, of the primary and of the secondary taps;
+-- how far it is, and the most of it of four
+unfoldable pub apart_of : Bool → ℕ → ℕ → ℕ → ℕ → ℕ
+apart_of u t c s sh = cond u (above_of t c s sh) (above_of c t s sh)
+
+unfoldable pub pair_of : Bool → ℕ → ℕ → ℕ → ℕ → ℕ → ℕ
+pair_of u a b c s sh = cond u (up_pair a b c s sh) (down_pair a b c s sh)
+
+unfoldable pub pri_of : Bool → ℕ → ℕ → ℕ → ℕ → ℕ → ℕ → ℕ → ℕ → ℕ
+pri_of u a0 b0 a1 b1 c s sh odd = cond u (up_pri a0 b0 a1 b1 c s sh odd) (down_pri a0 b0 a1 b1 c s sh odd)
+
+unfoldable pub sec_of : Bool → ℕ → ℕ → ℕ → ℕ → ℕ → ℕ → ℕ → ℕ → ℕ → ℕ → ℕ → ℕ
+sec_of u a0 b0 a1 b1 a2 b2 a3 b3 c s sh = cond u (up_sec a0 b0 a1 b1 a2 b2 a3 b3 c s sh) (down_sec a0 b0 a1 b1 a2 b2 a3 b3 c s sh)
+
+unfoldable pub past_of : Bool → ℕ → ℕ → ℕ
+past_of u t c = cond u (t - c) (c - t)
+
+unfoldable pub four_of : Bool → ℕ → ℕ → ℕ → ℕ → ℕ → ℕ
+four_of u a0 b0 a1 b1 c = cond u (high_four a0 b0 a1 b1 c) (low_four a0 b0 a1 b1 c)
 
 -- the sample from its sums, clipped; at most one of the two corrections is not 0
 unfoldable pub clipped_of : ℕ → ℕ → ℕ → ℕ → ℕ → ℕ

@@ -1,7 +1,7 @@
 -- Bounds of the numbers from which a sample is computed in bytes.
-use Rattle.std.specs.Prelude.{◌≡◌, ℕ, ◌+◌, ◌-◌, ◌*◌, ◌<◌, ◌≤◌, min, max}
-use Rattle.std.proofs.Common.{⊎_elim, arith}
-use Rattle.plane_bytes.specs.Byte.{Mask, weigh_pri, high_four, low_four}
+use Rattle.std.specs.Prelude.{◌≡◌, Bool, true, false, ℕ, ◌+◌, ◌-◌, ◌*◌, ◌<◌, ◌≤◌, min, max}
+use Rattle.std.proofs.Common.{⊎_elim, refl, arith}
+use Rattle.plane_bytes.specs.Byte.{Mask, weigh_pri, weigh_sec, up_pair, down_pair, up_pri, down_pri, up_sec, down_sec, high_four, low_four, apart_of, pair_of, pri_of, sec_of, past_of, four_of}
 use Rattle.plane_byte.specs.Arithmetic.{above_of}
 
 pub above-le : (a b s sh : ℕ) → above_of a b s sh ≤ s
@@ -38,3 +38,25 @@ high_le a0 b0 a1 b1 c h0 h1 h2 h3 hc = rw (less-max a0 b0 c, less-max a1 b1 c, l
 pub low-le : (a0 b0 a1 b1 c : ℕ) → low_four a0 b0 a1 b1 c ≤ c
 unfolding low_four
 low-le a0 b0 a1 b1 c = rw (less-min a0 b0 c, less-min a1 b1 c, less-min (min a0 b0) (min a1 b1) c) (omega arith)
+
+-- ---- the two sides alike
+
+pub pair-is : (u : Bool) (a b c s sh : ℕ) → apart_of u a c s sh + apart_of u b c s sh ≡ pair_of u a b c s sh
+unfolding apart_of pair_of up_pair down_pair
+pair-is true a b c s sh = refl
+pair-is false a b c s sh = refl
+
+pub pri-is : (u : Bool) (a0 b0 a1 b1 c s sh odd : ℕ) → weigh_pri (pair_of u a0 b0 c s sh) (pair_of u a1 b1 c s sh) odd ≡ pri_of u a0 b0 a1 b1 c s sh odd
+unfolding pair_of pri_of up_pri down_pri
+pri-is true a0 b0 a1 b1 c s sh odd = refl
+pri-is false a0 b0 a1 b1 c s sh odd = refl
+
+pub sec-is : (u : Bool) (a0 b0 a1 b1 a2 b2 a3 b3 c s sh : ℕ) → weigh_sec (pair_of u a0 b0 c s sh + pair_of u a2 b2 c s sh) (pair_of u a1 b1 c s sh + pair_of u a3 b3 c s sh) ≡ sec_of u a0 b0 a1 b1 a2 b2 a3 b3 c s sh
+unfolding pair_of sec_of up_sec down_sec
+sec-is true a0 b0 a1 b1 a2 b2 a3 b3 c s sh = refl
+sec-is false a0 b0 a1 b1 a2 b2 a3 b3 c s sh = refl
+
+pub four-is : (u : Bool) (a0 b0 a1 b1 c : ℕ) → max (max (past_of u a0 c) (past_of u b0 c)) (max (past_of u a1 c) (past_of u b1 c)) ≡ four_of u a0 b0 a1 b1 c
+unfolding past_of four_of high_four low_four
+four-is true a0 b0 a1 b1 c = refl
+four-is false a0 b0 a1 b1 c = refl

@@ -1,9 +1,9 @@
 -- Two rows of eight samples: where they lie, and what is kept of them.
 use Rattle.std.specs.Prelude.{◌≡◌, ℕ, ◌+◌, ◌-◌, ◌*◌, ◌/◌, ◌%◌, ◌<◌, ◌≤◌, List, length, slice_index, slice_index_or}
-use Rattle.std.proofs.Common.{ap, ◌∙◌, mul-le-mul_right, inl, inr}
+use Rattle.std.proofs.Common.{ext_get_or, refl, sym, ap, ◌∙◌, inl, inr}
 use native.Mathlib.Omega.{arith}
 use Rattle.std.proofs.Math.Decide.{dec_le}
-use Rattle.arith_sample.specs.Upto.{upto, get_or-upto, upto-ext}
+use Rattle.arith_sample.specs.Upto.{upto, length-upto, get_or-upto, upto-ext, upto-all-of}
 use Rattle.filter_rows.specs.Place.{on_from, back_from}
 use Rattle.filter_rows.specs.Pairs.{pair_of}
 use Rattle.filter_rows.specs.Sums.{InRange, filtered_at}
@@ -14,12 +14,12 @@ use Rattle.plane_taps.specs.Plain.{AllLow}
 use Rattle.plane_taps.specs.PlainLaws.{both-plain}
 use Rattle.plane_taps.specs.Reach.{Along}
 use Rattle.plane_rows.specs.Rows.{pri_in, sec_in, placed, KernelRows}
-use Rattle.plane_taps.specs.ReachLaws.{on-along, back-along}
 use Rattle.plane_rows.specs.LaneLaws.{kernel-both}
 use Rattle.plane_rows.specs.StoreLaws.{kept}
 use Rattle.plane_bytes.specs.Byte.{Mask, both_of}
 use Rattle.plane_bytes.specs.FinishLaws.{both_is}
-use Rattle.plane_bytes.specs.Eights.{AllByte, Strong8, eight_at, centre_run8, on_run8, back_run8}
+use Rattle.plane_taps.specs.Runs.{Wide, at_by, run_by, on_by, back_by}
+use Rattle.plane_bytes.specs.Eights.{AllByte, Strong8, eight_at}
 
 -- ---- strengths
 
@@ -32,14 +32,6 @@ module _ {s sh near s2 sh2 : ℕ} (e : Strong8 s sh near s2 sh2) where
   unfolding sec_in
   sec-in = record { s = omega (arith, e.sec); sh = omega (arith, e.sec-shift); w0 = omega arith; w1 = omega arith }
 
-  pub pri-some : (pri_in s sh near).s ≡ 0 → ⊥
-  unfolding pri_in
-  pri-some z = omega (arith, e.some, z)
-
-  pub sec-some : (sec_in s2 sh2).s ≡ 0 → ⊥
-  unfolding sec_in
-  sec-some z = omega (arith, e.some2, z)
-
   pub mask_is : {odd : ℕ} → odd ≡ (4 - near) * 255 → Mask odd
   mask_is {odd} h = go (dec_le near 3)
     where
@@ -49,27 +41,15 @@ module _ {s sh near s2 sh2 : ℕ} (e : Strong8 s sh near s2 sh2) where
 
 -- ---- places
 
-eight-in : (w j : ℕ) → j < 16 → j / 8 * w + j % 8 < w + 8
-eight-in w j h =
-    let a : j / 8 ≤ 1 = omega arith in
-    let b : j / 8 * w ≤ 1 * w = mul-le-mul_right w a in
-    omega arith
+pub wide_eight : Wide 8
+wide_eight = record { is = inr refl }
 
-pub row_in : (w i : ℕ) → i < 2 → i * w ≤ w
-row_in w i h = let a : i ≤ 1 = omega arith in omega (arith, mul-le-mul_right w a)
-
-module _ (w : ℕ) {len k o : ℕ} (a : Along len k (w + 8) o) (j : ℕ) (h : j < 16) where
-  pub on-eight : on_from (eight_at w k j) o ≡ eight_at w (on_from k o) j
-  unfolding eight_at
-  on-eight = on-along a (j / 8 * w + j % 8) (eight-in w j h)
-
-  pub back-eight : back_from (eight_at w k j) o ≡ eight_at w (back_from k o) j
-  unfolding eight_at
-  back-eight = back-along a (j / 8 * w + j % 8) (eight-in w j h)
+pub along-eight : (w : ℕ) {len k o : ℕ} → Along len k (w + 8) o → Along len k ((16 / 8 - 1) * w + 8) o
+along-eight w a = let e : (16 / 8 - 1) * w ≡ w = omega arith in rw e a
 
 -- sample j of row i
 pub eight-place : (w k i j : ℕ) → j < 8 → eight_at w k (i * 8 + j) ≡ k + i * w + j
-unfolding eight_at
+unfolding at_by
 eight-place w k i j h =
     let a : (i * 8 + j) / 8 ≡ i = omega arith in
     let b : (i * 8 + j) % 8 ≡ j = omega arith in
@@ -80,34 +60,53 @@ eight-place w k i j h =
 pub low_of : {l : List ℕ} → AllByte l → AllLow l
 low_of b = record { all = λ k. omega (arith, b.all k) }
 
-pub run-byte : (l : List ℕ) (w k n : ℕ) → AllByte l → n < 16 → slice_index (centre_run8 l w k) n < 256
-unfolding centre_run8
-run-byte l w k n b h = rw (get_or-upto (λ (j : ℕ). slice_index l (eight_at w k j)) 16 n 0 h) (b.all (eight_at w k n))
+module _ (l : List ℕ) (b : AllByte l) (w k : ℕ) where
+  chosen : (g : ℕ → ℕ) → AllByte (upto (λ j. slice_index l (g j)) 16)
+  chosen g = record { all = upto-all-of (λ (v : ℕ). v < 256) (λ j. slice_index l (g j)) 16 0 (λ j. b.all (g j)) (omega arith) }
+
+  pub run-byte : AllByte (run_by 8 l w k)
+  unfolding run_by
+  run-byte = chosen (eight_at w k)
+
+  pub on-byte : (o : ℕ) → AllByte (on_by 8 l w k o)
+  unfolding on_by
+  on-byte o = chosen (λ j. on_from (eight_at w k j) o)
+
+  pub back-byte : (o : ℕ) → AllByte (back_by 8 l w k o)
+  unfolding back_by
+  back-byte o = chosen (λ j. back_from (eight_at w k j) o)
+
+-- sixteen entries one by one
+pub entries : (v : List ℕ) → length v ≡ 16 → upto (slice_index v) 16 ≡ v
+entries v e = ext_get_or 0 (upto (slice_index v) 16) v (length-upto (slice_index v) 16 ∙ sym e) (λ k l. get_or-upto (slice_index v) 16 k 0 (omega (arith, length-upto (slice_index v) 16)))
+
+pub run-entries : (g : ℕ → ℕ) → upto (slice_index (upto g 16)) 16 ≡ upto g 16
+run-entries g = entries (upto g 16) (length-upto g 16)
 
 module _ (l : List ℕ) (w k n : ℕ) (h : n < 16) where
-  pub centre-is : slice_index_or (centre_run8 l w k) n 0 ≡ slice_index l (eight_at w k n)
-  unfolding centre_run8
+  pub centre-is : slice_index_or (run_by 8 l w k) n 0 ≡ slice_index l (eight_at w k n)
+  unfolding run_by
   centre-is = get_or-upto (λ (j : ℕ). slice_index l (eight_at w k j)) 16 n 0 h
 
-  on-is : (o : ℕ) → slice_index (on_run8 l w k o) n ≡ slice_index l (on_from (eight_at w k n) o)
-  unfolding on_run8
+  on-is : (o : ℕ) → slice_index (on_by 8 l w k o) n ≡ slice_index l (on_from (eight_at w k n) o)
+  unfolding on_by
   on-is o = get_or-upto (λ (j : ℕ). slice_index l (on_from (eight_at w k j) o)) 16 n 0 h
 
-  back_is : (o : ℕ) → slice_index (back_run8 l w k o) n ≡ slice_index l (back_from (eight_at w k n) o)
-  unfolding back_run8
+  back_is : (o : ℕ) → slice_index (back_by 8 l w k o) n ≡ slice_index l (back_from (eight_at w k n) o)
+  unfolding back_by
   back_is o = get_or-upto (λ (j : ℕ). slice_index l (back_from (eight_at w k j) o)) 16 n 0 h
 
 module _ (l : List ℕ) (b : AllByte l) (w k : ℕ) (t : Taps) (s sh near s2 sh2 : ℕ) (e : Strong8 s sh near s2 sh2) where
   lane : List ℕ → List ℕ → List ℕ → List ℕ → List ℕ → List ℕ → List ℕ → List ℕ → List ℕ → List ℕ → List ℕ → List ℕ → List ℕ → ℕ → ℕ
   lane c a0 b0 a1 b1 a2 b2 a3 b3 a4 b4 a5 b5 n = both_of (slice_index a0 n) (slice_index b0 n) (slice_index a1 n) (slice_index b1 n) (slice_index a2 n) (slice_index b2 n) (slice_index a3 n) (slice_index b3 n) (slice_index a4 n) (slice_index b4 n) (slice_index a5 n) (slice_index b5 n) (slice_index c n) s sh ((4 - near) * 255) s2 sh2
 
-  one : (n : ℕ) → n < 16 → both_of (slice_index (on_run8 l w k t.p0) n) (slice_index (back_run8 l w k t.p0) n) (slice_index (on_run8 l w k t.p1) n) (slice_index (back_run8 l w k t.p1) n) (slice_index (on_run8 l w k t.q0) n) (slice_index (back_run8 l w k t.q0) n) (slice_index (on_run8 l w k t.q1) n) (slice_index (back_run8 l w k t.q1) n) (slice_index (on_run8 l w k t.r0) n) (slice_index (back_run8 l w k t.r0) n) (slice_index (on_run8 l w k t.r1) n) (slice_index (back_run8 l w k t.r1) n) (slice_index (centre_run8 l w k) n) s sh ((4 - near) * 255) s2 sh2 ≡ filtered_at l (eight_at w k n) t (pri_in s sh near) (sec_in s2 sh2)
+  one : (n : ℕ) → n < 16 → both_of (slice_index (on_by 8 l w k t.p0) n) (slice_index (back_by 8 l w k t.p0) n) (slice_index (on_by 8 l w k t.p1) n) (slice_index (back_by 8 l w k t.p1) n) (slice_index (on_by 8 l w k t.q0) n) (slice_index (back_by 8 l w k t.q0) n) (slice_index (on_by 8 l w k t.q1) n) (slice_index (back_by 8 l w k t.q1) n) (slice_index (on_by 8 l w k t.r0) n) (slice_index (back_by 8 l w k t.r0) n) (slice_index (on_by 8 l w k t.r1) n) (slice_index (back_by 8 l w k t.r1) n) (slice_index (run_by 8 l w k) n) s sh ((4 - near) * 255) s2 sh2 ≡ filtered_at l (eight_at w k n) t (pri_in s sh near) (sec_in s2 sh2)
   unfolding pair_of
   one n h = rw (centre-is l w k n h, on-is l w k n h t.p0, back_is l w k n h t.p0, on-is l w k n h t.p1, back_is l w k n h t.p1, on-is l w k n h t.q0, back_is l w k n h t.q0, on-is l w k n h t.q1, back_is l w k n h t.q1, on-is l w k n h t.r0, back_is l w k n h t.r0, on-is l w k n h t.r1, back_is l w k n h t.r1)
       (both_is _ _ _ _ _ _ _ _ _ _ _ _ _ s sh near s2 sh2 e.pri e.least e.most (b.all (eight_at w k n)) ∙ both-plain l (low_of b) (eight_at w k n) t (pri_in s sh near) (sec_in s2 sh2))
 
   -- the lists of taps, and what is computed of them
-  pub both-eight : {r c a0 b0 a1 b1 a2 b2 a3 b3 a4 b4 a5 b5 : List ℕ} {odd : ℕ} → c ≡ centre_run8 l w k → a0 ≡ on_run8 l w k t.p0 → b0 ≡ back_run8 l w k t.p0 → a1 ≡ on_run8 l w k t.p1 → b1 ≡ back_run8 l w k t.p1 → a2 ≡ on_run8 l w k t.q0 → b2 ≡ back_run8 l w k t.q0 → a3 ≡ on_run8 l w k t.q1 → b3 ≡ back_run8 l w k t.q1 → a4 ≡ on_run8 l w k t.r0 → b4 ≡ back_run8 l w k t.r0 → a5 ≡ on_run8 l w k t.r1 → b5 ≡ back_run8 l w k t.r1 → odd ≡ (4 - near) * 255 → r ≡ upto (λ n. both_of (slice_index a0 n) (slice_index b0 n) (slice_index a1 n) (slice_index b1 n) (slice_index a2 n) (slice_index b2 n) (slice_index a3 n) (slice_index b3 n) (slice_index a4 n) (slice_index b4 n) (slice_index a5 n) (slice_index b5 n) (slice_index c n) s sh odd s2 sh2) 16 → r ≡ upto (λ n. filtered_at l (eight_at w k n) t (pri_in s sh near) (sec_in s2 sh2)) 16
+  pub both-eight : {r c a0 b0 a1 b1 a2 b2 a3 b3 a4 b4 a5 b5 : List ℕ} {odd : ℕ} → c ≡ run_by 8 l w k → a0 ≡ on_by 8 l w k t.p0 → b0 ≡ back_by 8 l w k t.p0 → a1 ≡ on_by 8 l w k t.p1 → b1 ≡ back_by 8 l w k t.p1 → a2 ≡ on_by 8 l w k t.q0 → b2 ≡ back_by 8 l w k t.q0 → a3 ≡ on_by 8 l w k t.q1 → b3 ≡ back_by 8 l w k t.q1 → a4 ≡ on_by 8 l w k t.r0 → b4 ≡ back_by 8 l w k t.r0 → a5 ≡ on_by 8 l w k t.r1 → b5 ≡ back_by 8 l w k t.r1 → odd ≡ (4 - near) * 255 → r ≡ upto (λ n. both_of (slice_index a0 n) (slice_index b0 n) (slice_index a1 n) (slice_index b1 n) (slice_index a2 n) (slice_index b2 n) (slice_index a3 n) (slice_index b3 n) (slice_index a4 n) (slice_index b4 n) (slice_index a5 n) (slice_index b5 n) (slice_index c n) s sh odd s2 sh2) 16 → r ≡ upto (λ n. filtered_at l (eight_at w k n) t (pri_in s sh near) (sec_in s2 sh2)) 16
   both-eight e0 e1 e2 e3 e4 e5 e6 e7 e8 e9 e10 e11 e12 eo er = er ∙ rw (e0, e1, e2, e3, e4, e5, e6, e7, e8, e9, e10, e11, e12, eo) (upto-ext _ _ 16 one)
 
 -- ---- what is kept

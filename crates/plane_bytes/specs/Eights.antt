@@ -1,7 +1,8 @@
 -- Two rows of eight samples of a plane whose samples are bytes. Definitions only.
-use Rattle.std.specs.Prelude.{ℕ, ◌+◌, ◌*◌, ◌/◌, ◌%◌, ◌<◌, ◌≤◌, List, slice_index}
-use Rattle.arith_sample.specs.Upto.{upto}
-use Rattle.filter_rows.specs.Place.{on_from, back_from}
+use Rattle.std.specs.Prelude.{◌≡◌, ℕ, ◌<◌, ◌≤◌, List, slice_index}
+use Rattle.plane_taps.specs.Runs.{at_by}
+use Rattle.filter_rows.specs.declared.Strength.{Strength}
+use Rattle.plane_rows.specs.Rows.{pri_in, sec_in}
 
 -- every sample of l is below 256, so that none is marked
 pub record AllByte (l : List ℕ) : Type 0 where
@@ -18,16 +19,12 @@ pub record Strong8 (s sh near s2 sh2 : ℕ) : Type 0 where
   pub some2 : 1 ≤ s2
   pub sec-shift : sh2 < 8
 
+-- the same of two strengths; the secondary taps are weighted 2 and 1
+pub record StrongBytes (f g : Strength) : Type 0 where
+  pub strong : Strong8 f.s f.sh f.w0 g.s g.sh
+  pub pri : pri_in f.s f.sh f.w0 ≡ f
+  pub sec : sec_in g.s g.sh ≡ g
+
 -- the index of sample j (row j / 8, column j % 8) of two rows of eight whose first sample is at k, in a plane w wide
-unfoldable pub eight_at : ℕ → ℕ → ℕ → ℕ
-eight_at w k j = k + (j / 8 * w + j % 8)
-
--- the samples, their taps at an offset, and the opposite ones
-unfoldable pub centre_run8 : List ℕ → ℕ → ℕ → List ℕ
-centre_run8 l w k = upto (λ j. slice_index l (eight_at w k j)) 16
-
-unfoldable pub on_run8 : List ℕ → ℕ → ℕ → ℕ → List ℕ
-on_run8 l w k o = upto (λ j. slice_index l (on_from (eight_at w k j) o)) 16
-
-unfoldable pub back_run8 : List ℕ → ℕ → ℕ → ℕ → List ℕ
-back_run8 l w k o = upto (λ j. slice_index l (back_from (eight_at w k j) o)) 16
+abbrev pub eight_at : ℕ → ℕ → ℕ → ℕ
+eight_at w k j = at_by 8 w k j

@@ -1,20 +1,33 @@
 // One sample from its taps, in bytes: what is above the centre and what is below it are summed apart.
+// The taps stay numbers one by one (Kept): a struct of them would be built for each sample from twelve lists, field by field (`a0: a0[j], ..`), and pri, sec and
+// four, which take four or eight of the twelve, would take it apart again. So do the numbers of a strength, which in filter_rows::Strength are words.
 ghost use Rattle.std.specs.Prelude.{◌≡◌, ◌+◌, ◌<◌, ◌≤◌};
-ghost use Rattle.plane_bytes.specs.Byte.{up_pair, down_pair, Mask, weigh_pri, weigh_sec, up_pri, down_pri, up_sec, down_sec, high_four, low_four, clipped_of, both_of};
+ghost use Rattle.plane_bytes.specs.Byte.{Mask, weigh_pri, weigh_sec, apart_of, pair_of, pri_of, sec_of, past_of, four_of, clipped_of, both_of};
 
-// A pair of taps above the centre, and below it.
-fn pair_up(a: u8, b: u8, c: u8, s: u8, sh: u32) -> u8
-    requires { (s ≤ 15) × (sh < 8) }
-    ensures { (result ≡ up_pair a b c s sh) × (result ≤ s + s) }
+// The side of the centre on which taps count. Kept as a const parameter, SIDE: as a closure it would be handed through apart, pair, pri and sec, and another
+// one through past and four.
+const UP: bool = true;
+
+const DOWN: bool = false;
+
+// How far a tap is above the centre, or below it, constrained.
+fn apart<const SIDE: bool>(t: u8, c: u8, s: u8, sh: u32) -> u8
+    requires { sh < 8 }
+    ensures { (result ≡ apart_of SIDE t c s sh) × (result ≤ s) }
 {
-    plane_byte::above(a, c, s, sh) + plane_byte::above(b, c, s, sh)
+    if SIDE {
+        plane_byte::above(t, c, s, sh)
+    } else {
+        plane_byte::above(c, t, s, sh)
+    }
 }
 
-fn pair_down(a: u8, b: u8, c: u8, s: u8, sh: u32) -> u8
+// The same of two opposite taps.
+fn pair<const SIDE: bool>(a: u8, b: u8, c: u8, s: u8, sh: u32) -> u8
     requires { (s ≤ 15) × (sh < 8) }
-    ensures { (result ≡ down_pair a b c s sh) × (result ≤ s + s) }
+    ensures { (result ≡ pair_of SIDE a b c s sh) × (result ≤ s + s) }
 {
-    plane_byte::above(c, a, s, sh) + plane_byte::above(c, b, s, sh)
+    apart::<SIDE>(a, c, s, sh) + apart::<SIDE>(b, c, s, sh)
 }
 
 // 4 n + 2 f, or 3 n + 3 f where all bits of odd are set.
@@ -34,65 +47,20 @@ fn double(n: u8, f: u8) -> u8
     n + n + f
 }
 
-// The primary taps above the centre.
-fn pri_up(a0: u8, b0: u8, a1: u8, b1: u8, c: u8, s: u8, sh: u32, odd: u8) -> u8
+// The primary taps.
+fn pri<const SIDE: bool>(a0: u8, b0: u8, a1: u8, b1: u8, c: u8, s: u8, sh: u32, odd: u8) -> u8
     requires { (s ≤ 15) × (sh < 8) × Mask odd }
-    ensures { (result ≡ up_pri a0 b0 a1 b1 c s sh odd) × (result ≤ 180) }
-{
-    weigh(pair_up(a0, b0, c, s, sh), pair_up(a1, b1, c, s, sh), odd)
-}
-
-// Two pairs of secondary taps above it.
-fn two_up(a: u8, b: u8, d: u8, e: u8, c: u8, s: u8, sh: u32) -> u8
-    requires { (s ≤ 4) × (sh < 8) }
-    ensures { (result ≡ up_pair a b c s sh + up_pair d e c s sh) × (result ≤ 16) }
-{
-    pair_up(a, b, c, s, sh) + pair_up(d, e, c, s, sh)
-}
-
-fn sec_up(
-    a0: u8,
-    b0: u8,
-    a1: u8,
-    b1: u8,
-    a2: u8,
-    b2: u8,
-    a3: u8,
-    b3: u8,
-    c: u8,
-    s: u8,
-    sh: u32,
-) -> u8
-    requires { (s ≤ 4) × (sh < 8) }
-    ensures { (result ≡ up_sec a0 b0 a1 b1 a2 b2 a3 b3 c s sh) × (result ≤ 48) }
-{
-    double(
-        two_up(a0, b0, a2, b2, c, s, sh),
-        two_up(a1, b1, a3, b3, c, s, sh),
-    )
-}
-
-// The primary taps below the centre.
-fn pri_down(a0: u8, b0: u8, a1: u8, b1: u8, c: u8, s: u8, sh: u32, odd: u8) -> u8
-    requires { (s ≤ 15) × (sh < 8) × Mask odd }
-    ensures { (result ≡ down_pri a0 b0 a1 b1 c s sh odd) × (result ≤ 180) }
+    ensures { (result ≡ pri_of SIDE a0 b0 a1 b1 c s sh odd) × (result ≤ 180) }
 {
     weigh(
-        pair_down(a0, b0, c, s, sh),
-        pair_down(a1, b1, c, s, sh),
+        pair::<SIDE>(a0, b0, c, s, sh),
+        pair::<SIDE>(a1, b1, c, s, sh),
         odd,
     )
 }
 
-// Two pairs of secondary taps below it.
-fn two_down(a: u8, b: u8, d: u8, e: u8, c: u8, s: u8, sh: u32) -> u8
-    requires { (s ≤ 4) × (sh < 8) }
-    ensures { (result ≡ down_pair a b c s sh + down_pair d e c s sh) × (result ≤ 16) }
-{
-    pair_down(a, b, c, s, sh) + pair_down(d, e, c, s, sh)
-}
-
-fn sec_down(
+// The secondary taps.
+fn sec<const SIDE: bool>(
     a0: u8,
     b0: u8,
     a1: u8,
@@ -106,29 +74,30 @@ fn sec_down(
     sh: u32,
 ) -> u8
     requires { (s ≤ 4) × (sh < 8) }
-    ensures { (result ≡ down_sec a0 b0 a1 b1 a2 b2 a3 b3 c s sh) × (result ≤ 48) }
+    ensures { (result ≡ sec_of SIDE a0 b0 a1 b1 a2 b2 a3 b3 c s sh) × (result ≤ 48) }
 {
     double(
-        two_down(a0, b0, a2, b2, c, s, sh),
-        two_down(a1, b1, a3, b3, c, s, sh),
+        pair::<SIDE>(a0, b0, c, s, sh) + pair::<SIDE>(a2, b2, c, s, sh),
+        pair::<SIDE>(a1, b1, c, s, sh) + pair::<SIDE>(a3, b3, c, s, sh),
     )
 }
 
-// The most that any of four taps is above the centre, and below it.
-fn high_four(a0: u8, b0: u8, a1: u8, b1: u8, c: u8) -> u8
-    ensures { (result ≡ high_four a0 b0 a1 b1 c) × (result + c ≤ 255) }
+// How far a tap is above the centre, or below it.
+fn past<const SIDE: bool>(t: u8, c: u8) -> u8
+    ensures { result ≡ past_of SIDE t c }
 {
-    (plane_byte::less(a0, c).max(plane_byte::less(b0, c))).max(plane_byte::less(a1, c).max(
-        plane_byte::less(b1, c),
-    ))
+    if SIDE {
+        t.saturating_sub(c)
+    } else {
+        c.saturating_sub(t)
+    }
 }
 
-fn low_four(a0: u8, b0: u8, a1: u8, b1: u8, c: u8) -> u8
-    ensures { (result ≡ low_four a0 b0 a1 b1 c) × (result ≤ c) }
+// The most of it of four taps.
+fn four<const SIDE: bool>(a0: u8, b0: u8, a1: u8, b1: u8, c: u8) -> u8
+    ensures { result ≡ four_of SIDE a0 b0 a1 b1 c }
 {
-    (plane_byte::less(c, a0).max(plane_byte::less(c, b0))).max(plane_byte::less(c, a1).max(
-        plane_byte::less(c, b1),
-    ))
+    (past::<SIDE>(a0, c).max(past::<SIDE>(b0, c))).max(past::<SIDE>(a1, c).max(past::<SIDE>(b1, c)))
 }
 
 // The sample from its sums, clipped.
@@ -163,14 +132,14 @@ pub fn both(
     requires { (s ≤ 15) × (sh < 8) × Mask odd × (s2 ≤ 4) × (sh2 < 8) }
     ensures { result ≡ both_of a0 b0 a1 b1 a2 b2 a3 b3 a4 b4 a5 b5 c s sh odd s2 sh2 }
 {
-    let up = pri_up(a0, b0, a1, b1, c, s, sh, odd)
-        + sec_up(a2, b2, a3, b3, a4, b4, a5, b5, c, s2, sh2);
-    let down = pri_down(a0, b0, a1, b1, c, s, sh, odd)
-        + sec_down(a2, b2, a3, b3, a4, b4, a5, b5, c, s2, sh2);
-    let high = high_four(a0, b0, a1, b1, c).max(high_four(a2, b2, a3, b3, c).max(high_four(
+    let up = pri::<UP>(a0, b0, a1, b1, c, s, sh, odd)
+        + sec::<UP>(a2, b2, a3, b3, a4, b4, a5, b5, c, s2, sh2);
+    let down = pri::<DOWN>(a0, b0, a1, b1, c, s, sh, odd)
+        + sec::<DOWN>(a2, b2, a3, b3, a4, b4, a5, b5, c, s2, sh2);
+    let high = four::<UP>(a0, b0, a1, b1, c).max(four::<UP>(a2, b2, a3, b3, c).max(four::<UP>(
         a4, b4, a5, b5, c,
     )));
-    let low = low_four(a0, b0, a1, b1, c).max(low_four(a2, b2, a3, b3, c).max(low_four(
+    let low = four::<DOWN>(a0, b0, a1, b1, c).max(four::<DOWN>(a2, b2, a3, b3, c).max(four::<DOWN>(
         a4, b4, a5, b5, c,
     )));
     clipped(c, up, down, high, low)

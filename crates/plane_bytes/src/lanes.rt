@@ -1,4 +1,5 @@
 // Sixteen samples from their taps, each list of taps in the samples' order.
+// The lists and the numbers stay one by one (Kept), as in byte.rt, whose head says why.
 ghost use Rattle.std.specs.Prelude.{◌≡◌, ◌<◌, ◌≤◌, slice_index};
 ghost use Rattle.arith_sample.specs.Upto.{upto};
 ghost use Rattle.plane_bytes.specs.Byte.{Mask, both_of};

@@ -10,11 +10,12 @@ use Rattle.filter_kernel.specs.Kernel.{kernel_at}
 use Rattle.plane_taps.specs.Plain.{AllLow}
 use Rattle.plane_rows.specs.Rows.{placed_rows, inside_tap}
 use Rattle.plane_rows.specs.StoreLaws.{rows_inside}
+use Rattle.plane_taps.specs.Runs.{at_by}
 use Rattle.plane_fours.specs.Fours.{four_at}
 
 module _ (l : List ℕ) (low : AllLow l) (w at : ℕ) (t : Taps) (f g : Strength) (rf : InRange f) (rg : InRange g) where
   entry : (v : List ℕ) (n j : ℕ) → n < 4 → j < 4 → v ≡ upto (λ j. kernel_at l (four_at w at j) t f g) 16 → slice_index v (n * 4 + j) ≡ kernel_at l (at + n * w + j) t f g
-  unfolding four_at
+  unfolding at_by
   entry v n j hn k h =
       let a : (n * 4 + j) / 4 ≡ n = omega arith in
       let b : (n * 4 + j) % 4 ≡ j = omega arith in

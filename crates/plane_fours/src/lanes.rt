@@ -1,23 +1,18 @@
 // Sixteen samples from their taps, each list of taps in the samples' order.
+// Kept as lists one by one: with one strength a sample has four or eight taps, with both twelve; as an array of arrays each list would be named by a number.
+// LowPairs of four of them at a time is the clause; as ghost fields of a struct it would be proved at each of thirteen calls of gather in place of three times.
 ghost use Rattle.std.specs.Prelude.{◌≡◌, ◌<◌};
 ghost use Rattle.filter_rows.specs.Sums.{InRange};
 ghost use Rattle.plane_taps.specs.Plain.{AllLow};
-ghost use Rattle.plane_fours.specs.Fours.{LowPairs, BoundedAll, pair_in, first_lanes, last_lanes, pri_lanes, sec_lanes};
+ghost use Rattle.plane_fours.specs.Fours.{LowPairs, pair_in, both_lane, pri_lane, sec_lane, both_lanes, pri_lanes, sec_lanes};
 
 use filter_limits::Pair;
 use filter_rows::Strength;
 use plane_taps::plain;
-use plane_taps::plain::Part;
-
-// the primary taps' sums, and the least and the greatest of them and the centre, of sixteen samples
-#[derive(Clone, Copy)]
-pub struct Parts {
-    pub sum: [i16; 16],
-    pub lo: [u16; 16],
-    pub hi: [u16; 16],
-}
+use std::array;
 
 // Sample j's tap and its opposite.
+#[tactic(auto, unfolding(crate::specs::Fours::pair_in))]
 fn pair(on: &[u16; 16], back: &[u16; 16], j: usize) -> Pair
     requires { j < 16 }
     ensures { result ≡ pair_in on.now back.now j }
@@ -28,38 +23,8 @@ fn pair(on: &[u16; 16], back: &[u16; 16], j: usize) -> Pair
     }
 }
 
-// The primary taps.
-pub fn first(
-    c: &[u16; 16],
-    a0: &[u16; 16],
-    b0: &[u16; 16],
-    a1: &[u16; 16],
-    b1: &[u16; 16],
-    f: Strength,
-) -> Parts
-    requires { AllLow c.now × LowPairs a0.now b0.now a1.now b1.now × InRange f }
-    ensures { result ≡ first_lanes c.now a0.now b0.now a1.now b1.now f }
-{
-    let mut sum = [0i16; 16];
-    let mut lo = [0u16; 16];
-    let mut hi = [0u16; 16];
-    for j in 0..16usize {
-        let m = plain::first(pair(a0, b0, j), pair(a1, b1, j), c[j], f);
-        let s = m.sum;
-        sum[j] = s;
-        lo[j] = m.lo;
-        hi[j] = m.hi;
-    }
-    Parts {
-        sum: sum,
-        lo: lo,
-        hi: hi,
-    }
-}
-
-// The samples, with their secondary taps.
-pub fn last(
-    m: Parts,
+// Sample j with both strengths.
+fn both_at(
     c: &[u16; 16],
     a0: &[u16; 16],
     b0: &[u16; 16],
@@ -69,30 +34,93 @@ pub fn last(
     b2: &[u16; 16],
     a3: &[u16; 16],
     b3: &[u16; 16],
+    a4: &[u16; 16],
+    b4: &[u16; 16],
+    a5: &[u16; 16],
+    b5: &[u16; 16],
+    f: Strength,
     g: Strength,
-) -> [u16; 16]
-    requires { BoundedAll m × AllLow c.now × LowPairs a0.now b0.now a1.now b1.now × LowPairs a2.now b2.now a3.now b3.now
-        × InRange g }
-    ensures { result ≡ last_lanes m c.now a0.now b0.now a1.now b1.now
-        a2.now b2.now a3.now b3.now g }
+    j: usize,
+) -> u16
+    requires { (j < 16) × AllLow c.now × LowPairs a0.now b0.now a1.now b1.now × LowPairs a2.now b2.now a3.now b3.now
+        × LowPairs a4.now b4.now a5.now b5.now × InRange f × InRange g }
+    ensures { result ≡ both_lane c.now a0.now b0.now a1.now b1.now a2.now b2.now a3.now b3.now a4.now b4.now a5.now b5.now f g j }
 {
-    let mut out = [0u16; 16];
-    for j in 0..16usize {
-        let p = Part {
-            sum: m.sum[j],
-            lo: m.lo[j],
-            hi: m.hi[j],
-        };
-        let q0 = pair(a0, b0, j);
-        let q1 = pair(a1, b1, j);
-        let r0 = pair(a2, b2, j);
-        let r1 = pair(a3, b3, j);
-        out[j] = plain::last(p, q0, q1, r0, r1, c[j], g);
-    }
-    out
+    let m = plain::first(pair(a0, b0, j), pair(a1, b1, j), c[j], f);
+    let q0 = pair(a2, b2, j);
+    let q1 = pair(a3, b3, j);
+    let r0 = pair(a4, b4, j);
+    let r1 = pair(a5, b5, j);
+    plain::last(m, q0, q1, r0, r1, c[j], g)
 }
 
-// The samples with the primary strength alone.
+// With the primary strength alone.
+fn pri_at(
+    c: &[u16; 16],
+    a0: &[u16; 16],
+    b0: &[u16; 16],
+    a1: &[u16; 16],
+    b1: &[u16; 16],
+    f: Strength,
+    j: usize,
+) -> u16
+    requires { (j < 16) × AllLow c.now × LowPairs a0.now b0.now a1.now b1.now × InRange f }
+    ensures { result ≡ pri_lane c.now a0.now b0.now a1.now b1.now f j }
+{
+    let s = plain::pri_sum(pair(a0, b0, j), pair(a1, b1, j), c[j], f);
+    arith_sample::raised(c[j], s)
+}
+
+// With the secondary strength alone.
+fn sec_at(
+    c: &[u16; 16],
+    a0: &[u16; 16],
+    b0: &[u16; 16],
+    a1: &[u16; 16],
+    b1: &[u16; 16],
+    a2: &[u16; 16],
+    b2: &[u16; 16],
+    a3: &[u16; 16],
+    b3: &[u16; 16],
+    f: Strength,
+    j: usize,
+) -> u16
+    requires { (j < 16) × AllLow c.now × LowPairs a0.now b0.now a1.now b1.now × LowPairs a2.now b2.now a3.now b3.now × InRange f }
+    ensures { result ≡ sec_lane c.now a0.now b0.now a1.now b1.now a2.now b2.now a3.now b3.now f j }
+{
+    let q0 = pair(a0, b0, j);
+    let q1 = pair(a1, b1, j);
+    let r0 = pair(a2, b2, j);
+    let r1 = pair(a3, b3, j);
+    arith_sample::raised(c[j], plain::sec_sum(q0, q1, r0, r1, c[j], f))
+}
+
+// The samples with both strengths.
+pub fn both(
+    c: &[u16; 16],
+    a0: &[u16; 16],
+    b0: &[u16; 16],
+    a1: &[u16; 16],
+    b1: &[u16; 16],
+    a2: &[u16; 16],
+    b2: &[u16; 16],
+    a3: &[u16; 16],
+    b3: &[u16; 16],
+    a4: &[u16; 16],
+    b4: &[u16; 16],
+    a5: &[u16; 16],
+    b5: &[u16; 16],
+    f: Strength,
+    g: Strength,
+) -> [u16; 16]
+    requires { AllLow c.now × LowPairs a0.now b0.now a1.now b1.now × LowPairs a2.now b2.now a3.now b3.now
+        × LowPairs a4.now b4.now a5.now b5.now × InRange f × InRange g }
+    ensures { result ≡ both_lanes c.now a0.now b0.now a1.now b1.now a2.now b2.now a3.now b3.now a4.now b4.now a5.now b5.now f g }
+{
+    array::from_fn(|j| both_at(c, a0, b0, a1, b1, a2, b2, a3, b3, a4, b4, a5, b5, f, g, j))
+}
+
+// With the primary strength alone.
 pub fn pri(
     c: &[u16; 16],
     a0: &[u16; 16],
@@ -104,12 +132,7 @@ pub fn pri(
     requires { AllLow c.now × LowPairs a0.now b0.now a1.now b1.now × InRange f }
     ensures { result ≡ pri_lanes c.now a0.now b0.now a1.now b1.now f }
 {
-    let mut out = [0u16; 16];
-    for j in 0..16usize {
-        let s = plain::pri_sum(pair(a0, b0, j), pair(a1, b1, j), c[j], f);
-        out[j] = arith_sample::raised(c[j], s);
-    }
-    out
+    array::from_fn(|j| pri_at(c, a0, b0, a1, b1, f, j))
 }
 
 // With the secondary strength alone.
@@ -126,17 +149,7 @@ pub fn sec(
     f: Strength,
 ) -> [u16; 16]
     requires { AllLow c.now × LowPairs a0.now b0.now a1.now b1.now × LowPairs a2.now b2.now a3.now b3.now × InRange f }
-    ensures { result ≡ sec_lanes c.now a0.now b0.now a1.now b1.now a2.now
-        b2.now a3.now b3.now f }
+    ensures { result ≡ sec_lanes c.now a0.now b0.now a1.now b1.now a2.now b2.now a3.now b3.now f }
 {
-    let mut out = [0u16; 16];
-    for j in 0..16usize {
-        let q0 = pair(a0, b0, j);
-        let q1 = pair(a1, b1, j);
-        let r0 = pair(a2, b2, j);
-        let r1 = pair(a3, b3, j);
-        let s = plain::sec_sum(q0, q1, r0, r1, c[j], f);
-        out[j] = arith_sample::raised(c[j], s);
-    }
-    out
+    array::from_fn(|j| sec_at(c, a0, b0, a1, b1, a2, b2, a3, b3, f, j))
 }

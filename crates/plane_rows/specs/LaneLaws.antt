@@ -17,17 +17,7 @@ use Rattle.filter_rows.specs.declared.Taps.{Taps}
 use Rattle.filter_rows.specs.declared.Strength.{Strength}
 use Rattle.filter_kernel.specs.Kernel.{kernel_at}
 use Rattle.plane_taps.specs.Plain.{AllLow, Low, Bounded, low_two, high_two, first_of}
-use Rattle.plane_rows.specs.Rows.{Strong, pri_in, sec_in, first_at}
-
--- ---- strengths as they are passed are in range
-
-pub pri-range : {s sh near s2 sh2 : ℕ} → Strong s sh near s2 sh2 → InRange (pri_in s sh near)
-unfolding pri_in
-pri-range a = record { s = a.pri; sh = a.pri-shift; w0 = a.most; w1 = omega (arith, a.least) }
-
-pub sec-range : {s sh near s2 sh2 : ℕ} → Strong s sh near s2 sh2 → InRange (sec_in s2 sh2)
-unfolding sec_in
-sec-range a = record { s = a.sec; sh = a.sec-shift; w0 = omega arith; w1 = omega arith }
+use Rattle.plane_rows.specs.Rows.{first_at}
 
 -- ---- by which strengths are 0
 

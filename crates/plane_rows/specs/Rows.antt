@@ -1,5 +1,5 @@
 -- Rows of a block, their taps straight from a plane without marks. Definitions only.
-use Rattle.std.specs.Prelude.{◌≡◌, List, ℕ, zero, suc, ◌+◌, ◌-◌, ◌*◌, ◌≤◌, ◌<◌, get_or, set}
+use Rattle.std.specs.Prelude.{◌≡◌, List, ℕ, zero, suc, ◌+◌, ◌-◌, ◌*◌, ◌<◌, get_or, set}
 use Rattle.cdef_spec.specs.Standard.{Tap}
 use Rattle.cdef_spec.specs.Document01.{unmarked}
 use Rattle.cdef_spec.specs.LoopForm.{put_block}
@@ -10,17 +10,9 @@ use Rattle.filter_kernel.specs.Kernel.{kernel_at}
 use Rattle.plane_taps.specs.Plain.{first_of}
 use Rattle.plane_taps.specs.declared.plain.Part.{Part}
 
--- ---- strengths as they are passed
+-- ---- strengths by their numbers
 
--- strengths of at most 240, shifts of at most 15 (a larger one gives 0 like 15); the primary taps are weighted near and 6 - near
-pub record Strong (s sh near s2 sh2 : ℕ) : Type 0 where
-  pub pri : s ≤ 240
-  pub pri-shift : sh ≤ 15
-  pub least : 2 ≤ near
-  pub most : near ≤ 4
-  pub sec : s2 ≤ 240
-  pub sec-shift : sh2 ≤ 15
-
+-- the primary taps are weighted near and 6 - near, the secondary ones 2 and 1
 unfoldable pub pri_in : ℕ → ℕ → ℕ → Strength
 pri_in s sh near = record { s = s; sh = sh; w0 = near; w1 = 6 - near }
 

@@ -37,9 +37,6 @@ module _ (d : List ℕ) (to : ℕ) (v : List ℕ) (from : ℕ) where
 pub placed-next-from : (d l v : List ℕ) (to from j : ℕ) → d ≡ placed l to v from j → set d (to + j) (get_or v (from + j) 0) ≡ placed l to v from (j + 1)
 placed-next-from d l v to from j e = rw (placed-more l to v from j, e)
 
-pub placed-next : (d l v : List ℕ) (to j : ℕ) → d ≡ placed l to v 0 j → set d (to + j) (get_or v j 0) ≡ placed l to v 0 (j + 1)
-placed-next d l v to j e = let k : 0 + j ≡ j = omega arith in rw (placed-more l to v 0 j, k, e)
-
 module _ (d : List ℕ) (w to : ℕ) (v : List ℕ) (m : ℕ) where
   pub rows_none : placed_rows d w to v m 0 ≡ d
   unfolding placed_rows

@@ -1,4 +1,7 @@
 // Rows of eight samples of a block two samples or more inside a plane without marks: their taps straight from the plane.
+// The parameters (src, k, t, f, g) stay apart (Kept) because both_at, pri_at and sec_at take different ones of them; filter_rows says why InRange stays a clause.
+// AllLow stays a clause (Kept): as a ghost field it would need a second type of plane beside FullPlane, whose samples may be the mark, and plane_taps::load takes lists without it.
+// both_at, pri_at and sec_at are Kept beside those of plane_fours::lanes, whose taps are loaded before: as one function each would take up to six closures.
 #![tactic(auto)]
 
 ghost use Rattle.std.specs.Prelude.{◌≡◌, ℕ, ◌+◌, ◌*◌, ◌≤◌, ◌<◌, get_or, length};
@@ -9,7 +12,7 @@ ghost use Rattle.filter_kernel.specs.Kernel.{kernel_at};
 ghost use Rattle.plane_taps.specs.Plain.{AllLow};
 ghost use Rattle.plane_taps.specs.Steps.{taps_in};
 ghost use Rattle.plane_taps.specs.Reach.{Around};
-ghost use Rattle.plane_rows.specs.Rows.{Strong, pri_in, sec_in, placed, placed_rows, Stored};
+ghost use Rattle.plane_rows.specs.Rows.{placed, placed_rows, Stored};
 
 use filter_limits::Pair;
 use filter_rows::{Strength, Taps};
@@ -62,19 +65,15 @@ fn row(src: &[u16], k: usize, t: Taps, f: Strength, g: Strength) -> [u16; 8]
     requires { Around (length src.now) k 8 t × AllLow src.now × InRange f × InRange g }
     ensures { result ≡ upto (λ j. kernel_at src.now (k + j) t f g) 8 }
 {
-    if f.s == 0 {
-        if g.s == 0 {
-            return array::from_fn(|j| src[k + j]);
-        }
-        return array::from_fn(|j| sec_at(src, k, j, t, g));
+    match (f.s, g.s) {
+        (0, 0) => array::from_fn(|j| src[k + j]),
+        (0, _) => array::from_fn(|j| sec_at(src, k, j, t, g)),
+        (_, 0) => array::from_fn(|j| pri_at(src, k, j, t, f)),
+        (_, _) => array::from_fn(|j| both_at(src, k, j, t, f, g)),
     }
-    if g.s == 0 {
-        return array::from_fn(|j| pri_at(src, k, j, t, f));
-    }
-    array::from_fn(|j| both_at(src, k, j, t, f, g))
 }
 
-// Keeps a row among a block's samples, from index `to` on.
+// Keeps a row among a block's samples, from index `to` on. Kept beside plane_bytes::eights::keep, which widens sixteen bytes.
 fn keep(all: &mut [u16; 64], to: usize, row: [u16; 8])
     requires { to ≤ 56 }
     ensures { all.new ≡ placed all.old to row 0 8 }
@@ -83,7 +82,8 @@ fn keep(all: &mut [u16; 64], to: usize, row: [u16; 8])
 }
 
 // Stores n rows of a block's samples from index `to` on, once all are computed: stored one by one, planes of 4,096 by 4,096 took longer
-// where destination and plane have the same address modulo 4,096 (docs/DECISIONS.md, 77). By copy_from_slice a block took a tenth longer.
+// where destination and plane have the same address modulo 4,096 (docs/DECISIONS.md, 77). Kept by index: by copy_from_slice a block took a tenth longer.
+// Kept beside plane_fours::store: one function would take the side as a const parameter and samples of any length, with a clause for that length.
 pub fn store(dst: &mut [u16], w: usize, to: usize, all: &[u16; 64], n: usize)
     requires { (n ≤ 8) × ((i : ℕ) → i < n → to + i * w + 8 ≤ length dst.old) }
     ensures { dst.new ≡ placed_rows dst.old w to all.now 8 n }
@@ -98,6 +98,7 @@ pub fn store(dst: &mut [u16], w: usize, to: usize, all: &[u16; 64], n: usize)
 }
 
 // Filters n rows of eight from index `at` of the plane on into the destination, from index `to` on; both are w wide.
+// Kept by index: as `all.chunks_exact_mut(8).take(n).enumerate()` (as fast) the check knows afterwards the length of `all` and no entry.
 pub fn rows(
     dst: &mut [u16],
     to: usize,
@@ -106,29 +107,14 @@ pub fn rows(
     at: usize,
     n: usize,
     dir: usize,
-    s: u16,
-    sh: u32,
-    near: u16,
-    s2: u16,
-    sh2: u32,
+    f: Strength,
+    g: Strength,
 )
-    requires all_low { AllLow src.now × (w ≤ 4096) × (n ≤ 8) × (dir < 8) × Strong s sh near s2 sh2 }
-    requires by_index { (i : ℕ) → i < n → Around (length src.now) (at + i * w) 8 (taps_in w dir) × (to + i * w + 8 ≤ length dst.old) }
-    ensures { Stored src.now dst.old dst.new w at to (taps_in w dir) (pri_in s sh near) (sec_in s2 sh2) 8 n }
+    requires all_low { AllLow src.now × (w ≤ 4096) × (n ≤ 8) × (dir < 8) × InRange f × InRange g }
+    requires rows_inside { (i : ℕ) → i < n → Around (length src.now) (at + i * w) 8 (taps_in w dir) × (to + i * w + 8 ≤ length dst.old) }
+    ensures { Stored src.now dst.old dst.new w at to (taps_in w dir) f g 8 n }
 {
     let t = plane_taps::steps::taps(dir, w, 1);
-    let f = Strength {
-        s: s,
-        sh: sh,
-        w0: near,
-        w1: 6 - near,
-    };
-    let g = Strength {
-        s: s2,
-        sh: sh2,
-        w0: 2,
-        w1: 1,
-    };
     let mut all = [0u16; 64];
     for i in 0..n {
         let v = row(src, at + i * w, t, f, g);

@@ -5,3 +5,5 @@ pub mod Reach
 pub mod ReachLaws
 pub mod Plain
 pub mod PlainLaws
+pub mod Runs
+pub mod RunLaws

@@ -1,5 +1,5 @@
 -- One sample from the values of its taps, of which none is tested for the mark. A pair is a tap and its opposite. Definitions only.
-use Rattle.std.specs.Prelude.{ℕ, ◌<◌, ◌≤◌, min, max, List, ℤ, ◌+ℤ◌, slice_index, unsigned_abs}
+use Rattle.std.specs.Prelude.{Bool, cond, ℕ, ◌<◌, ◌≤◌, min, max, List, ℤ, ◌+ℤ◌, slice_index, unsigned_abs}
 use Rattle.arith_sample.specs.Sample.{con_of, finish_of}
 use Rattle.filter_rows.specs.declared.Strength.{Strength}
 use Rattle.filter_limits.specs.declared.Pair.{Pair}
@@ -35,6 +35,10 @@ low_two p q = min (min p.on p.back) (min q.on q.back)
 
 unfoldable pub high_two : Pair → Pair → ℕ
 high_two p q = max (max p.on p.back) (max q.on q.back)
+
+-- the least (false) or the greatest (true)
+unfoldable pub limit_two : Bool → Pair → Pair → ℕ
+limit_two b p q = cond b (high_two p q) (low_two p q)
 
 -- the primary taps' sum, and the least and the greatest of them and the centre
 unfoldable pub first_of : Pair → Pair → ℕ → Strength → Part

@@ -1,5 +1,5 @@
 -- Laws of one sample without marks: it is the sample that the window's kernel gives.
-use Rattle.std.specs.Prelude.{◌≡◌, ℕ, ◌*◌, ◌≤◌, min, max, List, ℤ, pos, ◌+ℤ◌, ◌*ℤ◌, ◌≢◌, slice_index, unsigned_abs}
+use Rattle.std.specs.Prelude.{◌≡◌, refl, Bool, true, false, ℕ, ◌*◌, ◌≤◌, ◌<◌, min, max, List, ℤ, pos, ◌+ℤ◌, ◌*ℤ◌, ◌≢◌, slice_index, unsigned_abs}
 use Rattle.std.proofs.Common.{mul-le-mul, arith}
 use Rattle.arith_sample.specs.Sample.{con_of}
 use Rattle.arith_sample.specs.SampleLaws.{size-con, centre-tap}
@@ -8,10 +8,10 @@ use Rattle.cdef_spec.specs.SignedLaws.{size-add, size_scale}
 use Rattle.filter_rows.specs.Sums.{InRange, pair_at, low_pair, high_pair, pri_at, side_at, sec_at, low_at, high_at, filtered_at}
 use Rattle.filter_rows.specs.Pairs.{pair_of, weighed}
 use Rattle.filter_limits.specs.declared.Pair.{Pair}
-use Rattle.filter_limits.specs.Limits.{HeldPair}
+use Rattle.filter_limits.specs.Limits.{HeldPair, further_of}
 use Rattle.filter_rows.specs.declared.Taps.{Taps}
 use Rattle.filter_rows.specs.declared.Strength.{Strength}
-use Rattle.plane_taps.specs.Plain.{AllLow, Low, pair_plain, pri_plain, sec_plain, low_two, high_two, first_of, last_of}
+use Rattle.plane_taps.specs.Plain.{AllLow, Low, pair_plain, pri_plain, sec_plain, low_two, high_two, limit_two, first_of, last_of}
 
 -- ---- the sample
 
@@ -65,6 +65,18 @@ module _ (l : List ℕ) (low : AllLow l) (k : ℕ) (t : Taps) where
   pub both-plain : (f g : Strength) → last_of (first_of (pair_of l k t.p0) (pair_of l k t.p1) (slice_index l k) f) (pair_of l k t.q0) (pair_of l k t.q1) (pair_of l k t.r0) (pair_of l k t.r1) (slice_index l k) g ≡ filtered_at l k t f g
   unfolding last_of first_of filtered_at
   both-plain f g = rw (pri-plain f, sec-plain g, lowest, highest)
+
+-- ---- the limits alike
+
+pub limit-is : (b : Bool) (p q : Pair) → further_of b (further_of b p.on p.back) (further_of b q.on q.back) ≡ limit_two b p q
+unfolding further_of limit_two low_two high_two
+limit-is false p q = refl
+limit-is true p q = refl
+
+pub limit-low : (b : Bool) (p q : Pair) → Low p → Low q → limit_two b p q < 16384
+unfolding limit_two low_two high_two
+limit-low false p q h g = omega (arith, h.on)
+limit-low true p q h g = omega (arith, h.on, h.back, g.on, g.back)
 
 -- ---- bounds of the sums
 

@@ -20,11 +20,6 @@ module _ (m k o : ℕ) (lo : m ≤ k) (hi : k + m < 2 ^ 63) (n : Reach m o) wher
   unfolding back_from
   back-near = ⊎_elim (λ w. (omega arith, omega arith)) (λ w. (omega arith, omega arith)) n.reach
 
-  -- the index from which the offset leads to k
-  pub back_is : (r : ℕ) → r < 2 ^ 64 → (r + o) % 2 ^ 64 ≡ k → r ≡ back_from k o
-  unfolding back_from
-  back_is r h e = ⊎_elim (λ w. omega arith) (λ w. omega arith) n.reach
-
   -- from an index further on
   pub on-more : (j : ℕ) → k + j + m < 2 ^ 63 → on_from (k + j) o ≡ on_from k o + j
   unfolding on_from
@@ -133,8 +128,8 @@ module _ (w y x r2 c2 : ℕ) (hw : w ≤ 4096) (hy : 2 ≤ y) (hh : y ≤ 4096) 
 
 -- ---- the steps by comparisons
 
-module _ (w p r : ℕ) (hw : w ≤ 4096) (hp : p ≤ 4096) (hr : r < 2 ^ 64) where
-  pub near-is : (dir : ℕ) → dir < 8 → (r + w) % 2 ^ 64 ≡ (cond (nat_le 1 dir) 1 0 + cond (nat_le 4 dir) 1 0) * w + cond (nat_le dir 4) 1 0 * p → r ≡ step_by w p dir 0
+module _ (w p s : ℕ) (hw : w ≤ 4096) (hp : p ≤ 4096) where
+  pub near-is : (dir : ℕ) → dir < 8 → s ≡ (cond (nat_le 1 dir) 1 0 + cond (nat_le 4 dir) 1 0) * w + cond (nat_le dir 4) 1 0 * p → (s + (2 ^ 64 - w)) % 2 ^ 64 ≡ step_by w p dir 0
   unfolding step_by wrapped_step rows cols
   near-is zero h e = omega arith
   near-is (suc zero) h e = omega arith
@@ -146,7 +141,7 @@ module _ (w p r : ℕ) (hw : w ≤ 4096) (hp : p ≤ 4096) (hr : r < 2 ^ 64) whe
   near-is (suc (suc (suc (suc (suc (suc (suc zero))))))) h e = omega arith
   near-is (suc (suc (suc (suc (suc (suc (suc (suc d)))))))) h e = absurd (omega arith)
 
-  pub far-is : (dir row : ℕ) → dir < 8 → row ≡ min dir 4 → (r + (2 * w + 2 * p)) % 2 ^ 64 ≡ row * w + (4 + row - dir) * p → r ≡ step_by w p dir 1
+  pub far-is : (dir row : ℕ) → dir < 8 → row ≡ min dir 4 → s ≡ row * w + (4 + row - dir) * p → (s + (2 ^ 64 - (2 * w + 2 * p))) % 2 ^ 64 ≡ step_by w p dir 1
   unfolding step_by wrapped_step rows cols
   far-is zero row h q e = let g = rw q at e in omega arith
   far-is (suc zero) row h q e = let g = rw q at e in omega arith

@@ -1,13 +1,15 @@
 // One sample from the values of its taps. The sums are those of the values, also where one of them is the mark.
+// InRange, HeldPair and c ≤ 16384 stay clauses (Kept): filter_rows and filter_limits say why.
+// pair_sum takes a strength and its shift as two numbers (Kept): trial_sums calls it with strengths whose weights it does not use.
 ghost use Rattle.std.specs.Prelude.{◌≡◌, ◌<◌, ◌≤◌};
 ghost use Rattle.filter_limits.specs.Limits.{HeldPair};
 ghost use Rattle.filter_rows.specs.Sums.{InRange};
-ghost use Rattle.plane_taps.specs.Plain.{Low, Bounded, pair_plain, pri_plain, sec_plain, low_two, high_two, first_of, last_of};
+ghost use Rattle.plane_taps.specs.Plain.{Low, Bounded, pair_plain, pri_plain, sec_plain, limit_two, first_of, last_of};
 
-use filter_limits::Pair;
+use filter_limits::{GREATEST, LEAST, Pair, further};
 use filter_rows::Strength;
 
-// the primary taps' sum, and the least and the greatest of them and the centre
+// The primary taps' sum, and the least and the greatest of them and the centre.
 #[derive(Clone, Copy)]
 pub struct Part {
     pub sum: i16,
@@ -44,25 +46,14 @@ pub fn sec_sum(q0: Pair, q1: Pair, r0: Pair, r1: Pair, c: u16, f: Strength) -> i
     filter_rows::both::weigh(a, b, f)
 }
 
-// The least of two pairs.
-fn low_two(p: Pair, q: Pair) -> u16
+// The least or the greatest of two pairs.
+fn limit_two<const LIMIT: bool>(p: Pair, q: Pair) -> u16
     requires { Low p × Low q }
-    ensures { (result ≡ low_two p q) × (result < 16384) }
+    ensures { (result ≡ limit_two LIMIT p q) × (result < 16384) }
 {
-    arith_sample::least(
-        arith_sample::least(p.on, p.back),
-        arith_sample::least(q.on, q.back),
-    )
-}
-
-// The greatest of them.
-fn high_two(p: Pair, q: Pair) -> u16
-    requires { Low p × Low q }
-    ensures { (result ≡ high_two p q) × (result < 16384) }
-{
-    arith_sample::most(
-        arith_sample::most(p.on, p.back),
-        arith_sample::most(q.on, q.back),
+    further::<LIMIT>(
+        further::<LIMIT>(p.on, p.back),
+        further::<LIMIT>(q.on, q.back),
     )
 }
 
@@ -73,8 +64,8 @@ pub fn first(p0: Pair, p1: Pair, c: u16, f: Strength) -> Part
 {
     Part {
         sum: pri_sum(p0, p1, c, f),
-        lo: arith_sample::least(low_two(p0, p1), c),
-        hi: arith_sample::most(high_two(p0, p1), c),
+        lo: limit_two::<LEAST>(p0, p1).min(c),
+        hi: limit_two::<GREATEST>(p0, p1).max(c),
     }
 }
 
@@ -84,7 +75,9 @@ pub fn last(m: Part, q0: Pair, q1: Pair, r0: Pair, r1: Pair, c: u16, g: Strength
     ensures { result ≡ last_of m q0 q1 r0 r1 c g }
 {
     let sum = arith_sample::add(m.sum, sec_sum(q0, q1, r0, r1, c, g));
-    let lo = arith_sample::least(m.lo, arith_sample::least(low_two(q0, q1), low_two(r0, r1)));
-    let hi = arith_sample::most(m.hi, arith_sample::most(high_two(q0, q1), high_two(r0, r1)));
+    let lo = m
+        .lo
+        .min(limit_two::<LEAST>(q0, q1).min(limit_two::<LEAST>(r0, r1)));
+    let hi = m.hi.max(limit_two::<GREATEST>(q0, q1).max(limit_two::<GREATEST>(r0, r1)));
     arith_sample::clipped(c, sum, lo, hi)
 }

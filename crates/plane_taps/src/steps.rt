@@ -1,23 +1,18 @@
 // The taps of a direction as offsets, computed without a jump: rows are w entries apart and columns p, in a plane 1.
+// Kept as three numbers with their bounds: a direction, and a pitch that is the plane's width, the window's or the strips'; two lines read each once.
 ghost use Rattle.std.specs.Prelude.{◌≡◌, ◌<◌, ◌≤◌, if◌then◌else◌};
 ghost use Rattle.plane_taps.specs.Steps.{step_by, taps_by};
 
 use filter_rows::Taps;
-
-fn one_if(b: bool) -> usize
-    ensures { (result ≡ (if b then 1 else 0)) × (result ≤ 1) }
-{
-    if b { 1 } else { 0 }
-}
 
 // The near step: rows -1, 0, 0, 0, 1, 1, 1, 1 and columns 1, 1, 1, 1, 1, 0, 0, 0.
 fn near(dir: usize, w: usize, p: usize) -> usize
     requires { (dir < 8) × (w ≤ 4096) × (p ≤ 4096) }
     ensures { result ≡ step_by w p dir 0 }
 {
-    let row = one_if(1 <= dir) + one_if(4 <= dir);
-    let col = one_if(dir <= 4);
-    std::num::wrapping_sub_usize(row * w + col * p, w)
+    let row = (1 <= dir) as usize + (4 <= dir) as usize;
+    let col = (dir <= 4) as usize;
+    (row * w + col * p).wrapping_sub(w)
 }
 
 // The far step: rows -2, -1, 0, 1, 2, 2, 2, 2 and columns 2, 2, 2, 2, 2, 1, 0, -1.
@@ -26,7 +21,7 @@ fn far(dir: usize, w: usize, p: usize) -> usize
     ensures { result ≡ step_by w p dir 1 }
 {
     let row = dir.min(4);
-    std::num::wrapping_sub_usize(row * w + (4 + row - dir) * p, 2 * w + 2 * p)
+    (row * w + (4 + row - dir) * p).wrapping_sub(2 * w + 2 * p)
 }
 
 // The offsets of a direction, of the one 2 further and of the one 6 further.

@@ -22,8 +22,8 @@ pub filter_window-requires : goal.filter_window-requires
 filter_window-requires c =
     let i = c.requires.begins.0 in
     let p = c.args.src.now in record {
-      x_lt_w = (i.x-in, i.y-in, p.sides.0, p.sides.1, i.bw, i.bh);
-      y0_le_y = c.requires.rows_fit;
+      begins = (i.x-in, i.y-in, p.sides.0, p.sides.1, i.bw, i.bh);
+      rows_fit = c.requires.rows_fit;
       held = (rw c.window-win.ensures c.requires.begins.1, c.requires.begins.2);
     }
 

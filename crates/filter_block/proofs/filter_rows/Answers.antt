@@ -25,39 +25,24 @@ turn l d last m w t f g y x i n r hn k e h = h ∙ stored_row d m w t f g y x i 
 inside : (s : Start) (i : ℕ) → i < s.args.rows → let a = s.args in (a.y + i) * a.w + (a.x + a.cols) ≤ length a.dst.now
 inside s i h =
     let a = s.args in
-    let q = s.requires.cols_bound in
+    let q = s.requires.rows_fit in
     let b : a.y + i + 1 ≤ a.y + a.rows = omega arith in
     omega (arith, mul-le-mul_right a.w b, q.0, q.5)
 
 pub loop-i-init : goal.loop-i-init
 loop-i-init c = (sym (block_none _ _ _ _ _ _), refl, omega arith)
 
-pub overflow_add-i : goal.overflow_add-i
-overflow_add-i c = omega arith
-
-pub overflow_mul-i : goal.overflow_mul-i
-overflow_mul-i c = omega arith
-
-pub overflow_add-i-in-loop-i : goal.overflow_add-i-in-loop-i
-overflow_add-i-in-loop-i c = omega arith
-
 pub kernel_row-row-requires : goal.kernel_row-row-requires
-kernel_row-row-requires c = let s = c.before.before.before in (omega arith, omega (arith, s.requires.cols_bound.3), s.requires.held.0, s.requires.held.1, s.requires.held.2, s.requires.held.3)
+kernel_row-row-requires c = let s = c.before.before.before in (omega arith, omega (arith, s.requires.rows_fit.3), s.requires.held.0, s.requires.held.1, s.requires.held.2, s.requires.held.3)
 
 pub overflow_add-y : goal.overflow_add-y
-overflow_add-y c = omega (arith, c.before.before.before.before.before.requires.cols_bound.2)
+overflow_add-y c = omega (arith, c.before.before.before.before.before.requires.rows_fit.2)
 
 pub store_row-requires : goal.store_row-requires
-store_row-requires c = let s = c.before.before.before.before.before in (omega (arith, inside s c.before.before.before.loop-i.i (omega arith), c.before.before.before.loop-i.invariant.1), s.requires.cols_bound.4)
-
-pub overflow_step-i : goal.overflow_step-i
-overflow_step-i c = omega arith
-
-pub loop-i-smaller : goal.loop-i-smaller
-loop-i-smaller c = omega arith
+store_row-requires c = let s = c.before.before.before.before.before in (omega (arith, inside s c.before.before.before.loop-i.i (omega arith), c.before.before.before.loop-i.invariant.1), s.requires.rows_fit.4)
 
 pub loop-i-preserved : goal.loop-i-preserved
-loop-i-preserved c = let p = c.before.before.before.before.before.before in let s = c.before.before.before.before.before.before.before.before in (turn _ _ _ _ _ _ _ _ _ _ _ _ _ s.requires.cols_bound.4 c.before.before.before.before.kernel_row-row.ensures p.loop-i.invariant.0 c.before.before.store_row.ensures, c.before.before.store_row.auto.dst ∙ p.loop-i.invariant.1, omega arith)
+loop-i-preserved c = let p = c.before.before.before.before.before.before in let s = c.before.before.before.before.before.before.before.before in (turn _ _ _ _ _ _ _ _ _ _ _ _ _ s.requires.rows_fit.4 c.before.before.before.before.kernel_row-row.ensures p.loop-i.invariant.0 c.before.before.store_row.ensures, c.before.before.store_row.auto.dst ∙ p.loop-i.invariant.1, omega arith)
 
 pub shape_of-dst : goal.shape_of-dst
 shape_of-dst c = c.before.loop-i.invariant.1

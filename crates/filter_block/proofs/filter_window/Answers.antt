@@ -19,11 +19,11 @@ glue l last m w q t f g d y x cols rows n k a b c e h i z = z ∙ rw (b, c, e, a
 
 pub filter_rows-requires : goal.filter_rows-requires
 filter_rows-requires c =
-    let q = c.requires.x_lt_w in
+    let q = c.requires.begins in
     let u = c.requires.held.1 in
     let e = c.min-cols.ensures in
     let f = c.min-rows.ensures in record {
-      cols_bound = (omega (arith, e, q.0), q.2, omega (arith, f, q.1, q.3), omega (arith, f, q.5), omega (arith, e, q.4), rw f c.requires.y0_le_y.1);
+      rows_fit = (omega (arith, e, q.0), q.2, omega (arith, f, q.1, q.3), omega (arith, f, q.5), omega (arith, e, q.4), rw f c.requires.rows_fit.1);
       held = (c.requires.held.0, rw c.taps-t.ensures (taps-near c.args.q.dir u.dir), rw c.primary-f.ensures (pri-in c.args.q.pri c.from_one-d.result c.args.q.depth u.pri), rw c.secondary-g.ensures (sec-in c.args.q.sec c.from_one-d.result u.sec));
     }
 

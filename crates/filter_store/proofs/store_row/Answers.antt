@@ -1,7 +1,6 @@
 -- `filter_store::store_row` meets its contract.
 use mathlib.Core.Path.{◌≡◌, refl, sym, ◌∙◌}
 use mathlib.Core.List.{List}
-use borrow.Author.Rules.{rules}
 use Prim.Native.Nat.{ℕ, ◌+◌, ◌-◌, ◌*◌}
 use native.Mathlib.Omega.{arith}
 use lib.ListN.{get_or, set, length-set}
@@ -19,48 +18,9 @@ step d l w r x j v row e f = let k : x + j - x ≡ j = omega arith in rw (row_mo
 pub loop-j-init : goal.loop-j-init
 loop-j-init c = (sym (row-none _ _ _ _ _), refl, omega arith)
 
-pub overflow_mul-k : goal.overflow_mul-k
-overflow_mul-k c = omega arith
-
-pub overflow_add-k : goal.overflow_add-k
-overflow_add-k c = omega arith
-
-pub overflow_add-k-in-loop-j : goal.overflow_add-k-in-loop-j
-overflow_add-k-in-loop-j c = omega arith
-
-pub offset_bounds-dst-k : goal.offset_bounds-dst-k
-offset_bounds-dst-k c = omega arith
-
-pub bounds-dst-k : goal.bounds-dst-k
-bounds-dst-k c = omega arith
-
-pub offset_bounds-row-j : goal.offset_bounds-row-j
-offset_bounds-row-j c = omega arith
-
-pub bounds-row-j : goal.bounds-row-j
-bounds-row-j c = omega arith
-
-pub keep-requires : goal.keep-requires
-keep-requires c = search rules
-
-pub offset_bounds-dst-k-in-loop-j : goal.offset_bounds-dst-k-in-loop-j
-offset_bounds-dst-k-in-loop-j c = omega arith
-
-pub bounds-dst-k-in-loop-j : goal.bounds-dst-k-in-loop-j
-bounds-dst-k-in-loop-j c = omega arith
-
-pub overflow_step-j : goal.overflow_step-j
-overflow_step-j c = omega arith
-
-pub loop-j-smaller : goal.loop-j-smaller
-loop-j-smaller c = omega arith
-
 pub loop-j-preserved : goal.loop-j-preserved
 loop-j-preserved c = let p = c.before.before.before in
     (step _ _ _ _ _ _ _ _ p.loop-j.invariant.0 c.keep.ensures, simp length-set p.loop-j.invariant.1, omega arith)
-
-pub shape_of-dst : goal.shape_of-dst
-shape_of-dst c = omega arith
 
 pub returns : goal.returns
 returns c = let full : c.before.loop-j.j ≡ c.before.before.before.args.n = omega arith in c.before.loop-j.invariant.0 ∙ rw full

@@ -8,15 +8,16 @@ use Rattle.cdef_spec.specs.Standard.{Tap}
 use Rattle.cdef_spec.specs.LoopForm.{put_block}
 use Rattle.cdef_spec.specs.Lent.{plane_in_full}
 use Rattle.filter_rows.specs.declared.Strength.{Strength}
+use Rattle.filter_rows.specs.Sums.{InRange}
 use Rattle.filter_window.specs.Spans.{BeginsIn}
 use Rattle.filter_window.specs.WindowLaws.{window-held}
 use Rattle.filter_kernel.specs.Kernel.{pri_of, sec_of}
 use Rattle.filter_block.specs.Store.{Usable}
 use Rattle.plane_taps.specs.Plain.{AllLow}
-use Rattle.plane_rows.specs.Rows.{Strong, Stored, pri_in, sec_in}
+use Rattle.plane_rows.specs.Rows.{Stored}
 use Rattle.plane_taps.specs.Steps.{taps_in}
-use Rattle.plane_block.specs.Inside.{Sided, Inner, block_from, params_from, stored_block}
-use Rattle.plane_block.specs.PlaneLaws.{block-two, stored, pri-passed, sec-passed, strong-passed, around-row, around-four, room}
+use Rattle.plane_block.specs.Inside.{Sided, Inner, Weighted, block_from, params_from, stored_block}
+use Rattle.plane_block.specs.PlaneLaws.{block-two, stored, pri-passed, sec-passed, pri-range, sec-range, around-row, around-four, room}
 use Rattle.plane_block.specs.RowLaws.{near-least}
 use Rattle.plane_block.proofs.filter_inside.Goals as goal
 
@@ -29,17 +30,17 @@ two-halves d mid last w F y z x a b e = b ∙ rw (e, a) (block-two d w F y x 4 4
 
 -- the strengths
 module _ (q : FilterParams) (d : ℕ) (f g : Strength) (ef : f ≡ pri_of q.pri d q.depth) (eg : g ≡ sec_of q.sec d) where
-  strong : Usable q → Strong f.s f.sh f.w0 g.s g.sh
-  strong u = rw (ef, eg) (strong-passed q.pri q.sec d q.depth u.pri u.sec)
+  ranges : Usable q → InRange f × InRange g
+  ranges u = (rw ef (pri-range q.pri q.sec d q.depth u.pri), rw eg (sec-range q.pri q.sec d q.depth u.sec))
 
-  least : 3 ≤ f.w0
-  least = rw ef (near-least _ _ _)
+  weighted : Weighted f g
+  weighted = record { least = rw ef (near-least _ _ _); pri = rw ef (pri-passed q.pri q.sec _ q.depth); sec = rw eg (sec-passed q.pri q.sec _ q.depth) }
 
-  pri-is : d ≡ max 1 q.damping.0 → pri_in f.s f.sh f.w0 ≡ pri_of q.pri (max 1 q.damping.0) q.depth
-  pri-is e = rw (ef, e) (pri-passed q.pri q.sec _ q.depth)
+  pri-is : d ≡ max 1 q.damping.0 → f ≡ pri_of q.pri (max 1 q.damping.0) q.depth
+  pri-is e = ef ∙ rw e
 
-  sec-is : d ≡ max 1 q.damping.0 → sec_in g.s g.sh ≡ sec_of q.sec (max 1 q.damping.0)
-  sec-is e = rw (eg, e) (sec-passed q.pri q.sec _ q.depth)
+  sec-is : d ≡ max 1 q.damping.0 → g ≡ sec_of q.sec (max 1 q.damping.0)
+  sec-is e = eg ∙ rw e
 
 -- a block's first sample
 first : (p : FullPlane) (b : Block) → BeginsIn p b → b.y * p.width + b.x < 2 ^ 25
@@ -78,8 +79,8 @@ eight_wide-requires c =
     let p = c.args.src.now in
     let r = c.requires.begins in
     let s = c.requires.rows_fit in record {
-      all_low = (r.1, p.sides.0, s.3, r.2.dir, strong (params_from c.args.pri c.args.sec c.args.dir c.args.damping c.args.depth) _ _ _ c.primary-f.ensures c.secondary-g.ensures r.2, least (params_from c.args.pri c.args.sec c.args.dir c.args.damping c.args.depth) _ _ c.secondary-g.result c.primary-f.ensures c.secondary-g.ensures, r.3);
-      by_index = λ i h. (around-row _ _ _ _ _ _ _ p.full p.sides.0 p.sides.1 s.4 _ i r.2.dir h c.if-bw-eq8.true, room _ _ _ _ _ i 8 s.1 h (omega (arith, s.4.right, c.if-bw-eq8.true)));
+      all_low = (r.1, p.sides.0, s.3, r.2.dir, (ranges (params_from c.args.pri c.args.sec c.args.dir c.args.damping c.args.depth) _ _ _ c.primary-f.ensures c.secondary-g.ensures r.2).0, (ranges (params_from c.args.pri c.args.sec c.args.dir c.args.damping c.args.depth) _ _ _ c.primary-f.ensures c.secondary-g.ensures r.2).1, weighted (params_from c.args.pri c.args.sec c.args.dir c.args.damping c.args.depth) _ _ _ c.primary-f.ensures c.secondary-g.ensures, r.3);
+      rows_inside = λ i h. (around-row _ _ _ _ _ _ _ p.full p.sides.0 p.sides.1 s.4 _ i r.2.dir h c.if-bw-eq8.true, room _ _ _ _ _ i 8 s.1 h (omega (arith, s.4.right, c.if-bw-eq8.true)));
     }
 
 pub returns-then-bw-eq8 : goal.returns-then-bw-eq8
@@ -97,7 +98,7 @@ rows-requires c =
     let s = c.requires.rows_fit in
     let a = c.args in
     let e : a.y * p.width + a.x + 0 * p.width ≡ a.y * p.width + a.x = omega arith in record {
-      all_low = (r.1, p.sides.0, r.2.dir, strong (params_from c.args.pri c.args.sec c.args.dir c.args.damping c.args.depth) _ _ _ c.primary-f.ensures c.secondary-g.ensures r.2);
+      all_low = (r.1, p.sides.0, r.2.dir, (ranges (params_from c.args.pri c.args.sec c.args.dir c.args.damping c.args.depth) _ _ _ c.primary-f.ensures c.secondary-g.ensures r.2).0, (ranges (params_from c.args.pri c.args.sec c.args.dir c.args.damping c.args.depth) _ _ _ c.primary-f.ensures c.secondary-g.ensures r.2).1);
       around = (rw e at (around-four _ _ a.x a.y _ _ _ p.full p.sides.0 p.sides.1 s.4 c.args.dir 0 r.2.dir (omega (arith, four s.3)) (four s.2)), omega (arith, room p.width a.x (a.y - c.args.y0) _ _ 3 4 s.1 (omega (arith, four s.3)) (omega (arith, s.4.right, four s.2))));
     }
 
@@ -120,7 +121,7 @@ rows-requires-2 c =
     let s = c.requires.rows_fit in
     let a = c.args in
     let k : a.bh ≡ 8 = whole s.3 c.if-bh-eq4.false in record {
-      all_low = (r.1, p.sides.0, r.2.dir, strong (params_from c.args.pri c.args.sec c.args.dir c.args.damping c.args.depth) _ _ _ c.primary-f.ensures c.secondary-g.ensures r.2);
+      all_low = (r.1, p.sides.0, r.2.dir, (ranges (params_from c.args.pri c.args.sec c.args.dir c.args.damping c.args.depth) _ _ _ c.primary-f.ensures c.secondary-g.ensures r.2).0, (ranges (params_from c.args.pri c.args.sec c.args.dir c.args.damping c.args.depth) _ _ _ c.primary-f.ensures c.secondary-g.ensures r.2).1);
       around = (around-four _ _ a.x a.y _ _ _ p.full p.sides.0 p.sides.1 s.4 c.args.dir 4 r.2.dir (omega arith) (four s.2), omega (arith, room p.width a.x (a.y - c.args.y0) _ _ 7 4 s.1 (omega arith) (omega (arith, s.4.right, four s.2)), c.rows.auto.dst));
     }
 

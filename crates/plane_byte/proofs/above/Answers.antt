@@ -5,4 +5,4 @@ use Rattle.plane_byte.proofs.above.Goals as goal
 
 pub returns : goal.returns
 unfolding above_of
-returns c = (c.min.ensures ∙ rw (c.less-2.ensures, c.less.ensures, c.less-d.ensures), omega (arith, c.min.ensures, c.less-2.ensures))
+returns c = (c.min.ensures ∙ rw (c.saturating_sub-2.ensures, c.saturating_sub.ensures, c.saturating_sub-d.ensures), omega (arith, c.min.ensures, c.saturating_sub-2.ensures))

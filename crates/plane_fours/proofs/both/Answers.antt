@@ -1,48 +1,19 @@
 -- `plane_fours::both` meets its contract.
-use Rattle.plane_fours.specs.RunLaws.{centre-low, on-low, back_low, first-all}
+use Rattle.plane_fours.specs.RunLaws.{centre-low, pairs-low}
 use Rattle.plane_fours.specs.FourLaws.{both-four}
-use Rattle.plane_fours.specs.Fours.{first_run}
-use Rattle.std.proofs.Common.{rules}
-use Rattle.plane_fours.specs.RunLaws.{centre-low, on-low, back_low, first-all}
 use Rattle.plane_fours.proofs.both.Goals as goal
 
-pub first-m-requires : goal.first-m-requires
-first-m-requires c = search rules
-
-pub run-c-requires : goal.run-c-requires
-run-c-requires c = search rules
-
-pub on-a0-requires : goal.on-a0-requires
-on-a0-requires c = search rules
-
-pub back-b0-requires : goal.back-b0-requires
-back-b0-requires c = search rules
-
-pub on-a1-requires : goal.on-a1-requires
-on-a1-requires c = search rules
-
-pub back-b1-requires : goal.back-b1-requires
-back-b1-requires c = search rules
-
-pub on-a2-requires : goal.on-a2-requires
-on-a2-requires c = search rules
-
-pub back-b2-requires : goal.back-b2-requires
-back-b2-requires c = search rules
-
-pub on-a3-requires : goal.on-a3-requires
-on-a3-requires c = search rules
-
-pub back-b3-requires : goal.back-b3-requires
-back-b3-requires c = let s = c.before.before.before.before.before.before.before.before.before.before in (s.requires.2, s.requires.0.r1)
-
-pub last-requires : goal.last-requires
-unfolding first_run
-last-requires c = let s = c.before.before.before.before.before.before.before.before.before.before.before.before.before.before.before.before.before.before.before.before in
-    let a = s.args in
-    (rw c.before.before.before.before.before.before.before.before.before.before.before.before.before.before.before.before.before.before.first-m.ensures (first-all _ _ _ _ _ a.f (centre-low a.src.now s.requires.1 a.w a.k) (on-low a.src.now s.requires.1 a.w a.k a.t.p0) (back_low a.src.now s.requires.1 a.w a.k a.t.p0) (on-low a.src.now s.requires.1 a.w a.k a.t.p1) (back_low a.src.now s.requires.1 a.w a.k a.t.p1) s.requires.3), rw c.before.before.before.before.before.before.before.before.before.before.before.before.before.before.before.before.before.run-c.ensures (centre-low a.src.now s.requires.1 a.w a.k), record { on0 = rw c.before.before.before.before.before.before.before.before.before.before.before.before.before.before.before.before.on-a0.ensures (on-low a.src.now s.requires.1 a.w a.k a.t.q0); back0 = rw c.before.before.before.before.before.before.before.before.before.before.before.before.before.before.before.back-b0.ensures (back_low a.src.now s.requires.1 a.w a.k a.t.q0); on1 = rw c.before.before.before.before.before.before.before.before.before.before.before.before.before.before.on-a1.ensures (on-low a.src.now s.requires.1 a.w a.k a.t.q1); back1 = rw c.before.before.before.before.before.before.before.before.before.before.before.before.before.back-b1.ensures (back_low a.src.now s.requires.1 a.w a.k a.t.q1) }, record { on0 = rw c.before.before.before.before.before.before.before.before.before.before.before.before.on-a2.ensures (on-low a.src.now s.requires.1 a.w a.k a.t.r0); back0 = rw c.before.before.before.before.before.before.before.before.before.before.before.back-b2.ensures (back_low a.src.now s.requires.1 a.w a.k a.t.r0); on1 = rw c.before.before.before.before.before.before.before.before.before.before.on-a3.ensures (on-low a.src.now s.requires.1 a.w a.k a.t.r1); back1 = rw c.before.before.before.before.before.before.before.before.before.back-b3.ensures (back_low a.src.now s.requires.1 a.w a.k a.t.r1) }, s.requires.4)
+pub both-requires : goal.both-requires
+both-requires c = let a = c.args in
+    let low = c.requires.1 in (
+      rw c.gather-c.ensures (centre-low a.src.now low a.w a.k),
+      pairs-low a.src.now low a.w a.k a.t.p0 a.t.p1 c.ahead-a0.ensures c.behind-b0.ensures c.ahead-a1.ensures c.behind-b1.ensures,
+      pairs-low a.src.now low a.w a.k a.t.q0 a.t.q1 c.ahead-a2.ensures c.behind-b2.ensures c.ahead-a3.ensures c.behind-b3.ensures,
+      pairs-low a.src.now low a.w a.k a.t.r0 a.t.r1 c.ahead-a4.ensures c.behind-b4.ensures c.ahead-a5.ensures c.behind-b5.ensures,
+      c.requires.3,
+      c.requires.4,
+    )
 
 pub returns : goal.returns
-returns c = let s = c.before.before.before.before.before.before.before.before.before.before.before.before.before.before.before.before.before.before.before.before.before in
-    let a = s.args in
-    both-four a.src.now s.requires.1 a.w a.k a.t c.before.before.before.before.before.before.before.before.before.before.before.before.before.before.before.before.before.before.run-c.ensures a.g c.before.before.before.before.before.before.before.before.before.before.before.before.before.before.before.before.before.on-a0.ensures c.before.before.before.before.before.before.before.before.before.before.before.before.before.before.before.before.back-b0.ensures c.before.before.before.before.before.before.before.before.before.before.before.before.before.before.before.on-a1.ensures c.before.before.before.before.before.before.before.before.before.before.before.before.before.before.back-b1.ensures c.before.before.before.before.before.before.before.before.before.before.before.before.before.on-a2.ensures c.before.before.before.before.before.before.before.before.before.before.before.before.back-b2.ensures c.before.before.before.before.before.before.before.before.before.before.before.on-a3.ensures c.before.before.before.before.before.before.before.before.before.before.back-b3.ensures a.f c.before.before.before.before.before.before.before.before.before.before.before.before.before.before.before.before.before.before.before.first-m.ensures c.last.ensures
+returns c = let a = c.args in
+    both-four a.src.now c.requires.1 a.w a.k a.t c.gather-c.ensures a.f a.g c.ahead-a0.ensures c.behind-b0.ensures c.ahead-a1.ensures c.behind-b1.ensures c.ahead-a2.ensures c.behind-b2.ensures c.ahead-a3.ensures c.behind-b3.ensures c.ahead-a4.ensures c.behind-b4.ensures c.ahead-a5.ensures c.behind-b5.ensures c.both.ensures

@@ -1,31 +1,19 @@
 -- `plane_fours::four` meets its contract.
-use Rattle.std.proofs.Common.{◌∙◌, rules}
+use Rattle.std.proofs.Common.{◌∙◌}
 use Rattle.arith_sample.specs.Upto.{upto-ext}
-use Rattle.plane_fours.specs.Fours.{centre_run}
+use Rattle.plane_taps.specs.Runs.{run_by}
 use Rattle.plane_rows.specs.LaneLaws.{kernel-none, kernel-sec, kernel-pri, kernel-both}
 use Rattle.plane_fours.proofs.four.Goals as goal
 
-pub run-requires : goal.run-requires
-run-requires c = search rules
+pub returns-in-0-eq0 : goal.returns-in-0-eq0
+unfolding run_by
+returns-in-0-eq0 c = c.gather.ensures ∙ upto-ext _ _ 16 (λ j l. kernel-none _ _ _ _ _ c.in-0-eq0.is-0 c.in-0-eq0.is-1)
 
-pub returns-then-g-eq0 : goal.returns-then-g-eq0
-unfolding centre_run
-returns-then-g-eq0 c = c.run.ensures ∙ upto-ext _ _ 16 (λ j l. kernel-none _ _ _ _ _ c.before.before.before.if-f-eq0.true c.before.if-g-eq0.true)
+pub returns-in-0-default : goal.returns-in-0-default
+returns-in-0-default c = c.sec.ensures ∙ upto-ext _ _ 16 (λ j l. kernel-sec _ _ _ _ _ c.in-0-default.is-0 c.in-0-default.is-1.1)
 
-pub sec-requires : goal.sec-requires
-sec-requires c = search rules
+pub returns-in_default-eq0 : goal.returns-in_default-eq0
+returns-in_default-eq0 c = c.pri.ensures ∙ upto-ext _ _ 16 (λ j l. kernel-pri _ _ _ _ _ c.in_default-eq0.is-0.1 c.in_default-eq0.is-1)
 
-pub returns-then-f-eq0 : goal.returns-then-f-eq0
-returns-then-f-eq0 c = c.sec.ensures ∙ upto-ext _ _ 16 (λ j l. kernel-sec _ _ _ _ _ c.before.before.before.if-f-eq0.true c.before.if-g-eq0.false)
-
-pub pri-requires : goal.pri-requires
-pri-requires c = search rules
-
-pub returns-then-g-eq0-2 : goal.returns-then-g-eq0-2
-returns-then-g-eq0-2 c = c.pri.ensures ∙ upto-ext _ _ 16 (λ j l. kernel-pri _ _ _ _ _ c.before.before.before.if-f-eq0.false c.before.if-g-eq0-2.true)
-
-pub both-requires : goal.both-requires
-both-requires c = search rules
-
-pub returns : goal.returns
-returns c = c.both.ensures ∙ upto-ext _ _ 16 (λ j l. kernel-both _ _ _ _ _ c.before.before.before.if-f-eq0.false c.before.if-g-eq0-2.false)
+pub returns-in_default : goal.returns-in_default
+returns-in_default c = c.both.ensures ∙ upto-ext _ _ 16 (λ j l. kernel-both _ _ _ _ _ c.in_default.is-0.1 c.in_default.is-1.1)

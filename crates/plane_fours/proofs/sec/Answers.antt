@@ -1,43 +1,17 @@
 -- `plane_fours::sec` meets its contract.
-use Rattle.plane_fours.specs.RunLaws.{centre-low, on-low, back_low}
+use Rattle.plane_fours.specs.RunLaws.{centre-low, pairs-low}
 use Rattle.plane_fours.specs.FourLaws.{sec-four}
-use Rattle.std.proofs.Common.{rules}
-use Rattle.plane_fours.specs.RunLaws.{centre-low, on-low, back_low}
 use Rattle.plane_fours.proofs.sec.Goals as goal
 
-pub run-c-requires : goal.run-c-requires
-run-c-requires c = search rules
-
-pub on-a0-requires : goal.on-a0-requires
-on-a0-requires c = search rules
-
-pub back-b0-requires : goal.back-b0-requires
-back-b0-requires c = search rules
-
-pub on-a1-requires : goal.on-a1-requires
-on-a1-requires c = search rules
-
-pub back-b1-requires : goal.back-b1-requires
-back-b1-requires c = search rules
-
-pub on-a2-requires : goal.on-a2-requires
-on-a2-requires c = search rules
-
-pub back-b2-requires : goal.back-b2-requires
-back-b2-requires c = search rules
-
-pub on-a3-requires : goal.on-a3-requires
-on-a3-requires c = search rules
-
-pub back-b3-requires : goal.back-b3-requires
-back-b3-requires c = search rules
-
 pub sec-requires : goal.sec-requires
-sec-requires c = let s = c.before.before.before.before.before.before.before.before.before.before.before.before.before.before.before.before.before.before.before in
-    let a = s.args in
-    (rw c.before.before.before.before.before.before.before.before.before.before.before.before.before.before.before.before.before.run-c.ensures (centre-low a.src.now s.requires.1 a.w a.k), record { on0 = rw c.before.before.before.before.before.before.before.before.before.before.before.before.before.before.before.before.on-a0.ensures (on-low a.src.now s.requires.1 a.w a.k a.t.q0); back0 = rw c.before.before.before.before.before.before.before.before.before.before.before.before.before.before.before.back-b0.ensures (back_low a.src.now s.requires.1 a.w a.k a.t.q0); on1 = rw c.before.before.before.before.before.before.before.before.before.before.before.before.before.before.on-a1.ensures (on-low a.src.now s.requires.1 a.w a.k a.t.q1); back1 = rw c.before.before.before.before.before.before.before.before.before.before.before.before.before.back-b1.ensures (back_low a.src.now s.requires.1 a.w a.k a.t.q1) }, record { on0 = rw c.before.before.before.before.before.before.before.before.before.before.before.before.on-a2.ensures (on-low a.src.now s.requires.1 a.w a.k a.t.r0); back0 = rw c.before.before.before.before.before.before.before.before.before.before.before.back-b2.ensures (back_low a.src.now s.requires.1 a.w a.k a.t.r0); on1 = rw c.before.before.before.before.before.before.before.before.before.before.on-a3.ensures (on-low a.src.now s.requires.1 a.w a.k a.t.r1); back1 = rw c.before.before.before.before.before.before.before.before.before.back-b3.ensures (back_low a.src.now s.requires.1 a.w a.k a.t.r1) }, s.requires.3)
+sec-requires c = let a = c.args in
+    let low = c.requires.1 in (
+      rw c.gather-c.ensures (centre-low a.src.now low a.w a.k),
+      pairs-low a.src.now low a.w a.k a.t.q0 a.t.q1 c.ahead-a0.ensures c.behind-b0.ensures c.ahead-a1.ensures c.behind-b1.ensures,
+      pairs-low a.src.now low a.w a.k a.t.r0 a.t.r1 c.ahead-a2.ensures c.behind-b2.ensures c.ahead-a3.ensures c.behind-b3.ensures,
+      c.requires.3,
+    )
 
 pub returns : goal.returns
-returns c = let s = c.before.before.before.before.before.before.before.before.before.before.before.before.before.before.before.before.before.before.before.before in
-    let a = s.args in
-    sec-four a.src.now s.requires.1 a.w a.k a.t c.before.before.before.before.before.before.before.before.before.before.before.before.before.before.before.before.before.before.run-c.ensures a.f c.before.before.before.before.before.before.before.before.before.before.before.before.before.before.before.before.before.on-a0.ensures c.before.before.before.before.before.before.before.before.before.before.before.before.before.before.before.before.back-b0.ensures c.before.before.before.before.before.before.before.before.before.before.before.before.before.before.before.on-a1.ensures c.before.before.before.before.before.before.before.before.before.before.before.before.before.before.back-b1.ensures c.before.before.before.before.before.before.before.before.before.before.before.before.before.on-a2.ensures c.before.before.before.before.before.before.before.before.before.before.before.before.back-b2.ensures c.before.before.before.before.before.before.before.before.before.before.before.on-a3.ensures c.before.before.before.before.before.before.before.before.before.before.back-b3.ensures c.sec.ensures
+returns c = let a = c.args in
+    sec-four a.src.now c.requires.1 a.w a.k a.t c.gather-c.ensures a.f c.ahead-a0.ensures c.behind-b0.ensures c.ahead-a1.ensures c.behind-b1.ensures c.ahead-a2.ensures c.behind-b2.ensures c.ahead-a3.ensures c.behind-b3.ensures c.sec.ensures

@@ -20,20 +20,8 @@ overflow_mul-at c = omega (arith, row_low c.before.before.args.w c.before.loop-i
 pub overflow_add-at : goal.overflow_add-at
 overflow_add-at c = omega (arith, row_low c.before.before.args.w c.before.loop-i.i (omega arith), c.before.before.requires.0)
 
-pub overflow_mul-from : goal.overflow_mul-from
-overflow_mul-from c = omega arith
-
 pub loop-j-init : goal.loop-j-init
 loop-j-init c = (sym (placed-none _ _ _ _), refl, omega arith)
-
-pub overflow_add-dst : goal.overflow_add-dst
-overflow_add-dst c = omega arith
-
-pub offset_bounds-v-from : goal.offset_bounds-v-from
-offset_bounds-v-from c = omega arith
-
-pub bounds-v-from : goal.bounds-v-from
-bounds-v-from c = omega arith
 
 pub overflow_add-dst-in-loop-j : goal.overflow_add-dst-in-loop-j
 overflow_add-dst-in-loop-j c = omega (arith, row_low c.before.before.before.before.args.w c.before.before.before.loop-i.i (omega arith), c.before.before.before.before.requires.0)
@@ -44,20 +32,8 @@ offset_bounds-dst-at c = omega (arith, row_low c.before.before.before.before.arg
 pub bounds-dst-at : goal.bounds-dst-at
 bounds-dst-at c = omega (arith, row_low c.before.before.before.before.args.w c.before.before.before.loop-i.i (omega arith), c.before.before.before.before.requires.0, c.before.loop-j.invariant.1, c.before.before.before.loop-i.invariant.1)
 
-pub overflow_step-j : goal.overflow_step-j
-overflow_step-j c = omega arith
-
-pub loop-j-smaller : goal.loop-j-smaller
-loop-j-smaller c = omega arith
-
 pub loop-j-preserved : goal.loop-j-preserved
 loop-j-preserved c = let p = c.before.loop-j in (step _ _ _ _ _ _ p.invariant.0, simp length-set p.invariant.1, omega arith)
-
-pub overflow_step-i : goal.overflow_step-i
-overflow_step-i c = omega arith
-
-pub loop-i-smaller : goal.loop-i-smaller
-loop-i-smaller c = omega arith
 
 pub loop-i-preserved : goal.loop-i-preserved
 loop-i-preserved c = let p = c.before.loop-j in

@@ -6,7 +6,6 @@ use native.Mathlib.Omega.{arith}
 use borrow.Author.Tests.{le-leb, lt-leb}
 use lib.Dec.{leb}
 use Rattle.plane_inside.specs.Inner.{inner_block}
-use borrow.Author.Rules.{rules}
 use Rattle.plane_inside.proofs.inside.Goals as goal
 
 module _ (w h x y bw bh : ℕ) where
@@ -32,20 +31,8 @@ returns-then-x-lt2 c = no-left _ _ _ _ _ _ c.if-x-lt2.true
 pub returns-then-y-lt2 : goal.returns-then-y-lt2
 returns-then-y-lt2 c = no_top _ _ _ _ _ _ (omega arith) c.if-y-lt2.true
 
-pub overflow_add-x : goal.overflow_add-x
-overflow_add-x c = search rules
-
-pub overflow_add-x-2 : goal.overflow_add-x-2
-overflow_add-x-2 c = search rules
-
 pub returns-then-w-x : goal.returns-then-w-x
 returns-then-w-x c = no-right _ _ _ _ _ _ (omega arith) (omega arith) c.if-w-x.true
-
-pub overflow_add-result : goal.overflow_add-result
-overflow_add-result c = search rules
-
-pub overflow_add-result-2 : goal.overflow_add-result-2
-overflow_add-result-2 c = search rules
 
 pub returns : goal.returns
 returns c = by-bottom _ _ _ _ _ _ (omega arith) (omega arith) (omega arith)

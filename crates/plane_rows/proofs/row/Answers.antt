@@ -7,22 +7,22 @@ use Rattle.filter_rows.specs.Sums.{pri_at, sec_at, filtered_at}
 use Rattle.plane_rows.specs.LaneLaws.{kernel-none, kernel-sec, kernel-pri, kernel-both}
 use Rattle.plane_rows.proofs.row.Goals as goal
 
-pub returns-then-g-eq0 : goal.returns-then-g-eq0
-returns-then-g-eq0 c =
+pub returns-in-0-eq0 : goal.returns-in-0-eq0
+returns-in-0-eq0 c =
     from-each (λ (j : ℕ). get_or c.args.src.now (c.args.k + j) 0) _ (λ i y q e. search rules) _ 8 c.from_fn.ensures.items
-    ∙ upto-ext _ _ 8 (λ j l. kernel-none _ _ _ _ _ c.if-f-eq0.true c.if-g-eq0.true)
+    ∙ upto-ext _ _ 8 (λ j l. kernel-none _ _ _ _ _ c.in-0-eq0.is-0 c.in-0-eq0.is-1)
 
-pub returns-then-f-eq0 : goal.returns-then-f-eq0
-returns-then-f-eq0 c =
-    from-each (λ (j : ℕ). free_of (get_or c.args.src.now (c.args.k + j) 0) (sec_at c.args.src.now (c.args.k + j) c.args.t c.args.g)) _ (λ i y q e. search rules) _ 8 c.from_fn-then-f-eq0.ensures.items
-    ∙ upto-ext _ _ 8 (λ j l. kernel-sec _ _ _ _ _ c.if-f-eq0.true c.if-g-eq0.false)
+pub returns-in-0-default : goal.returns-in-0-default
+returns-in-0-default c =
+    from-each (λ (j : ℕ). free_of (get_or c.args.src.now (c.args.k + j) 0) (sec_at c.args.src.now (c.args.k + j) c.args.t c.args.g)) _ (λ i y q e. search rules) _ 8 c.from_fn-in-0-default.ensures.items
+    ∙ upto-ext _ _ 8 (λ j l. kernel-sec _ _ _ _ _ c.in-0-default.is-0 c.in-0-default.is-1.1)
 
-pub returns-then-g-eq0-2 : goal.returns-then-g-eq0-2
-returns-then-g-eq0-2 c =
-    from-each (λ (j : ℕ). free_of (get_or c.args.src.now (c.args.k + j) 0) (pri_at c.args.src.now (c.args.k + j) c.args.t c.args.f)) _ (λ i y q e. search rules) _ 8 c.from_fn-then-g-eq0-2.ensures.items
-    ∙ upto-ext _ _ 8 (λ j l. kernel-pri _ _ _ _ _ c.if-f-eq0.false c.if-g-eq0-2.true)
+pub returns-in_default-eq0 : goal.returns-in_default-eq0
+returns-in_default-eq0 c =
+    from-each (λ (j : ℕ). free_of (get_or c.args.src.now (c.args.k + j) 0) (pri_at c.args.src.now (c.args.k + j) c.args.t c.args.f)) _ (λ i y q e. search rules) _ 8 c.from_fn-in_default-eq0.ensures.items
+    ∙ upto-ext _ _ 8 (λ j l. kernel-pri _ _ _ _ _ c.in_default-eq0.is-0.1 c.in_default-eq0.is-1)
 
-pub returns : goal.returns
-returns c =
-    from-each (λ (j : ℕ). filtered_at c.args.src.now (c.args.k + j) c.args.t c.args.f c.args.g) _ (λ i y q e. search rules) _ 8 c.from_fn-2.ensures.items
-    ∙ upto-ext _ _ 8 (λ j l. kernel-both _ _ _ _ _ c.if-f-eq0.false c.if-g-eq0-2.false)
+pub returns-in_default : goal.returns-in_default
+returns-in_default c =
+    from-each (λ (j : ℕ). filtered_at c.args.src.now (c.args.k + j) c.args.t c.args.f c.args.g) _ (λ i y q e. search rules) _ 8 c.from_fn-in_default.ensures.items
+    ∙ upto-ext _ _ 8 (λ j l. kernel-both _ _ _ _ _ c.in_default.is-0.1 c.in_default.is-1.1)

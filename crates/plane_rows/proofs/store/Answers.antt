@@ -20,15 +20,6 @@ overflow_mul-from c = omega (arith, c.before.before.requires.0)
 pub loop-j-init : goal.loop-j-init
 loop-j-init c = (sym (placed-none _ _ _ _), refl, omega arith)
 
-pub overflow_add-dst : goal.overflow_add-dst
-overflow_add-dst c = omega arith
-
-pub offset_bounds-all-from : goal.offset_bounds-all-from
-offset_bounds-all-from c = omega arith
-
-pub bounds-all-from : goal.bounds-all-from
-bounds-all-from c = omega arith
-
 pub overflow_add-dst-in-loop-j : goal.overflow_add-dst-in-loop-j
 overflow_add-dst-in-loop-j c = omega (arith, c.before.before.before.before.before.requires.1 c.before.before.before.before.loop-i.i (omega arith))
 
@@ -38,20 +29,8 @@ offset_bounds-dst-at c = omega (arith, c.before.before.before.before.before.requ
 pub bounds-dst-at : goal.bounds-dst-at
 bounds-dst-at c = omega (arith, c.before.before.before.before.before.requires.1 c.before.before.before.before.loop-i.i (omega arith), c.before.before.loop-j.invariant.1, c.before.before.before.before.loop-i.invariant.1)
 
-pub overflow_step-j : goal.overflow_step-j
-overflow_step-j c = omega arith
-
-pub loop-j-smaller : goal.loop-j-smaller
-loop-j-smaller c = omega arith
-
 pub loop-j-preserved : goal.loop-j-preserved
 loop-j-preserved c = let p = c.before.before.loop-j in (placed-next-from _ _ _ _ _ _ p.invariant.0, simp length-set p.invariant.1, omega arith)
-
-pub overflow_step-i : goal.overflow_step-i
-overflow_step-i c = omega arith
-
-pub loop-i-smaller : goal.loop-i-smaller
-loop-i-smaller c = omega arith
 
 pub loop-i-preserved : goal.loop-i-preserved
 loop-i-preserved c = let p = c.before.loop-j in

@@ -1,12 +1,9 @@
 -- `filter_rows::both::constrain` meets its contract.
-use Rattle.std.proofs.Common.{sym, ◌∙◌, arith, rules}
+use Rattle.std.proofs.Common.{sym, ◌∙◌, arith}
 use Rattle.filter_rows.specs.PairsLaws.{con-mark, con-tap}
 use Rattle.arith_sample.specs.SampleLaws.{size-con}
 use Rattle.arith_sample.proofs.Joins.{back_is}
 use Rattle.filter_rows.proofs.both.constrain.Goals as goal
-
-pub constrain_tap-d-requires : goal.constrain_tap-d-requires
-constrain_tap-d-requires c = search rules
 
 pub returns-then-t-eq-MARK : goal.returns-then-t-eq-MARK
 returns-then-t-eq-MARK c = sym (con-mark _ _ _ _ c.if-t-eq-MARK.true)

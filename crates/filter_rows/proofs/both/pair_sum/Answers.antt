@@ -1,26 +1,20 @@
 -- `filter_rows::both::pair_sum` meets its contract.
-use Rattle.std.proofs.Common.{arith, rules}
+use Rattle.std.proofs.Common.{arith}
 use Rattle.filter_rows.specs.Pairs.{con_tap, pair_sum}
 use Rattle.filter_rows.proofs.Bounds.{size-tap}
 use Rattle.arith_sample.proofs.Joins.{Is, add_ok, add_is, back_is}
 use Rattle.filter_rows.proofs.both.pair_sum.Goals as goal
 use Rattle.filter_rows.proofs.both.pair_sum.Goals.{After-constrain, After-constrain-2}
 
-one : (c : After-constrain) → let a = c.before.args in Is c.constrain.result (con_tap a.p.on a.c a.s a.sh) 240
+one : (c : After-constrain) → let a = c.before.args in Is c.constrain.result (con_tap a.p.on a.c a.f.s a.f.sh) 240
 one c = let s = c.before in
     let a = s.args in
-    record { is = c.constrain.ensures; small = omega (arith, size-tap a.p.on a.c a.s a.sh, s.requires.2) }
+    record { is = c.constrain.ensures; small = omega (arith, size-tap a.p.on a.c a.f.s a.f.sh, s.requires.2.s) }
 
-other : (c : After-constrain-2) → let a = c.before.before.args in Is c.constrain-2.result (con_tap a.p.back a.c a.s a.sh) 240
+other : (c : After-constrain-2) → let a = c.before.before.args in Is c.constrain-2.result (con_tap a.p.back a.c a.f.s a.f.sh) 240
 other c = let s = c.before.before in
     let a = s.args in
-    record { is = c.constrain-2.ensures; small = omega (arith, size-tap a.p.back a.c a.s a.sh, s.requires.2) }
-
-pub constrain-requires : goal.constrain-requires
-constrain-requires c = search rules
-
-pub constrain-requires-2 : goal.constrain-requires-2
-constrain-requires-2 c = search rules
+    record { is = c.constrain-2.ensures; small = omega (arith, size-tap a.p.back a.c a.f.s a.f.sh, s.requires.2.s) }
 
 pub add-requires : goal.add-requires
 add-requires c = add_ok (one c.before) (other c) (omega arith)

@@ -1,5 +1,5 @@
 -- `filter_rows::both::pri_sum` meets its contract.
-use Rattle.std.proofs.Common.{◌∙◌, arith, rules}
+use Rattle.std.proofs.Common.{◌∙◌, arith}
 use Rattle.filter_rows.specs.Pairs.{pair_sum, pri_sum}
 use Rattle.filter_rows.proofs.Bounds.{size-pair-sum, size-pri-sum, small-back}
 use Rattle.arith_sample.proofs.Joins.{Is, back_is}
@@ -15,12 +15,6 @@ other : (c : After-pair_sum-2) → let a = c.before.before.args in Is c.pair_sum
 other c = let s = c.before.before in
     let a = s.args in
     record { is = c.pair_sum-2.ensures; small = size-pair-sum a.e.p1 a.c a.f.s a.f.sh s.requires.2.s }
-
-pub pair_sum-requires : goal.pair_sum-requires
-pair_sum-requires c = search rules
-
-pub pair_sum-requires-2 : goal.pair_sum-requires-2
-pair_sum-requires-2 c = search rules
 
 pub weigh-requires : goal.weigh-requires
 weigh-requires c = (small-back (one c.before.before) (omega arith) (omega arith), small-back (other c) (omega arith) (omega arith), c.before.before.requires.2)

@@ -1,5 +1,5 @@
 -- `filter_rows::both::sec_sum` meets its contract.
-use Rattle.std.proofs.Common.{◌+ℤ◌, ◌∙◌, arith, rules}
+use Rattle.std.proofs.Common.{◌+ℤ◌, ◌∙◌, arith}
 use Rattle.filter_rows.specs.Pairs.{pair_sum, sec_sum}
 use Rattle.filter_rows.proofs.Bounds.{size-pair-sum, size-sec-sum, small-back}
 use Rattle.arith_sample.proofs.Joins.{Is, add_ok, add_is, back_is}
@@ -32,20 +32,8 @@ near c = add_is (one c.before.before.before) (two c.before) (omega arith) c.add-
 far : (c : After-add-b) → let a = c.before.before.before.before.before.before.args in Is c.add-b.result (pair_sum a.e.q1 a.c a.f.s a.f.sh +ℤ pair_sum a.e.r1 a.c a.f.s a.f.sh) 960
 far c = add_is (three c.before.before.before) (four c.before) (omega arith) c.add-b.ensures
 
-pub pair_sum-requires : goal.pair_sum-requires
-pair_sum-requires c = search rules
-
-pub pair_sum-requires-2 : goal.pair_sum-requires-2
-pair_sum-requires-2 c = search rules
-
 pub add-a-requires : goal.add-a-requires
 add-a-requires c = add_ok (one c.before.before) (two c) (omega arith)
-
-pub pair_sum-requires-3 : goal.pair_sum-requires-3
-pair_sum-requires-3 c = search rules
-
-pub pair_sum-requires-4 : goal.pair_sum-requires-4
-pair_sum-requires-4 c = search rules
 
 pub add-b-requires : goal.add-b-requires
 add-b-requires c = add_ok (three c.before.before) (four c) (omega arith)

@@ -1,10 +1,10 @@
 -- `plane_bytes::eights::rows` meets its contract.
 use Rattle.std.proofs.Common.{◌≡◌, ◌-◌, ◌*◌, ◌≤◌, length}
-use Rattle.plane_rows.specs.Rows.{pri_in, sec_in, KernelRows}
+use Rattle.plane_rows.specs.Rows.{KernelRows}
 use Rattle.plane_bytes.proofs.eights.rows.Given as goal
 
 abbrev pub invariant-loop-i : goal.invariant-loop-i
-invariant-loop-i l = KernelRows l.src l.all l.w l.at l.t (pri_in l.s l.sh l.near) (sec_in l.s2 l.sh2) 8 (2 * l.i) × (length l.all ≡ 64) × (l.i ≤ l.n)
+invariant-loop-i l = KernelRows l.src l.all l.w l.at l.t l.f l.g 8 (2 * l.i) × (length l.all ≡ 64) × (l.i ≤ l.n)
 
 abbrev pub decreases-loop-i : goal.decreases-loop-i
 decreases-loop-i l = l.n - l.i

@@ -1,5 +1,5 @@
 -- `plane_taps::plain::pair_sum` meets its contract.
-use Rattle.std.proofs.Common.{arith, rules}
+use Rattle.std.proofs.Common.{arith}
 use Rattle.arith_sample.specs.Sample.{con_of}
 use Rattle.arith_sample.specs.SampleLaws.{size-con}
 use Rattle.arith_sample.proofs.Joins.{Is, add_ok, add_is, back_is}
@@ -16,12 +16,6 @@ other : (c : After-constrain_tap-2) → let a = c.before.before.args in Is c.con
 other c = let s = c.before.before in
     let a = s.args in
     record { is = c.constrain_tap-2.ensures; small = omega (arith, size-con a.p.back a.c a.s a.sh, s.requires.2) }
-
-pub constrain_tap-requires : goal.constrain_tap-requires
-constrain_tap-requires c = search rules
-
-pub constrain_tap-requires-2 : goal.constrain_tap-requires-2
-constrain_tap-requires-2 c = search rules
 
 pub add-requires : goal.add-requires
 add-requires c = add_ok (one c.before) (other c) (omega arith)

@@ -1,5 +1,5 @@
 -- `plane_taps::plain::pri_sum` meets its contract.
-use Rattle.std.proofs.Common.{◌∙◌, arith, rules}
+use Rattle.std.proofs.Common.{◌∙◌, arith}
 use Rattle.arith_sample.proofs.Joins.{Is, back_is}
 use Rattle.filter_rows.proofs.Bounds.{small-back}
 use Rattle.plane_taps.specs.Plain.{pair_plain, pri_plain}
@@ -16,12 +16,6 @@ other : (c : After-pair_sum-2) → let a = c.before.before.args in Is c.pair_sum
 other c = let s = c.before.before in
     let a = s.args in
     record { is = c.pair_sum-2.ensures; small = size-pair a.p1 a.c a.f.s a.f.sh s.requires.3.s }
-
-pub pair_sum-requires : goal.pair_sum-requires
-pair_sum-requires c = search rules
-
-pub pair_sum-requires-2 : goal.pair_sum-requires-2
-pair_sum-requires-2 c = search rules
 
 pub weigh-requires : goal.weigh-requires
 weigh-requires c = (small-back (one c.before) (omega arith) (omega arith), small-back (other c) (omega arith) (omega arith), c.before.before.requires.3)

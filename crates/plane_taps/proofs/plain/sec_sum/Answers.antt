@@ -1,5 +1,5 @@
 -- `plane_taps::plain::sec_sum` meets its contract.
-use Rattle.std.proofs.Common.{◌+ℤ◌, ◌∙◌, arith, rules}
+use Rattle.std.proofs.Common.{◌+ℤ◌, ◌∙◌, arith}
 use Rattle.arith_sample.proofs.Joins.{Is, add_ok, add_is, back_is}
 use Rattle.filter_rows.proofs.Bounds.{small-back}
 use Rattle.plane_taps.specs.Plain.{pair_plain, sec_plain}
@@ -29,20 +29,8 @@ p4 c = let s = c.before.before.before.before.before in
 far : (c : After-add-b) → let a = c.before.before.before.before.before.before.args in Is c.add-b.result (pair_plain a.q1 a.c a.f.s a.f.sh +ℤ pair_plain a.r1 a.c a.f.s a.f.sh) 960
 far c = add_is (p3 c.before.before) (p4 c.before) (omega arith) c.add-b.ensures
 
-pub pair_sum-requires : goal.pair_sum-requires
-pair_sum-requires c = search rules
-
-pub pair_sum-requires-2 : goal.pair_sum-requires-2
-pair_sum-requires-2 c = search rules
-
 pub add-a-requires : goal.add-a-requires
 add-a-requires c = add_ok (p1 c.before) (p2 c) (omega arith)
-
-pub pair_sum-requires-3 : goal.pair_sum-requires-3
-pair_sum-requires-3 c = search rules
-
-pub pair_sum-requires-4 : goal.pair_sum-requires-4
-pair_sum-requires-4 c = search rules
 
 pub add-b-requires : goal.add-b-requires
 add-b-requires c = add_ok (p3 c.before) (p4 c) (omega arith)

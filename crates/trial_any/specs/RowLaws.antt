@@ -1,14 +1,15 @@
 -- The trials' taps and strengths lie in range, and rows stored one after the other make a trial block.
-use Rattle.std.specs.Prelude.{◌≡◌, refl, Bool, true, false, cond, List, ℕ, ◌+◌, ◌-◌, ◌*◌, ◌/◌, ◌%◌, ◌≤◌, ◌<◌, eqb, get_or, set, replicate}
+use Rattle.std.specs.Prelude.{◌≡◌, refl, Bool, true, false, cond, List, [], ◌∷◌, ℕ, zero, suc, ◌+◌, ◌-◌, ◌*◌, ◌/◌, ◌%◌, ◌≤◌, ◌<◌, eqb, get_or, length, take, replicate}
 use Rattle.std.proofs.Common.{sym, ap, ◌∙◌, mul-le-mul, mul_comm, div-add-mod', eqb-true}
 use native.Mathlib.Omega.{arith}
 use Rattle.std.proofs.Math.Arith.{digits_div, digits_mod}
+use Rattle.std.proofs.Math.Seq.{length-take-le, get_or-take}
 use Rattle.std.proofs.lemmas.List.{length-replicate, get_or-replicate}
 use Rattle.cdef_spec.specs.Standard.{sample, missing}
 use Rattle.cdef_spec.specs.Document01.{unmarked, or_else}
 use Rattle.cdef_spec.specs.GeometryLaws.{row_of}
 use Rattle.cdef_spec.specs.LoopForm.{put_row, put_block}
-use Rattle.cdef_spec.proofs.PlaneLaws.{row_same, block_in, block_more}
+use Rattle.cdef_spec.proofs.PlaneLaws.{row_same, block_in, block_more, length-put-block}
 use Rattle.arith_sample.specs.Upto.{upto, get_or-upto}
 use Rattle.filter_block.specs.Store.{window_tap}
 use Rattle.filter_rows.specs.declared.Taps.{Taps}
@@ -16,7 +17,6 @@ use Rattle.filter_rows.specs.declared.Strength.{Strength}
 use Rattle.filter_rows.specs.Sums.{Near6, InRange}
 use Rattle.filter_kernel.specs.Kernel.{kernel_at}
 use Rattle.trial_runs.specs.Runs.{run_tap}
-use Rattle.trial_runs.specs.RunLaws.{run_more}
 use Rattle.trial_runs.specs.JoinLaws.{row-join}
 use Rattle.trial_strengths.specs.declared.Twelve.{Twelve}
 use Rattle.trial_strengths.specs.Strengths.{Ready}
@@ -43,10 +43,6 @@ module _ (u : Twelve) (r : Ready u) where
   pub secondary-in : (j : ℕ) → InRange (secondary_by u j)
   unfolding secondary_by
   secondary-in j = taken InRange (eqb j 0) _ _ none_in (taken InRange (eqb j 1) _ _ r.s1 r.s2)
-
--- one entry more of a trial block
-pub entry_more : (d l v : List ℕ) (t j : ℕ) → d ≡ put_row l 64 (run_tap v 0) t 0 j → set d (t * 64 + j) (get_or v j 0) ≡ put_row l 64 (run_tap v 0) t 0 (j + 1)
-entry_more d l v t j e = let z : t * 64 + 0 + j ≡ t * 64 + j = omega arith in rw z at (run_more d l v t 0 j e)
 
 -- a sample or a mark, stored over a mark
 over-mark : (v : ℕ) → or_else 16384 (unmarked v) ≡ v
@@ -80,10 +76,20 @@ module _ (win : List ℕ) (o : Taps) (f g : Strength) (w h : ℕ) (hw : w ≤ 8)
       rw e (ap (λ (i : ℕ). get_or (put_block (replicate 64 16384) w (window_tap win o f g 0 0) 0 0 w h) i 0) (sym k) ∙ b ∙ rw (k, m) (window-entry (c / w) (c % w)))
 
   -- the trial block
-  pub trial-is : (l last room : List ℕ) (t : ℕ) → room ≡ put_block (replicate 64 16384) w (window_tap win o f g 0 0) 0 0 w h → last ≡ put_row l 64 (run_tap room 0) t 0 (h * w)
+  pub room-long : (room : List ℕ) → room ≡ put_block (replicate 64 16384) w (window_tap win o f g 0 0) 0 0 w h → length room ≡ 64
+  room-long room e = ap length e ∙ length-put-block w (window_tap win o f g 0 0) (replicate 64 16384) 0 0 w h ∙ length-replicate {A = ℕ} 64 16384
+
+  pub taken-long : (room : List ℕ) → length room ≡ 64 → length (take (h * w) room) ≡ h * w
+  taken-long room r = length-take-le (h * w) room (omega (arith, r, small w h hw hh))
+
+  pub trial-is : (l last room : List ℕ) (t : ℕ) → room ≡ put_block (replicate 64 16384) w (window_tap win o f g 0 0) 0 0 w h → last ≡ put_row l 64 (run_tap (take (h * w) room) 0) t 0 (length (take (h * w) room))
       → last ≡ put_row l 64 (kernel_tap win o f g w) t 0 (h * w)
   unfolding run_tap kernel_tap
-  trial-is l last room t e q = q ∙ row_same l 64 (run_tap room 0) (kernel_tap win o f g w) t 0 (h * w) (λ c a b. let z : c - 0 ≡ c = omega arith in rw z (ap sample (room-entry room e c (omega arith))))
+  trial-is l last room t e q =
+      q ∙ rw (taken-long room (room-long room e)) (row_same l 64 (run_tap (take (h * w) room) 0) (kernel_tap win o f g w) t 0 (h * w) (λ c a b.
+      let z : c - 0 ≡ c = omega arith in
+      let k : c < h * w = omega arith in
+      rw z (ap sample (get_or-take (h * w) room c 0 k ∙ room-entry room e c k))))
 
 -- one trial block more
 pub trials-more : (win : List ℕ) (u : Twelve) (w n : ℕ) (l d last : List ℕ) (t : ℕ) (o : Taps) (f g : Strength) → o ≡ taps_by u (t % 4) → f ≡ primary_by u (t % 4) → g ≡ secondary_by u (t / 4)
@@ -94,6 +100,38 @@ trials-more win u w n l d last t o f g eo ef eg e h =
     h
     ∙ row_same d 64 (kernel_tap win o f g w) (any_tap win u w) t 0 n (λ c a b. rw (eo, ef, eg))
     ∙ rw (block_more l 64 (any_tap win u w) 0 0 n t, z, e)
+
+-- the strengths of the pair i, j
+primary-at : (u : Twelve) (i : ℕ) → i < 4 → get_or (none ∷ u.p1 ∷ u.p2 ∷ u.p3 ∷ []) i none ≡ primary_by u i
+unfolding primary_by
+primary-at u zero h = refl
+primary-at u (suc zero) h = refl
+primary-at u (suc (suc zero)) h = refl
+primary-at u (suc (suc (suc zero))) h = refl
+primary-at u (suc (suc (suc (suc i)))) h = absurd (omega arith)
+
+secondary-at : (u : Twelve) (j : ℕ) → j < 3 → get_or (none ∷ u.s1 ∷ u.s2 ∷ []) j none ≡ secondary_by u j
+unfolding secondary_by
+secondary-at u zero h = refl
+secondary-at u (suc zero) h = refl
+secondary-at u (suc (suc zero)) h = refl
+secondary-at u (suc (suc (suc j))) h = absurd (omega arith)
+
+module _ (u : Twelve) (r : Ready u) where
+  pub primary-ready : (i : ℕ) → i < 4 → InRange (get_or (none ∷ u.p1 ∷ u.p2 ∷ u.p3 ∷ []) i none)
+  primary-ready i h = rw (primary-at u i h) (primary-in u r i)
+
+  pub secondary-ready : (j : ℕ) → j < 3 → InRange (get_or (none ∷ u.s1 ∷ u.s2 ∷ []) j none)
+  secondary-ready j h = rw (secondary-at u j h) (secondary-in u r j)
+
+-- the trial of that pair
+pub pair-more : (win : List ℕ) (u : Twelve) (w n : ℕ) (l d last : List ℕ) (j i : ℕ) (o : Taps) → j < 3 → i < 4 → o ≡ taps_by u i → d ≡ put_block l 64 (any_tap win u w) 0 0 n (j * 4 + i)
+    → last ≡ put_row d 64 (kernel_tap win o (get_or (none ∷ u.p1 ∷ u.p2 ∷ u.p3 ∷ []) i none) (get_or (none ∷ u.s1 ∷ u.s2 ∷ []) j none) w) (j * 4 + i) 0 n → last ≡ put_block l 64 (any_tap win u w) 0 0 n (j * 4 + (i + 1))
+pair-more win u w n l d last j i o hj hi eo e h =
+    let a : (j * 4 + i) % 4 ≡ i = omega arith in
+    let b : (j * 4 + i) / 4 ≡ j = omega arith in
+    let z : j * 4 + (i + 1) ≡ j * 4 + i + 1 = omega arith in
+    rw z (trials-more win u w n l d last (j * 4 + i) o _ _ (rw a eo) (rw a (primary-at u i hi)) (rw b (secondary-at u j hj)) e h)
 
 -- ---- row by row
 

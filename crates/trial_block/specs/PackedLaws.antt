@@ -1,6 +1,6 @@
 -- Laws of blocks whose samples fill runs of sixteen.
-use Rattle.std.specs.Prelude.{◌≡◌, refl, List, ℕ, zero, suc, ◌+◌, ◌*◌, ◌/◌, ◌%◌, ◌≤◌, ◌<◌, get_or}
-use Rattle.std.proofs.Common.{sym, ap, ◌∙◌, div-add-mod', mod-lt, mul-le-mul_right, div-lt_iff_lt-mul, arith}
+use Rattle.std.specs.Prelude.{◌≡◌, ◌⊎◌, Option, Some, None, IfSome, refl, List, ℕ, zero, suc, ◌+◌, ◌*◌, ◌/◌, ◌%◌, ◌≤◌, ◌<◌, get_or}
+use Rattle.std.proofs.Common.{⊎_elim, sym, ap, ◌∙◌, div-add-mod', mod-lt, mul-le-mul_right, div-lt_iff_lt-mul, arith}
 use Rattle.std.proofs.Math.Decide.{dec_lt}
 use Rattle.cdef_spec.specs.Standard.{Tap}
 use Rattle.cdef_spec.specs.LoopForm.{put_row, put_block}
@@ -17,8 +17,9 @@ use Rattle.trial_strengths.specs.declared.Twelve.{Twelve}
 use Rattle.trial_strengths.specs.Strengths.{twelve_of}
 use Rattle.trial_strengths.specs.StrengthLaws.{twelve-ready}
 use Rattle.trial_strips.specs.Strips.{Strips}
-use Rattle.trial_sixteen.specs.Sixteen.{raw_tap, Strong}
+use Rattle.trial_sixteen.specs.Sixteen.{taps_or, sec_by, raw_tap, Strong}
 use Rattle.trial_marks.specs.Trial.{trial_tap, Tame}
+use Rattle.trial_marks.specs.StripLaws.{sec-same}
 use Rattle.trial_marks.specs.TrialLaws.{trial-is, same-twelve}
 use Rattle.arith_numbers.specs.Packed.{Packed}
 use Rattle.arith_numbers.specs.PackedLaws.{width_low, runs-are, area}
@@ -35,6 +36,11 @@ module _ (w h : ℕ) (k : Packed w h) where
   run-around dir i hd hi =
       around-of (taps-near w ((h + 4) * w) (omega (arith, (width_low w h k).1)) (omega (arith, pitch-low)) dir hd) 480 (2 * ((h + 4) * w) + 2 * w + i * 16) 16
       (omega arith) (omega (arith, (width_low w h k).1, area w h k, runs-are w h k)) (omega arith)
+
+  -- and around it the taps of direction 0, where they are not left to the block's own
+  pub turned-around : (dir : ℕ) (turned : Option Taps) → ((turned ≡ None) × (dir % 4 ≡ 0)) ⊎ (turned ≡ Some (taps_by w ((h + 4) * w) 0)) → (i : ℕ) → i < w * h / 16
+      → IfSome turned (λ (o : Taps). Around 480 (2 * ((h + 4) * w) + 2 * w + i * 16) 16 o)
+  turned-around dir turned z i hi = ⊎_elim (λ n. rw n.0 tt) (λ s. rw s (run-around 0 i (omega arith) hi)) z
 
 -- the entries of strips are the window's, or 0
 module _ {win s : List ℕ} {w n : ℕ} (st : Strips win w n s) (hw : 0 < w) (hn : 0 < n) (held : Held win) where
@@ -67,9 +73,21 @@ strong-twelve way dir damping depth hd hi =
     let r = twelve-ready way dir damping depth hd hi in
     record { p1 = r.p1; p2 = r.p2; p3 = r.p3; s1 = r.s1; s2 = r.s2; same = same-twelve way dir damping depth }
 
+-- in the directions 0 and 4 the block's own secondary taps do for those of direction 0
+raw-same : (l : List ℕ) (from w p dir : ℕ) (u : Twelve) (t c : ℕ) → dir < 8 → dir % 4 ≡ 0 → raw_tap l from (taps_by w p dir) (taps_by w p dir) u t c ≡ raw_tap l from (taps_by w p dir) (taps_by w p 0) u t c
+unfolding raw_tap
+raw-same l from w p dir u t c hd e = rw (sec-same l (from + c) w p dir (sec_by u (t / 4)).s (sec_by u (t / 4)).sh hd e)
+
 -- what is stored run by run from the strips is the window's trial
-pub runs-trial : (d last win l : List ℕ) (w h : ℕ) (k : Packed w h) → Strips win w (h + 4) l → Marked win → (u : Twelve) (dir : ℕ) → dir < 8 → Tame u dir → (own none : Taps) → own ≡ taps_by w ((h + 4) * w) dir → none ≡ taps_by w ((h + 4) * w) 0
-    → last ≡ put_block d 64 (raw_tap l (2 * ((h + 4) * w) + 2 * w) own none u) 0 0 (w * h / 16 * 16) 12 → last ≡ put_block d 64 (trial_tap win u w) 0 0 (h * w) 12
-runs-trial d last win l w h k st m u dir hd q own none eo ez e =
-    let b = width_low w h k in
-    e ∙ rw (eo, ez, runs-are w h k) (block_same d 64 _ (trial_tap win u w) 0 0 (h * w) 12 (λ t c a g x y. trial-is st m b.0 b.1 (omega (arith, k.height)) hd q h t c refl (omega arith)))
+pub runs-trial : (d last win l : List ℕ) (w h : ℕ) (k : Packed w h) → Strips win w (h + 4) l → Marked win → (u : Twelve) (dir : ℕ) → dir < 8 → Tame u dir → (own : Taps) (turned : Option Taps) → own ≡ taps_by w ((h + 4) * w) dir
+    → ((turned ≡ None) × (dir % 4 ≡ 0)) ⊎ (turned ≡ Some (taps_by w ((h + 4) * w) 0))
+    → last ≡ put_block d 64 (raw_tap l (2 * ((h + 4) * w) + 2 * w) own (taps_or own turned) u) 0 0 (w * h / 16 * 16) 12 → last ≡ put_block d 64 (trial_tap win u w) 0 0 (h * w) 12
+unfolding taps_or
+runs-trial d last win l w h k st m u dir hd q own turned eo z e =
+    e ∙ rw (eo, runs-are w h k) (block_same d 64 _ (trial_tap win u w) 0 0 (h * w) 12 (λ t c a g x y. go t c (omega arith) z))
+  where
+    last-is : (t c : ℕ) → c < h * w → raw_tap l (2 * ((h + 4) * w) + 2 * w) (taps_by w ((h + 4) * w) dir) (taps_by w ((h + 4) * w) 0) u t c ≡ trial_tap win u w t c
+    last-is t c hc = trial-is st m (width_low w h k).0 (width_low w h k).1 (omega (arith, k.height)) hd q h t c refl hc
+
+    go : (t c : ℕ) → c < h * w → ((turned ≡ None) × (dir % 4 ≡ 0)) ⊎ (turned ≡ Some (taps_by w ((h + 4) * w) 0)) → raw_tap l (2 * ((h + 4) * w) + 2 * w) (taps_by w ((h + 4) * w) dir) (taps_or (taps_by w ((h + 4) * w) dir) turned) u t c ≡ trial_tap win u w t c
+    go t c hc = ⊎_elim (λ n. rw n.0 (raw-same l (2 * ((h + 4) * w) + 2 * w) w ((h + 4) * w) dir u t c hd n.1 ∙ last-is t c hc)) (λ s. rw s (last-is t c hc))

@@ -1,5 +1,5 @@
 -- Sixteen entries stored from known sums are the raw trial's.
-use Rattle.std.specs.Prelude.{◌≡◌, List, ℕ, ◌+◌, ◌-◌, ◌≤◌, ◌<◌, ℤ, pos, nat_abs, ◌+ℤ◌, length}
+use Rattle.std.specs.Prelude.{◌≡◌, List, [], ℕ, ◌+◌, ◌-◌, ◌≤◌, ◌<◌, ℤ, pos, nat_abs, ◌+ℤ◌, length}
 use Rattle.std.proofs.Math.Path.{refl, sym, ap}
 use Rattle.std.proofs.Common.{◌∙◌, arith}
 use Rattle.std.proofs.Math.ListN.{get_or}
@@ -8,21 +8,15 @@ use Rattle.cdef_spec.specs.LoopForm.{put_row, put_block}
 use Rattle.cdef_spec.proofs.PlaneLaws.{row_same, length-put-row}
 use Rattle.arith_sample.specs.Bounds.{Held, Within}
 use Rattle.arith_sample.specs.Upto.{upto, get_or-upto, upto-all-of}
-use Rattle.filter_limits.specs.Limits.{HeldPair, HeldPairs, most_of, lowest_of, highest_of}
+use Rattle.filter_limits.specs.Limits.{lowest_of, highest_of}
 use Rattle.filter_rows.specs.declared.Taps.{Taps}
 use Rattle.filter_rows.specs.declared.Strength.{Strength}
 use Rattle.filter_rows.specs.Pairs.{pairs_of}
-use Rattle.filter_rows.specs.PairsLaws.{held-pairs}
-use Rattle.filter_limits.specs.LimitsLaws.{unmarked-le}
-use Rattle.filter_limits.specs.declared.Pair.{Pair}
-use Rattle.filter_limits.specs.declared.Pairs.{Pairs}
 use Rattle.trial_strengths.specs.declared.Twelve.{Twelve}
 use Rattle.trial_runs.specs.Runs.{raised_at, clipped_at, run_tap, raised_tap, clipped_tap}
-use Rattle.trial_sums.specs.declared.PriSums.{PriSums}
-use Rattle.trial_sums.specs.declared.SecSums.{SecSums}
-use Rattle.trial_sums.specs.declared.limits.Limits.{Limits}
+use Rattle.trial_runs.specs.declared.Limits.{Limits}
 use Rattle.trial_sums.specs.Raw.{pri_raw, sec_raw, PriKnown, SecKnown, LimitsKnown}
-use Rattle.trial_sums.specs.RawLaws.{size-raw, size-sec}
+use Rattle.trial_sums.specs.RawLaws.{size-raw, size-sec, held-run}
 use Rattle.trial_sixteen.specs.Sixteen.{raised_raw, clipped_raw, pri_by, sec_by, raw_tap, Strong, PriWithin, first_runs, four_runs}
 
 -- ---- one run
@@ -59,58 +53,50 @@ module _ (d l : List ℕ) (from k t : ℕ) (c : List ℕ) (ce : c ≡ upto (λ (
 pub long-row : (d e : List ℕ) (f : ℕ → ℕ → Tap) (t k : ℕ) → e ≡ put_row d 64 f t k 16 → length d ≡ 768 → length e ≡ 768
 long-row d e f t k q h = rw q (length-put-row 64 f d t k 16 ∙ h)
 
-pub long-first : (d e c : List ℕ) (p : PriSums) (k : ℕ) → e ≡ first_runs d c p k → length d ≡ 768 → length e ≡ 768
+pub long-first : (d e c : List ℕ) (p : List (List ℤ)) (k : ℕ) → e ≡ first_runs d c p k → length d ≡ 768 → length e ≡ 768
 long-first d e c p k q h = rw q (long-row _ _ _ _ _ refl (long-row _ _ _ _ _ refl (long-row _ _ _ _ _ refl (long-row _ _ _ _ _ refl h))))
 
-pub long-four : (d e c : List ℕ) (z s : List ℤ) (p : PriSums) (lo hi : List ℕ) (t k : ℕ) → e ≡ four_runs d c z s p lo hi t k → length d ≡ 768 → length e ≡ 768
+pub long-four : (d e c : List ℕ) (z s : List ℤ) (p : List (List ℤ)) (lo hi : List ℕ) (t k : ℕ) → e ≡ four_runs d c z s p lo hi t k → length d ≡ 768 → length e ≡ 768
 long-four d e c z s p lo hi t k q h = rw q (long-row _ _ _ _ _ refl (long-row _ _ _ _ _ refl (long-row _ _ _ _ _ refl (long-row _ _ _ _ _ refl h))))
 
 pub wider : {l : List ℤ} {m : ℕ} → Within l m → m ≤ 7680 → Within l 7680
 wider {l} {m} w h = record { all = λ k. omega (arith, w.all k) }
 
-pub held-run : (v : List ℕ) (f : ℕ → ℕ) → v ≡ upto f 16 → ((j : ℕ) → f j ≤ 16384) → Held v
-held-run v f e h = rw e (record { all = upto-all-of (λ (n : ℕ). n ≤ 16384) f 16 0 h (omega arith) })
-
 pub within-run : (v : List ℤ) (f : ℕ → ℤ) (m : ℕ) → v ≡ upto f 16 → ((j : ℕ) → nat_abs (f j) ≤ m) → Within v m
 within-run v f m e h = rw e (record { all = upto-all-of (λ (z : ℤ). nat_abs z ≤ m) f 16 (pos 0) h (omega arith) })
 
-most-le : {p : Pair} → HeldPair p → most_of p ≤ 16384
-unfolding most_of
-most-le {p} h = omega (arith, unmarked-le p.on, unmarked-le p.back, h.on, h.back)
-
-highest-le : (e : Pairs) (c : ℕ) → HeldPairs e → c ≤ 16384 → highest_of e c ≤ 16384
-unfolding highest_of
-highest-le e c h k = omega (arith, most-le h.p0, most-le h.p1, most-le h.q0, most-le h.q1, most-le h.r0, most-le h.r1)
-
 module _ (l : List ℕ) (at : ℕ) (o : Taps) where
-  pub pri-within : (u : Twelve) (p : PriSums) → Strong u → PriKnown l at o u.p1 u.p2 u.p3 p → PriWithin p
+  pub pri-within : (u : Twelve) (p : List (List ℤ)) → Strong u → PriKnown l at o u.p1 u.p2 u.p3 p → PriWithin p
   pri-within u p r k = record {
-    p1 = within-run p.p1 _ 3840 k.p1-is (λ j. size-raw l (at + j) o u.p1 r.p1);
-    p2 = within-run p.p2 _ 3840 k.p2-is (λ j. size-raw l (at + j) o u.p2 r.p2);
-    p3 = within-run p.p3 _ 3840 k.p3-is (λ j. size-raw l (at + j) o u.p3 r.p3);
+    p1 = within-run (get_or p 0 []) _ 3840 k.p1-is (λ j. size-raw l (at + j) o u.p1 r.p1);
+    p2 = within-run (get_or p 1 []) _ 3840 k.p2-is (λ j. size-raw l (at + j) o u.p2 r.p2);
+    p3 = within-run (get_or p 2 []) _ 3840 k.p3-is (λ j. size-raw l (at + j) o u.p3 r.p3);
   }
 
   pub sec-within : (s sh : ℕ) (v : List ℤ) → s ≤ 240 → v ≡ upto (λ (j : ℕ). sec_raw l (at + j) o s sh) 16 → Within v 7680
   sec-within s sh v h e = wider (within-run v _ 2880 e (λ j. size-sec l (at + j) o s sh h)) (omega arith)
 
-  module _ (h : Held l) where
-    pub low_held : (e : Limits) → LimitsKnown l at o e → Held e.lo
-    unfolding lowest_of
-    low_held e k = held-run e.lo _ k.lo-is (λ j. omega (arith, h.all (at + j)))
-
-    pub high_held : (e : Limits) → LimitsKnown l at o e → Held e.hi
-    high_held e k = held-run e.hi _ k.hi-is (λ j. highest-le (pairs_of l (at + j) o) (get_or l (at + j) 0) (held-pairs l (at + j) o h) (h.all (at + j)))
-
 -- ---- all twelve
 
-pub record Known (l : List ℕ) (at : ℕ) (own zero : Taps) (u : Twelve) (c : List ℕ) (p : PriSums) (e : Limits) (z s : SecSums) : Type 0 where
+pub record Known (l : List ℕ) (at : ℕ) (own zero : Taps) (u : Twelve) (c : List ℕ) (p : List (List ℤ)) (e : Limits) (z s : List (List ℤ)) : Type 0 where
   pub centre : c ≡ upto (λ (j : ℕ). get_or l (at + j) 0) 16
   pub pri : PriKnown l at own u.p1 u.p2 u.p3 p
   pub limits : LimitsKnown l at own e
   pub zero_is : SecKnown l at zero u.s1.s u.s1.sh u.s2.s u.s2.sh z
   pub own_is : SecKnown l at own u.s1.s u.s1.sh u.s2.s u.s2.sh s
 
-module _ (l : List ℕ) (from k : ℕ) (own zero : Taps) (u : Twelve) (c : List ℕ) (p : PriSums) (e : Limits) (z s : SecSums) (n : Known l (from + k) own zero u c p e z s) where
+-- what is stored is in range: centres and primary sums; with the sums of the first secondary strength; with those of the second
+module _ (l : List ℕ) (at : ℕ) (own zero : Taps) (u : Twelve) (c : List ℕ) (p : List (List ℤ)) (e : Limits) (z s : List (List ℤ)) (n : Known l at own zero u c p e z s) (h : Held l) (r : Strong u) where
+  pub centres-held : Held c × PriWithin p
+  centres-held = (held-run _ _ n.centre (λ j. h.all _), pri-within l at own u p r n.pri)
+
+  pub one-held : Held c × Within (get_or z 0 []) 7680 × Within (get_or s 0 []) 7680 × PriWithin p
+  one-held = (centres-held.0, sec-within l at zero _ _ _ r.s1.s n.zero_is.s1-is, sec-within l at own _ _ _ r.s1.s n.own_is.s1-is, centres-held.1)
+
+  pub two-held : Held c × Within (get_or z 1 []) 7680 × Within (get_or s 1 []) 7680 × PriWithin p
+  two-held = (centres-held.0, sec-within l at zero _ _ _ r.s2.s n.zero_is.s2-is, sec-within l at own _ _ _ r.s2.s n.own_is.s2-is, centres-held.1)
+
+module _ (l : List ℕ) (from k : ℕ) (own zero : Taps) (u : Twelve) (c : List ℕ) (p : List (List ℤ)) (e : Limits) (z s : List (List ℤ)) (n : Known l (from + k) own zero u c p e z s) where
   tap : ℕ → ℕ → Tap
   tap = raw_tap l from own zero u
 
@@ -131,26 +117,26 @@ module _ (l : List ℕ) (from k : ℕ) (own zero : Taps) (u : Twelve) (c : List 
   unfolding tap raw_tap pri_by
   from-0 d =
       rw (run-centre d l from k 0 c n.centre tap (λ x. refl))
-      (rw (raised _ 1 u.p1 p.p1 n.pri.p1-is (λ x. refl)) (rw (raised _ 2 u.p2 p.p2 n.pri.p2-is (λ x. refl)) (raised _ 3 u.p3 p.p3 n.pri.p3-is (λ x. refl))))
+      (rw (raised _ 1 u.p1 (get_or p 0 []) n.pri.p1-is (λ x. refl)) (rw (raised _ 2 u.p2 (get_or p 1 []) n.pri.p2-is (λ x. refl)) (raised _ 3 u.p3 (get_or p 2 []) n.pri.p3-is (λ x. refl))))
 
-  from-4 : (d : List ℕ) → four_runs d c z.s1 s.s1 p e.lo e.hi 4 k ≡ next4 d 4
+  from-4 : (d : List ℕ) → four_runs d c (get_or z 0 []) (get_or s 0 []) p e.lo e.hi 4 k ≡ next4 d 4
   unfolding tap raw_tap pri_by sec_by
   from-4 d =
-      rw (alone d 4 u.s1 z.s1 n.zero_is.s1-is (λ x. refl))
-      (rw (both _ 5 u.p1 u.s1 p.p1 s.s1 n.pri.p1-is n.own_is.s1-is (λ x. refl))
-      (rw (both _ 6 u.p2 u.s1 p.p2 s.s1 n.pri.p2-is n.own_is.s1-is (λ x. refl)) (both _ 7 u.p3 u.s1 p.p3 s.s1 n.pri.p3-is n.own_is.s1-is (λ x. refl))))
+      rw (alone d 4 u.s1 (get_or z 0 []) n.zero_is.s1-is (λ x. refl))
+      (rw (both _ 5 u.p1 u.s1 (get_or p 0 []) (get_or s 0 []) n.pri.p1-is n.own_is.s1-is (λ x. refl))
+      (rw (both _ 6 u.p2 u.s1 (get_or p 1 []) (get_or s 0 []) n.pri.p2-is n.own_is.s1-is (λ x. refl)) (both _ 7 u.p3 u.s1 (get_or p 2 []) (get_or s 0 []) n.pri.p3-is n.own_is.s1-is (λ x. refl))))
 
-  from-8 : (d : List ℕ) → four_runs d c z.s2 s.s2 p e.lo e.hi 8 k ≡ next4 d 8
+  from-8 : (d : List ℕ) → four_runs d c (get_or z 1 []) (get_or s 1 []) p e.lo e.hi 8 k ≡ next4 d 8
   unfolding tap raw_tap pri_by sec_by
   from-8 d =
-      rw (alone d 8 u.s2 z.s2 n.zero_is.s2-is (λ x. refl))
-      (rw (both _ 9 u.p1 u.s2 p.p1 s.s2 n.pri.p1-is n.own_is.s2-is (λ x. refl))
-      (rw (both _ 10 u.p2 u.s2 p.p2 s.s2 n.pri.p2-is n.own_is.s2-is (λ x. refl)) (both _ 11 u.p3 u.s2 p.p3 s.s2 n.pri.p3-is n.own_is.s2-is (λ x. refl))))
+      rw (alone d 8 u.s2 (get_or z 1 []) n.zero_is.s2-is (λ x. refl))
+      (rw (both _ 9 u.p1 u.s2 (get_or p 0 []) (get_or s 1 []) n.pri.p1-is n.own_is.s2-is (λ x. refl))
+      (rw (both _ 10 u.p2 u.s2 (get_or p 1 []) (get_or s 1 []) n.pri.p2-is n.own_is.s2-is (λ x. refl)) (both _ 11 u.p3 u.s2 (get_or p 2 []) (get_or s 1 []) n.pri.p3-is n.own_is.s2-is (λ x. refl))))
 
   block-12 : (d : List ℕ) → next4 (next4 (next4 d 0) 4) 8 ≡ put_block d 64 tap 0 k 16 12
   unfolding put_block
   block-12 d = refl
 
-  pub twelve-is : (d d4 d8 d12 : List ℕ) → d4 ≡ first_runs d c p k → d8 ≡ four_runs d4 c z.s1 s.s1 p e.lo e.hi 4 k → d12 ≡ four_runs d8 c z.s2 s.s2 p e.lo e.hi 8 k → d12 ≡ put_block d 64 (raw_tap l from own zero u) 0 k 16 12
+  pub twelve-is : (d d4 d8 d12 : List ℕ) → d4 ≡ first_runs d c p k → d8 ≡ four_runs d4 c (get_or z 0 []) (get_or s 0 []) p e.lo e.hi 4 k → d12 ≡ four_runs d8 c (get_or z 1 []) (get_or s 1 []) p e.lo e.hi 8 k → d12 ≡ put_block d 64 (raw_tap l from own zero u) 0 k 16 12
   unfolding tap
   twelve-is d d4 d8 d12 e4 e8 e12 = (e12 ∙ from-8 d8) ∙ rw (e8 ∙ from-4 d4, e4 ∙ from-0 d) (block-12 d)

@@ -1,7 +1,8 @@
 -- Laws of strips that are filled entry by entry.
-use Rattle.std.specs.Prelude.{◌≡◌, refl, ◌⊎◌, List, ℕ, zero, suc, ◌+◌, ◌*◌, ◌/◌, ◌%◌, ◌≤◌, ◌<◌, get_or, length, set, replicate}
+use Rattle.std.specs.Prelude.{◌≡◌, refl, ◌⊎◌, List, ℕ, zero, suc, ◌+◌, ◌-◌, ◌*◌, ◌/◌, ◌%◌, ◌≤◌, ◌<◌, get_or, length, set, replicate, take, drop}
 use Rattle.std.proofs.Common.{sym, ap, ◌∙◌, ⊎_elim, mul-le-mul, mul-le-mul_right, arith, get_or-set_same, get_or-set_other}
 use Rattle.std.proofs.Math.Decide.{ℕ_discrete}
+use Rattle.std.proofs.Math.Seq.{get_or-take, get_or-drop}
 use Rattle.std.proofs.Math.Arith.{digits_div, digits_mod}
 use Rattle.trial_strips.specs.Strips.{Strips, Filled}
 
@@ -47,6 +48,15 @@ no-entry (suc m) (suc k) = no-entry m k
 -- an index, its sum in another order
 pub at_same : (win : List ℕ) (i x j : ℕ) → get_or win (i * 12 + x + j) 0 ≡ get_or win (i * 12 + (x + j)) 0
 at_same win i x j = let e : i * 12 + x + j ≡ i * 12 + (x + j) = omega arith in rw e
+
+-- an entry of the four that a loop goes over
+pub four-at : (win : List ℕ) (from i x j : ℕ) → from ≡ i * 12 + x → j < 4 → get_or (take (from + 4 - from) (drop from win)) j 0 ≡ get_or win (i * 12 + x + j) 0
+four-at win from i x j e h = get_or-take (from + 4 - from) (drop from win) j 0 (omega arith) ∙ get_or-drop from win j 0 ∙ rw e
+
+pub next-at : (win : List ℕ) (from i x j : ℕ) → from ≡ i * 12 + x → j < 4 → get_or (take (from + 8 - (from + 4)) (drop (from + 4) win)) j 0 ≡ get_or win (i * 12 + x + (4 + j)) 0
+next-at win from i x j e h =
+    let k : from + 4 + j ≡ i * 12 + x + (4 + j) = omega arith in
+    get_or-take (from + 8 - (from + 4)) (drop (from + 4) win) j 0 (omega arith) ∙ get_or-drop (from + 4) win j 0 ∙ rw k
 
 -- strips counted in rows
 pub stripped : (x n i : ℕ) → i ≡ n → x * n + i ≡ (x + 1) * n

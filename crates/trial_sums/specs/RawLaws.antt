@@ -1,18 +1,22 @@
--- Bounds of the sums, and the sums of a strength of 0.
-use Rattle.std.specs.Prelude.{◌≡◌, refl, Bool, true, false, cond, List, ℕ, ◌+◌, ◌-◌, ◌/◌, ◌^◌, ◌≤◌, min, ltb, pos, neg_ℤ, nat_abs, get_or}
-use Rattle.std.proofs.Common.{sym, ap, arith}
+-- Bounds of the sums and the limits, and the sums of a strength of 0.
+use Rattle.std.specs.Prelude.{◌≡◌, refl, Bool, true, false, cond, List, ℕ, ◌+◌, ◌-◌, ◌/◌, ◌^◌, ◌≤◌, ◌<◌, min, ltb, pos, neg_ℤ, nat_abs, get_or, take, drop}
+use Rattle.std.proofs.Common.{sym, ap, ◌∙◌, arith}
+use Rattle.std.proofs.Math.Seq.{get_or-take, get_or-drop}
 use Rattle.std.proofs.Math.IntN.{ℤ}
 use Rattle.cdef_spec.specs.SignedLaws.{size-add, size_scale}
 use Rattle.arith_sample.specs.Bounds.{Held}
 use Rattle.arith_sample.specs.Sample.{size_of, con_of}
-use Rattle.arith_sample.specs.Upto.{upto, upto-ext}
+use Rattle.arith_sample.specs.Upto.{upto, upto-ext, upto-all-of}
 use Rattle.filter_limits.specs.declared.Pair.{Pair}
-use Rattle.filter_limits.specs.Limits.{HeldPair}
+use Rattle.filter_limits.specs.declared.Pairs.{Pairs}
+use Rattle.filter_limits.specs.Limits.{HeldPair, HeldPairs, most_of, lowest_of, highest_of}
+use Rattle.filter_limits.specs.LimitsLaws.{unmarked-le}
 use Rattle.filter_rows.specs.Place.{on_from, back_from}
 use Rattle.filter_rows.specs.Sums.{InRange}
 use Rattle.filter_rows.specs.declared.Taps.{Taps}
 use Rattle.filter_rows.specs.declared.Strength.{Strength}
-use Rattle.filter_rows.specs.Pairs.{pair_of, weighed}
+use Rattle.filter_rows.specs.Pairs.{pair_of, pairs_of, weighed}
+use Rattle.filter_rows.specs.PairsLaws.{held-pairs}
 use Rattle.plane_taps.specs.Plain.{pair_plain, pri_plain}
 use Rattle.plane_taps.specs.PlainLaws.{size-pair, size-pri}
 use Rattle.trial_sums.specs.Raw.{side_of, pri_raw, near_raw, sec_raw}
@@ -64,3 +68,33 @@ raw-idle l k o f e = rw (e, pair-idle (pair_of l k o.p0) (get_or l k 0) f.sh, pa
 
 pub pri-idle : (l : List ℕ) (at : ℕ) (o : Taps) (f : Strength) → f.s ≡ 0 → upto (λ (j : ℕ). pos 0) 16 ≡ upto (λ (j : ℕ). pri_raw l (at + j) o f) 16
 pri-idle l at o f e = upto-ext _ _ 16 (λ j h. sym (raw-idle l (at + j) o f e))
+
+-- ---- the sixteen that a loop goes over
+
+module _ (l : List ℕ) (at j : ℕ) (h : j < 16) where
+  pub sixteen-at : get_or (take (at + 16 - at) (drop at l)) j 0 ≡ get_or l (at + j) 0
+  sixteen-at = get_or-take (at + 16 - at) (drop at l) j 0 (omega arith) ∙ get_or-drop at l j 0
+
+  pub sixteen-held : Held l → get_or (take (at + 16 - at) (drop at l)) j 0 ≤ 16384
+  sixteen-held held = rw sixteen-at (held.all (at + j))
+
+-- ---- the limits are no more than the mark
+
+pub held-run : (v : List ℕ) (f : ℕ → ℕ) → v ≡ upto f 16 → ((j : ℕ) → f j ≤ 16384) → Held v
+held-run v f e h = rw e (record { all = upto-all-of (λ (n : ℕ). n ≤ 16384) f 16 0 h (omega arith) })
+
+most-le : {p : Pair} → HeldPair p → most_of p ≤ 16384
+unfolding most_of
+most-le {p} h = omega (arith, unmarked-le p.on, unmarked-le p.back, h.on, h.back)
+
+highest-le : (e : Pairs) (c : ℕ) → HeldPairs e → c ≤ 16384 → highest_of e c ≤ 16384
+unfolding highest_of
+highest-le e c h k = omega (arith, most-le h.p0, most-le h.p1, most-le h.q0, most-le h.q1, most-le h.r0, most-le h.r1)
+
+module _ (l : List ℕ) (at : ℕ) (o : Taps) (h : Held l) where
+  pub low_held : (v : List ℕ) → v ≡ upto (λ (j : ℕ). lowest_of (pairs_of l (at + j) o) (get_or l (at + j) 0)) 16 → Held v
+  unfolding lowest_of
+  low_held v e = held-run v _ e (λ j. omega (arith, h.all (at + j)))
+
+  pub high_held : (v : List ℕ) → v ≡ upto (λ (j : ℕ). highest_of (pairs_of l (at + j) o) (get_or l (at + j) 0)) 16 → Held v
+  high_held v e = held-run v _ e (λ j. highest-le (pairs_of l (at + j) o) (get_or l (at + j) 0) (held-pairs l (at + j) o h) (h.all (at + j)))

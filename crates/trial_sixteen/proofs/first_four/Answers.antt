@@ -2,11 +2,7 @@
 use mathlib.Core.Path.{◌∙◌}
 use native.Mathlib.Omega.{arith}
 use Rattle.trial_sixteen.specs.SixteenLaws.{long-row, wider}
-use borrow.Author.Rules.{rules}
 use Rattle.trial_sixteen.proofs.first_four.Goals as goal
-
-pub put_run-requires : goal.put_run-requires
-put_run-requires c = search rules
 
 pub put_free-requires : goal.put_free-requires
 put_free-requires c = ((long-row _ _ _ _ _ c.put_run.ensures c.requires.0), omega arith, c.requires.1, c.requires.2, wider c.requires.3.p1 (omega arith))
@@ -16,9 +12,6 @@ put_free-requires-2 c = ((long-row _ _ _ _ _ c.put_free.ensures (long-row _ _ _ 
 
 pub put_free-requires-3 : goal.put_free-requires-3
 put_free-requires-3 c = ((long-row _ _ _ _ _ c.put_free-2.ensures (long-row _ _ _ _ _ c.put_free.ensures (long-row _ _ _ _ _ c.put_run.ensures c.requires.0))), omega arith, c.requires.1, c.requires.2, wider c.requires.3.p3 (omega arith))
-
-pub shape_of-out : goal.shape_of-out
-shape_of-out c = search rules
 
 pub returns : goal.returns
 returns c = c.put_free-3.ensures ∙ rw (c.put_free-2.ensures, c.put_free.ensures, c.put_run.ensures)

@@ -1,12 +1,11 @@
 -- `trial_sixteen::zero_sums` meets its contract.
-use borrow.Author.Rules.{rules}
+use Rattle.trial_sixteen.specs.Sixteen.{taps_or}
 use Rattle.trial_sixteen.proofs.zero_sums.Goals as goal
 
-pub returns-then-same : goal.returns-then-same
-returns-then-same c = c.before.before.requires.sec_known c.if-same.true
+pub returns-in-None : goal.returns-in-None
+unfolding taps_or
+returns-in-None c = λ o k. rw c.in-None.is k
 
-pub sec_sums-requires : goal.sec_sums-requires
-sec_sums-requires c = search rules
-
-pub returns : goal.returns
-returns c = search rules
+pub returns-in-Some : goal.returns-in-Some
+unfolding taps_or
+returns-in-Some c = λ o k. rw c.in-Some.is c.sec_sums.ensures

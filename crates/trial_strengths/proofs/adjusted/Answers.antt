@@ -2,11 +2,7 @@
 use mathlib.Core.Path.{ap, sym, ◌∙◌}
 use Rattle.cdef_spec.specs.declared.TrialWay.{TrialWay}
 use Rattle.trial_strengths.specs.Strengths.{adjusted_by}
-use borrow.Author.Rules.{rules}
 use Rattle.trial_strengths.proofs.adjusted.Goals as goal
-
-pub enum_known-way : goal.enum_known-way
-enum_known-way c = search rules
 
 pub returns-in-Luma : goal.returns-in-Luma
 unfolding adjusted_by

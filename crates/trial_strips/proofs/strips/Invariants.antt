@@ -8,14 +8,8 @@ use Rattle.trial_strips.proofs.strips.Given as goal
 abbrev pub invariant-loop-j : goal.invariant-loop-j
 invariant-loop-j l = Filled l.win l.w l.n (l.x * l.n + l.i) l.j l.out × (length l.out ≡ 480) × (l.j ≤ 4)
 
-abbrev pub decreases-loop-j : goal.decreases-loop-j
-decreases-loop-j l = 4 - l.j
-
 abbrev pub invariant-loop-j-then-w-eq8 : goal.invariant-loop-j-then-w-eq8
-invariant-loop-j-then-w-eq8 l = Filled l.win l.w l.n (l.x * l.n + l.i) l.j l.out × (length l.out ≡ 480) × (l.j ≤ 8)
-
-abbrev pub decreases-loop-j-then-w-eq8 : goal.decreases-loop-j-then-w-eq8
-decreases-loop-j-then-w-eq8 l = 8 - l.j
+invariant-loop-j-then-w-eq8 l = Filled l.win l.w l.n (l.x * l.n + l.i) (4 + l.j) l.out × (length l.out ≡ 480) × (l.j ≤ 4)
 
 abbrev pub invariant-loop-i : goal.invariant-loop-i
 invariant-loop-i l = Filled l.win l.w l.n (l.x * l.n + l.i) 0 l.out × (length l.out ≡ 480) × (l.i ≤ l.n)

@@ -4,7 +4,6 @@ use Rattle.arith_sample.proofs.Joins.{Is, add_ok, add_is, back_is}
 use Rattle.plane_taps.specs.Plain.{pair_plain}
 use Rattle.plane_taps.specs.PlainLaws.{size-pair}
 use Rattle.trial_sums.specs.Raw.{side_of}
-use borrow.Author.Rules.{rules}
 use Rattle.trial_sums.proofs.side.Goals as goal
 use Rattle.trial_sums.proofs.side.Goals.{After-pair_sum, After-pair_sum-2}
 
@@ -13,12 +12,6 @@ one c = let s = c.before in record { is = c.pair_sum.ensures; small = size-pair 
 
 other : (c : After-pair_sum-2) → let a = c.before.before.args in Is c.pair_sum-2.result (pair_plain a.r a.c a.s a.sh) 480
 other c = let s = c.before.before in record { is = c.pair_sum-2.ensures; small = size-pair s.args.r s.args.c s.args.s s.args.sh s.requires.3 }
-
-pub pair_sum-requires : goal.pair_sum-requires
-pair_sum-requires c = search rules
-
-pub pair_sum-requires-2 : goal.pair_sum-requires-2
-pair_sum-requires-2 c = search rules
 
 pub add-requires : goal.add-requires
 add-requires c = add_ok (one c.before) (other c) (omega arith)

@@ -4,11 +4,11 @@ use Rattle.filter_window.specs.FilledLaws.{begins-in}
 use Rattle.trial_block.proofs.block.cdef_block_candidates.Goals as goal
 
 pub window-win-requires : goal.window-win-requires
-window-win-requires c = begins-in _ _ c.requires.on_plane.0
+window-win-requires c = begins-in _ _ c.requires.0
 
 pub trial_window-requires : goal.trial_window-requires
 unfolding plane_in_full
-trial_window-requires c = let i = c.requires.on_plane.0 in record { out_len = (c.requires.on_plane.2, i.bw, i.bh, rw c.window-win.ensures c.requires.on_plane.1); dir_bound = c.requires.dir_bound }
+trial_window-requires c = let i = c.requires.0 in (c.requires.2, i.bw, i.bh, rw c.window-win.ensures c.requires.1)
 
 pub returns : goal.returns
 unfolding plane_in_full

@@ -1,7 +1,8 @@
 // The distance of two 8 by 8 blocks: plain squares, that is the sum of squared differences (SSE), and the weighted distance.
+// Kept with the depth in each contract, as in distance_weight, and a list, x and y as parameters: the C interface gives the other plane by its samples alone.
 #![tactic(auto)]
 
-ghost use Rattle.std.specs.Prelude.{◌≡◌, true, ℕ, ◌+◌, ◌*◌, ◌^◌, ◌≤◌, ◌<◌, length, replicate};
+ghost use Rattle.std.specs.Prelude.{◌≡◌, true, ℕ, ◌+◌, ◌*◌, ◌^◌, ◌≤◌, ◌<◌, length};
 ghost use Rattle.cdef_spec.specs.Lent.{plane_in_full};
 ghost use Rattle.cdef_spec.specs.Questions.{cut_taken};
 ghost use Rattle.cdef_spec.specs.Distance.{constants_of, spread};
@@ -14,12 +15,12 @@ use cdef_spec::DistanceConstants;
 use cdef_spec::full::FullPlane;
 
 // s2 - (s² + 32) / 64, with s the sum of 64 samples and s2 that of their squares, which is the sum of squared differences from 64 zeros.
-pub fn spread_of(a: &[u16; 64], none: &[u16; 64]) -> u64
-    requires { Below a.now 4096 × (none.now ≡ replicate 64 0) }
+pub fn spread_of(a: &[u16; 64]) -> u64
+    requires { Below a.now 4096 }
     ensures { result ≡ spread (cell a.now) }
 {
     let s = distance_sums::total(a) as u64;
-    let s2 = distance_sums::block_squares(a, none) as u64;
+    let s2 = distance_sums::block_squares(a, &[0; 64]) as u64;
     s2 - (s * s + 32) / 64
 }
 
@@ -28,9 +29,8 @@ pub fn block_distance(a: &[u16; 64], b: &[u16; 64], c: DistanceConstants) -> u64
     requires { (depth : ℕ) × OfDepth c depth × Below a.now (2 ^ depth) × Below b.now (2 ^ depth) }
     ensures { result ≡ weighted_by c (cell a.now) (cell b.now) }
 {
-    let none = [0u16; 64];
-    let x = spread_of(a, &none);
-    let y = spread_of(b, &none);
+    let x = spread_of(a);
+    let y = spread_of(b);
     let e = distance_sums::block_squares(a, b) as u64;
     distance_weight::weighted(x, y, e, c)
 }

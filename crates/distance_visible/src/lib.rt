@@ -2,37 +2,48 @@
 #![tactic(auto)]
 
 ghost use Rattle.std.specs.Prelude.{ℕ, ◌^◌, ◌≤◌, ◌<◌, ◌≡◌};
-ghost use Rattle.distance_weight.specs.Weighing.{OfDepth};
 ghost use Rattle.distance_sums.specs.Blocks.{at as sample_in, Within};
-ghost use Rattle.distance_visible.specs.Cut.{cut_distance};
+ghost use Rattle.distance_visible.specs.Cut.{cut_distance, Weights};
 
 use cdef_spec::DistanceConstants;
 
-// Between rows by cols samples of an original and of another list, each at a start and with a row pitch: weighted for a whole luma block, else plain squares.
-pub fn distance_cut(
-    original: &[u16],
-    at: usize,
-    pitch: usize,
-    other: &[u16],
-    from: usize,
-    step: usize,
-    rows: usize,
-    cols: usize,
-    luma: bool,
-    c: DistanceConstants,
-) -> u64
-    requires rows_bound { (rows ≤ 8) × (cols ≤ 8) }
-    requires by_index { (depth : ℕ) × OfDepth c depth × Within original.now at pitch rows cols (2 ^ depth)
-        × Within other.now from step rows cols (2 ^ depth) }
-    ensures { (result ≡ cut_distance luma c rows cols (sample_in original.now at pitch) (sample_in other.now from step))
+// The visible part of a block of an original: rows by cols samples of a depth, from a start on and with a row pitch. Where there are weights, a whole block's distance
+// is weighted: they are a luma plane's.
+#[derive(Clone, Copy)]
+pub struct Part<'a> {
+    pub samples: &'a [u16],
+    pub start: usize,
+    pub pitch: usize,
+    pub rows: usize,
+    pub cols: usize,
+    pub depth: u8,
+    pub weights: Option<DistanceConstants>,
+    pub ghost sides: { (rows ≤ 8) × (cols ≤ 8) },
+    pub ghost within: { Within samples.now start pitch rows cols (2 ^ depth) },
+    pub ghost weighs: { Weights weights depth },
+}
+
+// Between the part and as many samples of another list, from `from` on and with the row pitch `step`: weighted for a whole luma block, else plain squares.
+pub fn distance_cut(part: &Part<'_>, other: &[u16], from: usize, step: usize) -> u64
+    requires { Within other.now from step part.now.rows part.now.cols (2 ^ part.now.depth) }
+    ensures { (result ≡ cut_distance part.now.weights part.now.rows part.now.cols (sample_in part.now.samples.now part.now.start part.now.pitch) (sample_in other.now from step))
         × (result < 2 ^ 53) }
 {
-    if luma {
-        if rows + cols == 16 {
-            let a = distance_sums::block_of(original, at, pitch);
+    if let Some(c) = part.weights {
+        if part.rows + part.cols == 16 {
+            let a = distance_sums::block_of(part.samples, part.start, part.pitch);
             let b = distance_sums::block_of(other, from, step);
             return distance_block::block_distance(&a, &b, c);
         }
     }
-    distance_sums::squares(original, at, pitch, other, from, step, rows, cols) as u64
+    distance_sums::squares(
+        part.samples,
+        part.start,
+        part.pitch,
+        other,
+        from,
+        step,
+        part.rows,
+        part.cols,
+    ) as u64
 }

@@ -1,4 +1,6 @@
 // The weighted distance from spreads and squares, each f64 operation rounded once, in the order of RULES, Distance.
+// Kept with the depth in each contract: DistanceConstants is the type of the definitions (constants_of, weight, weighted), two f64 without a depth. A type with
+// the depth and OfDepth would be a second one round it, taken apart at each definition, and what is asked of a spread would name its depth all the same.
 #![tactic(auto)]
 
 ghost use Rattle.std.specs.Prelude.{◌≡◌, ℕ, ◌≤◌};

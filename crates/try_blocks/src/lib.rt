@@ -1,4 +1,5 @@
 // The trial blocks of a block of a plane.
+// Kept with a block's place in the contract: by and bx are in range of the picture in `i`, so that `BlockInput { input: FilterInput, by, bx, ghost inside }` would copy the picture for each block.
 #![tactic(auto)]
 
 ghost use Rattle.std.specs.Prelude.{◌≡◌, ◌<◌, length};
@@ -7,13 +8,7 @@ ghost use Rattle.frame_shape.specs.Checked.{filter_in};
 ghost use Rattle.try_blocks.specs.TrialBlocks.{trial_blocks};
 
 use frame_shape::inputs::FilterInput;
-
-// Room for twelve trial blocks.
-pub fn room() -> [u16; 768]
-    ensures { length result ≡ 768 }
-{
-    [0u16; 768]
-}
+use trial_strengths::TrialParams;
 
 // The twelve trial blocks of the block in row by and column bx of the blocks.
 pub fn make_trials(blocks: &mut [u16], i: &FilterInput<'_>, by: usize, bx: usize)
@@ -27,13 +22,11 @@ pub fn make_trials(blocks: &mut [u16], i: &FilterInput<'_>, by: usize, bx: usize
     let way = q.way_of(k);
     let dir = q.dir_of(k);
     let damping = q.damping_of(i.damping);
-    trial_block::block::cdef_block_candidates(
-        blocks,
-        &i.plane,
-        b,
+    let params = TrialParams {
         way,
         dir,
         damping,
-        q.picture.depth,
-    );
+        depth: q.picture.depth,
+    };
+    trial_block::block::cdef_block_candidates(blocks, &i.plane, b, params);
 }

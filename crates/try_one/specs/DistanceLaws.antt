@@ -1,78 +1,36 @@
 -- The trial blocks of a block hold the filtered samples, and their distances are those that the totals add up.
-use Rattle.std.specs.Prelude.{◌≡◌, true, false, List, [], ℕ, ◌+◌, ◌-◌, ◌*◌, ◌^◌, ◌≤◌, ◌<◌}
+use Rattle.std.specs.Prelude.{◌≡◌, List, ℕ, ◌+◌, ◌-◌, ◌*◌, ◌^◌, ◌≤◌, ◌<◌}
+use Rattle.std.specs.Bool.{then_some}
 use Rattle.std.proofs.Math.Path.{refl, ap}
 use Rattle.std.proofs.Common.{◌∙◌}
-use Rattle.std.proofs.Math.Nat.{mul-le-mul, mul-le-mul_right, mul_comm}
+use Rattle.std.proofs.Math.Nat.{mul-le-mul}
 use native.Mathlib.Omega.{arith}
 use Rattle.std.proofs.Math.Arith.{digits_lt}
 use Rattle.std.proofs.Math.ListN.{get_or, length}
-use Rattle.cdef_spec.specs.declared.Block.{Block}
 use Rattle.cdef_spec.specs.declared.SignalledDamping.{SignalledDamping}
 use Rattle.cdef_spec.specs.declared.Visible.{Visible}
 use Rattle.cdef_spec.specs.WordsLaws.{length-table, get_or-table}
 use Rattle.cdef_spec.specs.Document01.{Plane, mark, or_else, filtered, trial_pair}
 use Rattle.cdef_spec.specs.Distance.{constants_of}
 use Rattle.cdef_spec.proofs.TrialCallLaws.{trial-at}
-use Rattle.cdef_spec.specs.Picture.{PlaneKind, luma, chroma, Picture, plane_width, plane_height, block_width, block_height, block_rows, block_cols, block_at, at_place, plane_of, filtered_by, distance_of, block_distance}
+use Rattle.cdef_spec.specs.Picture.{Picture, plane_width, block_width, block_height, block_rows, block_cols, block_at, at_place, plane_of, filtered_by, distance_of, block_distance}
 use Rattle.cdef_spec.proofs.PictureLaws.{filtered-low}
 use Rattle.distance_sums.specs.Blocks.{at, Within}
-use Rattle.distance_visible.specs.Cut.{cut_distance}
-use Rattle.distance_visible.specs.CutLaws.{cut-is, cut-same, cut-within}
+use Rattle.distance_visible.specs.CutLaws.{cut-same, cut-within, weights-of}
 use Rattle.frame_shape.specs.Frame.{block_of, visible_part}
 use Rattle.frame_shape.specs.Shape.{Shaped, Sampled, is_luma}
 use Rattle.frame_shape.specs.FrameLaws.{tried-with}
-use Rattle.frame_shape.specs.ShapeLaws.{plane-wide, plane-high, block-wide, block-high, cols-in, rows_in}
+use Rattle.frame_shape.specs.ShapeLaws.{block-wide, block-high, cols-in, rows_in}
 use Rattle.frame_shape.specs.SampledLaws.{sample-low}
+use Rattle.frame_part.specs.KindLaws.{cut-kind}
+use Rattle.frame_part.specs.PartLaws.{part-rows, part-cols, part-sides, part_held}
 use Rattle.try_totals.specs.Totals.{trial_distances}
 use Rattle.try_one.specs.Trying.{tried_distance}
 use Rattle.try_blocks.specs.TrialBlocks.{trial_blocks}
 
--- the code's distance, by the plane's kind
-pub cut-kind : (k : PlaneKind) (depth rows cols : ℕ) (o d : ℕ → ℕ → ℕ) → cut_distance (is_luma k) (constants_of depth) rows cols o d ≡ distance_of k depth rows cols o d
-unfolding is_luma
-cut-kind (luma vars) depth rows cols o d = cut-is true vars 0 0 depth rows cols o d
-cut-kind (chroma sx sy) depth rows cols o d = cut-is false [] sx sy depth rows cols o d
-
 module _ (q : Picture) (h : Shaped q) (by bx : ℕ) (hy : by < block_rows q) (hx : bx < block_cols q) where
-  module _ (v : Visible) where
-    -- the visible part is no larger than the block
-    pub part-rows : (visible_part q v by bx).height ≤ block_height q
-    unfolding visible_part
-    part-rows = omega arith
-
-    pub part-cols : (visible_part q v by bx).width ≤ block_width q
-    unfolding visible_part
-    part-cols = omega arith
-
-    pub part-sides : ((visible_part q v by bx).height ≤ 8) × ((visible_part q v by bx).width ≤ 8)
-    part-sides = (omega (arith, part-rows, (block-high q h).1), omega (arith, part-cols, (block-wide q h).1))
-
-    pub part_step : (p : Block) (step : ℕ) → p ≡ visible_part q v by bx → step ≡ block_width q → (p.width ≤ step) × (step ≤ 8)
-    part_step p step ep es = rw (ep, es) (part-cols, (block-wide q h).1)
-
-    module _ (o : Plane) (g : Sampled q o) where
-      pub part_in : Within o.samples ((visible_part q v by bx).y * plane_width q + (visible_part q v by bx).x) (plane_width q) (visible_part q v by bx).height (visible_part q v by bx).width (2 ^ q.depth)
-      unfolding visible_part at
-      part_in = record {
-        held = λ i hi.
-            let r : by * block_height q + i + 1 ≤ plane_height q = omega (arith, rows_in q h by bx hy hx) in
-            let full : length o.samples ≡ plane_width q * plane_height q = g.long in
-            omega (arith, full, mul_comm (plane_width q) (plane_height q), mul-le-mul_right (plane_width q) r, cols-in q h by bx hy hx);
-        low = λ i j hi hj. g.low _;
-      }
-
-      pub part_held : (p : Block) (w : ℕ) → p ≡ visible_part q v by bx → w ≡ plane_width q → Within o.samples (p.y * w + p.x) w p.height p.width (2 ^ q.depth)
-      part_held p w ep ew = rw (ep, ew) part_in
-
-    -- where it begins
-    pub corner-low : (visible_part q v by bx).y * plane_width q + (visible_part q v by bx).x ≤ 2 ^ 25
-    unfolding visible_part
-    corner-low =
-        let y : by * block_height q ≤ 4096 = omega (arith, rows_in q h by bx hy hx, plane-high q h) in
-        omega (arith, mul-le-mul y (plane-wide q h), cols-in q h by bx hy hx, plane-wide q h)
-
-    pub begin-low : (p : Block) (w : ℕ) → p ≡ visible_part q v by bx → w ≡ plane_width q → p.y * w + p.x ≤ 2 ^ 25
-    begin-low p w ep ew = rw (ep, ew) corner-low
+  pub part_step : (v : Visible) (cols step : ℕ) → cols ≡ (visible_part q v by bx).width → step ≡ block_width q → (cols ≤ step) × (step ≤ 8)
+  part_step v cols step ec es = rw (ec, es) (part-cols q v by bx, (block-wide q h).1)
 
   module _ (d : SignalledDamping) (s : Plane) (g : Sampled q s) (out : List ℕ) where
     place-low : (t i j : ℕ) → t < 12 → i < block_height q → j < block_width q → t * 64 + (i * block_width q + j) < 768
@@ -99,18 +57,19 @@ module _ (q : Picture) (h : Shaped q) (by bx : ℕ) (hy : by < block_rows q) (hx
     pub trial-in : (t : ℕ) → t < 12 → (v : Visible) → Within (trial_blocks q d s.samples by bx out) (t * 64) (block_width q) (visible_part q v by bx).height (visible_part q v by bx).width (2 ^ q.depth)
     trial-in t ht v = record {
       held = λ i hi.
-          let a : i < block_height q = omega (arith, part-rows v) in
-          let c : (visible_part q v by bx).width ≤ block_width q = part-cols v in
+          let a : i < block_height q = omega (arith, part-rows q v by bx) in
+          let c : (visible_part q v by bx).width ≤ block_width q = part-cols q v by bx in
           let p = place-low t i (block_width q - 1) ht a (omega (arith, (block-wide q h).0)) in
           omega (arith, p, trials-long);
       low = λ i j hi hj.
-          let a : i < block_height q = omega (arith, part-rows v) in
-          let b : j < block_width q = omega (arith, part-cols v) in
+          let a : i < block_height q = omega (arith, part-rows q v by bx) in
+          let b : j < block_width q = omega (arith, part-cols q v by bx) in
           rw (trial-cell t i j ht a b) (filtered-low q d s.samples (trial_pair t) by bx _ _ (omega (arith, rows_in q h by bx hy hx)) (omega (arith, cols-in q h by bx hy hx)) (λ k. omega (arith, sample-low q h s g k)) (2 ^ q.depth) g.low mark);
     }
 
-    pub trials-held : (t : ℕ) → t < 12 → (v : Visible) (p : Block) (step : ℕ) (blocks : List ℕ) → p ≡ visible_part q v by bx → step ≡ block_width q → blocks ≡ trial_blocks q d s.samples by bx out → Within blocks (t * 64) step p.height p.width (2 ^ q.depth)
-    trials-held t ht v p step blocks ep es eb = rw (ep, es, eb) (trial-in t ht v)
+    pub trials-held : (t : ℕ) → t < 12 → (v : Visible) (rows cols depth step : ℕ) (blocks : List ℕ) → rows ≡ (visible_part q v by bx).height → cols ≡ (visible_part q v by bx).width → depth ≡ q.depth → step ≡ block_width q → blocks ≡ trial_blocks q d s.samples by bx out
+        → Within blocks (t * 64) step rows cols (2 ^ depth)
+    trials-held t ht v rows cols depth step blocks er ec ed es eb = rw (er, ec, ed, es, eb) (trial-in t ht v)
 
     module _ (v : Visible) (o : Plane) where
       same : (i j : ℕ) → at o.samples ((visible_part q v by bx).y * plane_width q + (visible_part q v by bx).x) (plane_width q) i j ≡ at_place q o.samples (by * block_height q + i) (bx * block_width q + j)
@@ -123,14 +82,14 @@ module _ (q : Picture) (h : Shaped q) (by bx : ℕ) (hy : by < block_rows q) (hx
 
       -- the code's distance is the one that the totals add up
       pub distance_is : (t : ℕ) → t < 12
-          → trial_distances (is_luma q.kind) (constants_of q.depth) (visible_part q v by bx).height (visible_part q v by bx).width o.samples ((visible_part q v by bx).y * plane_width q + (visible_part q v by bx).x) (plane_width q) (trial_blocks q d s.samples by bx out) (block_width q) t ≡ tried_distance q d v s.samples o.samples by bx t
+          → trial_distances (then_some (is_luma q.kind) (constants_of q.depth)) (visible_part q v by bx).height (visible_part q v by bx).width o.samples ((visible_part q v by bx).y * plane_width q + (visible_part q v by bx).x) (plane_width q) (trial_blocks q d s.samples by bx out) (block_width q) t ≡ tried_distance q d v s.samples o.samples by bx t
       unfolding trial_distances
       distance_is t ht =
-          cut-same (is_luma q.kind) (constants_of q.depth) _ _ _ (λ i j. at_place q o.samples (by * block_height q + i) (bx * block_width q + j)) _ (λ i j. or_else mark (filtered_by q d s.samples (trial_pair t) by bx (by * block_height q + i) (bx * block_width q + j)))
+          cut-same (then_some (is_luma q.kind) (constants_of q.depth)) _ _ _ (λ i j. at_place q o.samples (by * block_height q + i) (bx * block_width q + j)) _ (λ i j. or_else mark (filtered_by q d s.samples (trial_pair t) by bx (by * block_height q + i) (bx * block_width q + j)))
           (λ i j hi hj. same i j)
-          (λ i j hi hj. trial-cell t i j ht (omega (arith, part-rows v)) (omega (arith, part-cols v)))
+          (λ i j hi hj. trial-cell t i j ht (omega (arith, part-rows q v by bx)) (omega (arith, part-cols q v by bx)))
           ∙ cut-kind q.kind q.depth _ _ _ _ ∙ back t
 
       pub distance-low : Sampled q o → (t : ℕ) → t < 12 → tried_distance q d v s.samples o.samples by bx t < 2 ^ 53
       unfolding trial_distances
-      distance-low k t ht = rw (← distance_is t ht) (cut-within (is_luma q.kind) (constants_of q.depth) q.depth _ _ _ _ _ _ _ _ (part-sides v).0 (part-sides v).1 (record { deep = h.deep; flat = h.flat; is = refl }) (part_in v o k) (trial-in t ht v))
+      distance-low k t ht = rw (← distance_is t ht) (cut-within (then_some (is_luma q.kind) (constants_of q.depth)) q.depth _ _ _ _ _ _ _ _ (part-sides q v by bx h hy hx).0 (part-sides q v by bx h hy hx).1 (weights-of (is_luma q.kind) _ _ (record { deep = h.deep; flat = h.flat; is = refl })) (part_held q v by bx h hy hx o k _ _ refl refl) (trial-in t ht v))

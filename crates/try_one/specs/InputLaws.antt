@@ -1,7 +1,7 @@
 -- The totals of a checked input: what a counted block adds, and that no total becomes too large.
-use Rattle.std.specs.Prelude.{◌≡◌, Bool, true, ℕ, ◌+◌, ◌*◌, ◌^◌, ◌≤◌, ◌<◌, ℤ, List, []}
+use Rattle.std.specs.Prelude.{◌≡◌, true, Option, ℕ, ◌+◌, ◌*◌, ◌^◌, ◌≤◌, ◌<◌, ℤ, List, []}
+use Rattle.std.specs.Bool.{then_some}
 use Rattle.std.proofs.Common.{ap, ◌∙◌, arith}
-use Rattle.cdef_spec.specs.declared.Block.{Block}
 use Rattle.cdef_spec.specs.declared.DistanceConstants.{DistanceConstants}
 use Rattle.cdef_spec.specs.Distance.{constants_of}
 use Rattle.cdef_spec.specs.Lent.{plane_in_full}
@@ -48,9 +48,10 @@ module _ (i : CompareInput) where
 
   -- what a counted block leaves, as the code computes it
   pub added : (m n : ℕ) → m < block_rows q → n < block_cols q → counted q i.visible m n ≡ true → (l : List ℤ) → l ≡ signed (blocks_tried i m n)
-      → (base w step : ℕ) (b : Bool) (p : Block) (c : DistanceConstants) (blocks out : List ℕ) → base ≡ 12 * unit_at q m n → w ≡ plane_width q → step ≡ block_width q → b ≡ is_luma q.kind → p ≡ visible_part q i.visible m n → c ≡ constants_of q.depth → blocks ≡ trial_blocks q i.filter.damping snapshot m n out
-      → signed (add_turns (plain_of l) base (trial_distances b c p.height p.width original (p.y * w + p.x) w blocks step) 12) ≡ signed (blocks_tried i m (n + 1))
+      → (base start w rows cols step : ℕ) (samples : List ℕ) (v : Option DistanceConstants) (blocks out : List ℕ) → base ≡ 12 * unit_at q m n → start ≡ (visible_part q i.visible m n).y * plane_width q + (visible_part q i.visible m n).x → w ≡ plane_width q
+      → rows ≡ (visible_part q i.visible m n).height → cols ≡ (visible_part q i.visible m n).width → step ≡ block_width q → samples ≡ original → v ≡ then_some (is_luma q.kind) (constants_of q.depth) → blocks ≡ trial_blocks q i.filter.damping snapshot m n out
+      → signed (add_turns (plain_of l) base (trial_distances v rows cols samples start w blocks step) 12) ≡ signed (blocks_tried i m (n + 1))
   unfolding plane_in_full
-  added m n hm hn e l el base w step b p c blocks out eb ew es ek ep ec et =
-      rw (el, eb, ew, es, ek, ep, ec, et, plain-signed (blocks_tried i m n))
+  added m n hm hn e l el base start w rows cols step samples v blocks out eb est ew er ec es eo ev et =
+      rw (el, eb, est, ew, er, ec, es, eo, ev, et, plain-signed (blocks_tried i m n))
       (ap signed (turns_same _ _ _ _ 12 (λ t ht. distance_is q i.filter.listed.shaped.shaped m n hm hn i.filter.damping (plane_in_full i.filter.plane) i.filter.sampled out i.visible (plane_in_full i.original) t ht) ∙ blocks_more q i.filter.damping i.visible snapshot original m n e))

@@ -1,26 +1,16 @@
 -- The totals block by block: what a counted block adds, what another leaves, and that no total becomes too large.
-use Rattle.std.specs.Prelude.{◌≡◌, true, false, ◌&&◌, ℕ, ◌+◌, ◌*◌, ◌/◌, ◌%◌, ◌≤◌, ltb, eqb, pos, get_or, length, replicate}
+use Rattle.std.specs.Prelude.{◌≡◌, true, false, ℕ, ◌+◌, ◌*◌, ◌/◌, ◌%◌, pos, length, replicate}
 use Rattle.std.proofs.Math.Path.{sym, ap}
-use Rattle.std.proofs.Common.{◌∙◌, ltb-true}
+use Rattle.std.proofs.Common.{◌∙◌}
 use mathlib.Core.List.{List}
-use native.Mathlib.Omega.{arith}
 use Rattle.cdef_spec.specs.declared.SignalledDamping.{SignalledDamping}
 use Rattle.cdef_spec.specs.declared.Visible.{Visible}
 use Rattle.cdef_spec.specs.Words.{table}
-use Rattle.cdef_spec.specs.WordsLaws.{and_both}
-use Rattle.cdef_spec.specs.Picture.{Picture, block_width, block_height, block_at, visible_rows, visible_cols, block_rows, block_cols, units, unit_at, counted, tried_total}
+use Rattle.cdef_spec.specs.Picture.{Picture, block_rows, block_cols, units, unit_at, counted, tried_total}
 use Rattle.cdef_spec.specs.LoopForm.{signed, add_turns}
 use Rattle.cdef_spec.specs.TotalLaws.{length-signed, length-try-row, length-try-rows, length-zeros, signed-zeros, signed-table, try-is}
 use Rattle.arith_totals.specs.FoldLaws.{try-row-none, try-row-more, try-row-pass, try-rows-none, try-rows-more}
 use Rattle.try_one.specs.Trying.{tried_distance, tried_rows, tried_blocks}
-
--- a counted block begins inside the visible area
-pub begun : (q : Picture) (v : Visible) (by bx : ℕ) → counted q v by bx ≡ true → (by * block_height q ≤ visible_rows q v) × (bx * block_width q ≤ visible_cols q v)
-unfolding counted
-begun q v by bx e =
-    let a = (and_both (eqb (get_or q.skip (block_at q by bx) 0) 0) (ltb (by * block_height q) (visible_rows q v) && ltb (bx * block_width q) (visible_cols q v)) e).1 in
-    let b = and_both (ltb (by * block_height q) (visible_rows q v)) (ltb (bx * block_width q) (visible_cols q v)) a in
-    (omega (arith, ltb-true (by * block_height q) (visible_rows q v) b.0), omega (arith, ltb-true (bx * block_width q) (visible_cols q v) b.1))
 
 -- ---- block by block
 

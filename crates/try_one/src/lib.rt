@@ -1,4 +1,5 @@
 // Trying: one block of a plane.
+// Kept with a block's place and the constants in the contract: `BlockInput { input: CompareInput, by, bx, ghost inside }` would copy the picture for each block, and the constants, its depth's, are made once for all blocks.
 #![tactic(auto)]
 
 ghost use Rattle.std.specs.Prelude.{◌≡◌, ◌+◌, ◌<◌, length};
@@ -31,21 +32,8 @@ pub fn try_block(
     }
     try_blocks::make_trials(blocks, &i.filter, by, bx);
     let q = i.filter.listed.shaped;
-    let p = q.visible_part(i.visible, by, bx);
     let b = q.block_of(by, bx);
-    let w = i.original.width;
     let base = 12 * q.unit_at(by, bx);
-    try_totals::add_trials(
-        totals,
-        base,
-        i.original.samples,
-        p.y * w + p.x,
-        w,
-        blocks,
-        b.width,
-        p.height,
-        p.width,
-        q.is_luma(),
-        c,
-    );
+    let part = frame_part::part_of(i, by, bx, c);
+    try_totals::add_trials(totals, base, &part, blocks, b.width);
 }

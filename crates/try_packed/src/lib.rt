@@ -1,5 +1,6 @@
 // Whole chroma blocks: the squares of twelve trial blocks, whose rows lie one after the other; the original's are packed likewise, once.
 // Runs of sixteen samples are the same loop for 4 by 4, 4 by 8, 8 by 4 and 8 by 8.
+// Kept as numbers with their bounds: a run begins at k of 64 entries; a type of such numbers would be built in the loop that counts the runs.
 #![tactic(auto)]
 
 ghost use Rattle.std.specs.Prelude.{◌≡◌, ℕ, ◌+◌, ◌*◌, ◌≤◌, ◌<◌, get_or, length, take};
@@ -11,6 +12,8 @@ ghost use Rattle.distance_sums.specs.Blocks.{Within};
 ghost use Rattle.try_packed.specs.Rows.{rows_of, packed_distances};
 
 // The samples of a block of `rows` by `cols` at `start`, with a row pitch, row after row.
+// Kept by index: `copy_from_slice` of a row measured 1.01 times the time of trying chroma at 10 bit, and std states the length of a chunk of `chunks_exact_mut` alone, not what is written through it.
+// Kept with list, start and pitch as parameters, as in distance_sums; kept beside distance_sums::block_of, as said there.
 fn pack(s: &[u16], start: usize, pitch: usize, rows: usize, cols: usize) -> [u16; 64]
     requires { Packed cols rows × ((i : ℕ) → i < rows → start + i * pitch + cols ≤ length s.now) }
     ensures { take (rows * cols) result ≡ rows_of s.now start pitch rows cols }
@@ -32,9 +35,11 @@ fn pack(s: &[u16], start: usize, pitch: usize, rows: usize, cols: usize) -> [u16
 }
 
 // The sum of squared differences of 16 samples from k on and those from `from` on.
+// Kept by index: of `(0..16)` with `map` and `sum` the check couldn't prove that the sum fits its type, as in distance_sums.
+// Kept beside distance_sums::row_squares, whose count is known only when it runs: sixteen is a literal here.
 fn run_squares(a: &[u16; 64], k: usize, s: &[u16], from: usize) -> u32
-    requires k_bound { (k + 16 ≤ 64) × (from + 16 ≤ length s.now) }
-    requires by_index { (j : ℕ) → j < 16 → (get_or a.now (k + j) 0 < 4096) × (get_or s.now (from + j) 0 < 4096) }
+    requires inside { (k + 16 ≤ 64) × (from + 16 ≤ length s.now) }
+    requires samples_taken { (j : ℕ) → j < 16 → (get_or a.now (k + j) 0 < 4096) × (get_or s.now (from + j) 0 < 4096) }
     ensures { result ≡ sum 16 (λ j. squared_difference (get_or a.now (k + j) 0) (get_or s.now (from + j) 0)) }
 {
     let mut t = 0u32;
@@ -44,10 +49,10 @@ fn run_squares(a: &[u16; 64], k: usize, s: &[u16], from: usize) -> u32
     t
 }
 
-// Of n runs.
+// Of n runs. Kept by index: as above.
 fn squares_of(a: &[u16; 64], n: usize, s: &[u16], from: usize) -> u32
-    requires n_bound { (n ≤ 4) × ((i : ℕ) → i < n → from + i * 16 + 16 ≤ length s.now) }
-    requires by_index { (k : ℕ) → k < n * 16 → (get_or a.now k 0 < 4096) × (get_or s.now (from + k) 0 < 4096) }
+    requires inside { (n ≤ 4) × ((i : ℕ) → i < n → from + i * 16 + 16 ≤ length s.now) }
+    requires samples_taken { (k : ℕ) → k < n * 16 → (get_or a.now k 0 < 4096) × (get_or s.now (from + k) 0 < 4096) }
     ensures { result ≡ sum (n * 16) (λ k. squared_difference (get_or a.now k 0) (get_or s.now (from + k) 0)) }
 {
     let mut t = 0u32;
@@ -58,6 +63,7 @@ fn squares_of(a: &[u16; 64], n: usize, s: &[u16], from: usize) -> u32
 }
 
 // The squares between a block of the original and the trial blocks.
+// Kept by index: of `array::from_fn`, which cost nothing, the check couldn't prove what `squares_of` requires of each trial block.
 pub fn packed_distances(
     original: &[u16],
     at: usize,

@@ -1,4 +1,6 @@
 // Trying: per unit of a plane, the twelve totals of distances between the original and the trial blocks of the snapshot.
+// Kept as loops over numbers: a block's place is computed from its row and column, and no list of blocks is there to go over; `(0..n).for_each(|bx| ..)` is the same call in a closure.
+// Kept with the constants in the contract of a row: made once for all blocks, they stand beside the input, whose depth they are of; as its field they would be made for applying too.
 #![tactic(auto)]
 
 ghost use Rattle.std.specs.Prelude.{◌≡◌, ◌+◌, ◌*◌, ◌/◌, ◌%◌, ◌<◌, pos, length};
@@ -12,7 +14,7 @@ ghost use Rattle.try_one.specs.Trying.{rows_tried};
 use cdef_spec::DistanceConstants;
 use frame_shape::inputs::CompareInput;
 
-// Tries a row of blocks. The loop goes over numbers, since a block's place is computed from its column.
+// Tries a row of blocks.
 fn try_row(
     totals: &mut [i64],
     blocks: &mut [u16],
@@ -38,9 +40,9 @@ pub fn try_plane(totals: &mut [i64], i: &CompareInput<'_>)
         i.now.original.samples.now (k / 12) (k % 12))) }
 {
     let q = i.filter.listed.shaped.picture;
-    let mut blocks = try_blocks::room();
+    let mut blocks = [0u16; 768]; // room for the twelve trial blocks of a block
     let c = distance_weight::constants_of(q.depth);
-    arith_totals::clear_totals(totals);
+    totals.fill(0);
     for by in 0..q.height / 8 {
         try_row(totals, &mut blocks, i, by, c);
     }

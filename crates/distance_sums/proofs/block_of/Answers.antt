@@ -22,9 +22,6 @@ overflow_mul-from c = omega (arith, row c)
 pub overflow_add-from : goal.overflow_add-from
 overflow_add-from c = omega (arith, row c)
 
-pub overflow_mul-to : goal.overflow_mul-to
-overflow_mul-to c = omega arith
-
 pub loop-j-init : goal.loop-j-init
 loop-j-init c = let p = c.before in (upto-at _ _ _ _ (omega arith) p.loop-i.invariant.0, p.loop-i.invariant.1, omega arith)
 
@@ -37,29 +34,8 @@ offset_bounds-s-from c = omega (arith, c.requires c.loop-i.i c.loop-i-test.true)
 pub bounds-s-from : goal.bounds-s-from
 bounds-s-from c = omega (arith, c.requires c.loop-i.i c.loop-i-test.true)
 
-pub overflow_add-b-in-loop-j : goal.overflow_add-b-in-loop-j
-overflow_add-b-in-loop-j c = omega arith
-
-pub offset_bounds-b-to : goal.offset_bounds-b-to
-offset_bounds-b-to c = omega arith
-
-pub bounds-b-to : goal.bounds-b-to
-bounds-b-to c = omega arith
-
-pub overflow_step-j : goal.overflow_step-j
-overflow_step-j c = omega arith
-
-pub loop-j-smaller : goal.loop-j-smaller
-loop-j-smaller c = omega arith
-
 pub loop-j-preserved : goal.loop-j-preserved
 loop-j-preserved c = let p = c.before.before in (upto-at _ _ _ _ (omega arith) (upto-more _ _ _ _ p.loop-j.invariant.0 (omega arith) (stored _ _ _ _ _ c.before.loop-j-test.true)), simp length-set p.loop-j.invariant.1, omega arith)
-
-pub overflow_step-i : goal.overflow_step-i
-overflow_step-i c = omega arith
-
-pub loop-i-smaller : goal.loop-i-smaller
-loop-i-smaller c = omega arith
 
 pub loop-i-preserved : goal.loop-i-preserved
 loop-i-preserved c = let p = c.before in (upto-at _ _ _ _ (omega arith) p.loop-j.invariant.0, p.loop-j.invariant.1, omega arith)

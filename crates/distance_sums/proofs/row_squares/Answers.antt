@@ -12,41 +12,17 @@ small : (c : After-squared_difference-t) → c.squared_difference-t.result ≤ 1
 small c =
     let s = c.before.before.before.before.before.before.before in
     let j = c.before.before.before.before.loop-j.j in
-    let h = s.requires.by_index j c.before.before.before.loop-j-test.true in
+    let h = s.requires.samples_taken j c.before.before.before.loop-j-test.true in
     omega (arith, c.squared_difference-t.ensures, difference-high (get_or s.args.o.now (s.args.from + j) 0) (get_or s.args.d.now (s.args.to + j) 0) 4095 (omega (arith, h.0)) (omega (arith, h.1)))
 
 pub loop-j-init : goal.loop-j-init
 loop-j-init c = (sum-none _, omega arith, omega arith)
 
-pub overflow_add-from : goal.overflow_add-from
-overflow_add-from c = omega arith
-
-pub offset_bounds-o-from : goal.offset_bounds-o-from
-offset_bounds-o-from c = omega arith
-
-pub bounds-o-from : goal.bounds-o-from
-bounds-o-from c = omega arith
-
-pub overflow_add-to : goal.overflow_add-to
-overflow_add-to c = omega arith
-
-pub offset_bounds-d-to : goal.offset_bounds-d-to
-offset_bounds-d-to c = omega arith
-
-pub bounds-d-to : goal.bounds-d-to
-bounds-d-to c = omega arith
-
 pub squared_difference-t-requires : goal.squared_difference-t-requires
-squared_difference-t-requires c = c.before.before.before.before.before.before.requires.by_index c.before.before.before.loop-j.j c.before.before.loop-j-test.true
+squared_difference-t-requires c = c.before.before.before.before.before.before.requires.samples_taken c.before.before.before.loop-j.j c.before.before.loop-j-test.true
 
 pub overflow_add-t : goal.overflow_add-t
 overflow_add-t c = omega (arith, small c)
-
-pub overflow_step-j : goal.overflow_step-j
-overflow_step-j c = omega arith
-
-pub loop-j-smaller : goal.loop-j-smaller
-loop-j-smaller c = omega arith
 
 pub loop-j-preserved : goal.loop-j-preserved
 loop-j-preserved c = let p = c.before.before.before.before in (rw (p.loop-j.invariant.0, c.squared_difference-t.ensures) (sum_more _ _), omega arith, omega (arith, small c))

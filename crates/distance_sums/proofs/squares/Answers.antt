@@ -40,16 +40,10 @@ pub overflow_add-to : goal.overflow_add-to
 overflow_add-to c = omega (arith, row-d c)
 
 pub row_squares-t-requires : goal.row_squares-t-requires
-row_squares-t-requires c = record { n_in_bounds = (row-o c, row-d c, c.before.before.before.before.requires.1); by_index = low c }
+row_squares-t-requires c = record { inside = (row-o c, row-d c, c.before.before.before.before.requires.1); samples_taken = low c }
 
 pub overflow_add-t : goal.overflow_add-t
 overflow_add-t c = omega (arith, small c)
-
-pub overflow_step-i : goal.overflow_step-i
-overflow_step-i c = omega arith
-
-pub loop-i-smaller : goal.loop-i-smaller
-loop-i-smaller c = omega arith
 
 pub loop-i-preserved : goal.loop-i-preserved
 loop-i-preserved c = let p = c.before.before in (rows_more _ _ _ _ _ _ _ _ _ _ p.loop-i.invariant.0 c.row_squares-t.ensures, omega arith, omega (arith, small c))

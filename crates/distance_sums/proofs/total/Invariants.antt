@@ -18,8 +18,8 @@ invariant-loop-i l = Columns l.a l.col l.i 0 × (l.i ≤ 8) × Below l.a 4096
 abbrev pub decreases-loop-i : goal.decreases-loop-i
 decreases-loop-i l = 8 - l.i
 
-abbrev pub invariant-loop-j-2 : goal.invariant-loop-j-2
-invariant-loop-j-2 l = (l.t ≡ sum l.j (λ k. get_or l.col k 0)) × (l.j ≤ 8) × (l.t ≤ l.j * 32760) × Columns l.a l.col 8 0 × Below l.a 4096
+abbrev pub invariant-loop-c : goal.invariant-loop-c
+invariant-loop-c l = (l.t ≡ sum l.c-index (λ k. get_or l.c-items k 0)) × (l.c-index ≤ 8) × (l.t ≤ l.c-index * 32760) × Columns l.a l.c-items 8 0 × Below l.a 4096
 
-abbrev pub decreases-loop-j-2 : goal.decreases-loop-j-2
-decreases-loop-j-2 l = 8 - l.j
+abbrev pub decreases-loop-c : goal.decreases-loop-c
+decreases-loop-c l = 8 - l.c-index

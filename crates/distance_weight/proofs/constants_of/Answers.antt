@@ -8,7 +8,6 @@ use lib.Dec.{T, lit<}
 use lib.Ieee.{binary64, in_float}
 use Rattle.cdef_spec.specs.Distance.{constants_of}
 use Rattle.distance_weight.specs.WeighingLaws.{first_small, second-small, in-float}
-use borrow.Author.Rules.{rules}
 use Rattle.distance_weight.proofs.constants_of.Goals as goal
 
 first-exact : (k : ℕ) → k ≤ 4 → 400 * 2 ^ (2 * k) % 2 ^ 64 ≡ 400 * 2 ^ (2 * k)
@@ -22,30 +21,6 @@ first-held k h = subst (λ (z : ℕ). T (in_float binary64 (pos z))) (sym (first
 
 second-held : (k : ℕ) → k ≤ 4 → T (in_float binary64 (pos (20000 * 2 ^ (4 * k) % 2 ^ 64)))
 second-held k h = subst (λ (z : ℕ). T (in_float binary64 (pos z))) (sym (second-exact k h)) (in-float (20000 * 2 ^ (4 * k)) (omega (arith, second-small k h)))
-
-pub overflow_sub-k : goal.overflow_sub-k
-overflow_sub-k c = search rules
-
-pub overflow_cast-k : goal.overflow_cast-k
-overflow_cast-k c = search rules
-
-pub overflow_mul-c1 : goal.overflow_mul-c1
-overflow_mul-c1 c = search rules
-
-pub overflow_cast-c1 : goal.overflow_cast-c1
-overflow_cast-c1 c = search rules
-
-pub overflow_shl-c1 : goal.overflow_shl-c1
-overflow_shl-c1 c = search rules
-
-pub overflow_mul-c2 : goal.overflow_mul-c2
-overflow_mul-c2 c = search rules
-
-pub overflow_cast-c2 : goal.overflow_cast-c2
-overflow_cast-c2 c = search rules
-
-pub overflow_shl-c2 : goal.overflow_shl-c2
-overflow_shl-c2 c = search rules
 
 pub int_to_float-result : goal.int_to_float-result
 int_to_float-result c = first-held (c.before.args.depth - 8) (omega arith)

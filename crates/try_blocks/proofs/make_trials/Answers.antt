@@ -22,14 +22,20 @@ dir_of-dir-requires c = let l = c.args.i.now.listed in (omega (arith, c.block_at
 pub damping_of-damping-requires : goal.damping_of-damping-requires
 damping_of-damping-requires c = let h = c.args.i.now.in_force in (h.least, h.most)
 
+pub invariant_of-params : goal.invariant_of-params
+unfolding picture_in
+invariant_of-params c =
+    let i = c.args.i.now in
+    let h = i.listed.shaped.shaped in record {
+      taken = (rw c.dir_of-dir.ensures (dir-low _ _ _ (i.listed.listed.dirs-low _)), rw c.damping_of-damping.ensures (damping-low _ _ _ i.in_force h.flat));
+      deep = (h.deep, h.flat);
+    }
+
 pub cdef_block_candidates-requires : goal.cdef_block_candidates-requires
 unfolding picture_in plane_in_full
 cdef_block_candidates-requires c =
     let i = c.args.i.now in
-    let h = i.listed.shaped.shaped in record {
-      on_plane = (rw c.block_of-b.ensures (block_in _ h _ i.sampled _ _ c.requires.inside.0 c.requires.inside.1), window-low _ h _ i.sampled _, c.requires.room);
-      dir_bound = (rw c.dir_of-dir.ensures (dir-low _ _ _ (i.listed.listed.dirs-low _)), rw c.damping_of-damping.ensures (damping-low _ _ _ i.in_force h.flat), h.deep, h.flat);
-    }
+    let h = i.listed.shaped.shaped in (rw c.block_of-b.ensures (block_in _ h _ i.sampled _ _ c.requires.inside.0 c.requires.inside.1), window-low _ h _ i.sampled _, c.requires.room)
 
 pub returns : goal.returns
 unfolding picture_in plane_in_full

@@ -44,12 +44,6 @@ offset_bounds-b-to c = omega (arith, row_low _ _ _ c.requires.0 c.loop-i-test.tr
 pub bounds-b-to : goal.bounds-b-to
 bounds-b-to c = omega (arith, row_low _ _ _ c.requires.0 c.loop-i-test.true, packed-wide _ _ c.requires.0)
 
-pub overflow_step-j : goal.overflow_step-j
-overflow_step-j c = omega arith
-
-pub loop-j-smaller : goal.loop-j-smaller
-loop-j-smaller c = omega arith
-
 pub loop-j-preserved : goal.loop-j-preserved
 loop-j-preserved c = let p = c.before.before in
     (upto-at _ _ _ _ (omega arith) (upto-more _ _ _ _ p.loop-j.invariant.0 (omega (arith, row_low _ _ _ c.requires.0 c.loop-i-test.true, packed-wide _ _ c.requires.0, p.loop-j.invariant.1)) (stored _ _ _ _ _ _ (omega (arith, packed-wide _ _ c.requires.0)))), simp length-set p.loop-j.invariant.1, omega arith, refl, refl)
@@ -75,21 +69,9 @@ offset_bounds-b-to-in-loop-j-then-cols-eq8 c = omega (arith, row_low _ _ _ c.req
 pub bounds-b-to-in-loop-j-then-cols-eq8 : goal.bounds-b-to-in-loop-j-then-cols-eq8
 bounds-b-to-in-loop-j-then-cols-eq8 c = omega (arith, row_low _ _ _ c.requires.0 c.loop-i-test.true, c.if-cols-eq8.true)
 
-pub overflow_step-j-in-loop-j-then-cols-eq8 : goal.overflow_step-j-in-loop-j-then-cols-eq8
-overflow_step-j-in-loop-j-then-cols-eq8 c = omega arith
-
-pub loop-j-then-cols-eq8-smaller : goal.loop-j-then-cols-eq8-smaller
-loop-j-then-cols-eq8-smaller c = omega arith
-
 pub loop-j-then-cols-eq8-preserved : goal.loop-j-then-cols-eq8-preserved
 loop-j-then-cols-eq8-preserved c = let p = c.before.before in
     (upto-at _ _ _ _ (omega arith) (upto-more _ _ _ _ p.loop-j-then-cols-eq8.invariant.0 (omega (arith, row_low _ _ _ c.requires.0 c.loop-i-test.true, c.if-cols-eq8.true, p.loop-j-then-cols-eq8.invariant.1)) (stored _ _ _ _ _ _ (omega (arith, c.if-cols-eq8.true)))), simp length-set p.loop-j-then-cols-eq8.invariant.1, omega arith, refl, refl)
-
-pub overflow_step-i : goal.overflow_step-i
-overflow_step-i c = omega arith
-
-pub loop-i-smaller : goal.loop-i-smaller
-loop-i-smaller c = omega arith
 
 -- a row, of four columns or of eight
 row_done : (c : Joined-cols-eq8) → let a = c.args in let n = (c.loop-i.i + 1) * a.cols in

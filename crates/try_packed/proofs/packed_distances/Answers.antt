@@ -19,29 +19,11 @@ overflow_mul-n c = let s = c.before.before.before in omega (arith, area _ _ s.re
 pub loop-t-init : goal.loop-t-init
 loop-t-init c = (sym (upto-none _), refl, omega arith)
 
-pub overflow_mul-t : goal.overflow_mul-t
-overflow_mul-t c = omega arith
-
 pub squares_of-requires : goal.squares_of-requires
 squares_of-requires c = let s = c.before.before.before.before.before.before in
     let k = s.requires.0 in
     let w = s.requires.2 _ c.before.loop-t-test.true in
-    record { n_bound = (few _ _ k, runs-held _ _ _ _ _ w); by_index = λ n h. both-low _ _ _ _ _ _ _ _ k c.before.before.before.pack-a.ensures s.requires.1 w n (omega (arith, runs-are _ _ k)) }
-
-pub overflow_cast-d : goal.overflow_cast-d
-overflow_cast-d c = omega arith
-
-pub offset_bounds-d-t : goal.offset_bounds-d-t
-offset_bounds-d-t c = omega arith
-
-pub bounds-d-t : goal.bounds-d-t
-bounds-d-t c = omega arith
-
-pub overflow_step-t : goal.overflow_step-t
-overflow_step-t c = omega arith
-
-pub loop-t-smaller : goal.loop-t-smaller
-loop-t-smaller c = omega arith
+    record { inside = (few _ _ k, runs-held _ _ _ _ _ w); samples_taken = λ n h. both-low _ _ _ _ _ _ _ _ k c.before.before.before.pack-a.ensures s.requires.1 w n (omega (arith, runs-are _ _ k)) }
 
 pub loop-t-preserved : goal.loop-t-preserved
 loop-t-preserved c = let s = c.before.before.before.before.before.before.before in

@@ -2,65 +2,49 @@
 use mathlib.Core.Path.{◌≡◌, ◌∙◌}
 use Prim.Native.Nat.{ℕ, ◌+◌, ◌*◌, ◌≤◌, ◌<◌}
 use native.Mathlib.Omega.{arith}
-use lib.ListN.{get_or, length}
+use lib.ListN.{get_or}
+use Rattle.cdef_spec.specs.Words.{sum}
+use Rattle.cdef_spec.specs.Distance.{squared_difference}
+use mathlib.Core.List.{List}
 use Rattle.distance_sums.specs.SumLaws.{sum-none, sum_more}
 use Rattle.try_packed.specs.RowLaws.{run_squares, run_is, runs-all, run-high}
 use Rattle.try_packed.proofs.squares_of.Goals as goal
-use Rattle.try_packed.proofs.squares_of.Lts as steps
-use Rattle.try_packed.proofs.squares_of.Tie as tie
-use Rattle.try_packed.proofs.squares_of.Reads as reads
-
-abbrev Upto-After-run_squares-t : Type 0
-Upto-After-run_squares-t = steps.After-run_squares tie.the-claims reads.Pre reads.Post goal.the-invariant-loop-i goal.the-decreases-loop-i tie.handed_clauses
-
-abbrev Upto-In-loop-i : Type 0
-Upto-In-loop-i = steps.In-loop tie.the-claims reads.Pre reads.Post goal.the-invariant-loop-i goal.the-decreases-loop-i tie.handed_clauses
-
-held : (c : Upto-In-loop-i) → let a = c.before.before.before.args in a.from + c.before.loop-i.i * 16 + 16 ≤ length a.s.now
-held c = c.before.before.before.requires.n_bound.1 c.before.loop-i.i c.loop-i-test.true
-
-samples : (c : Upto-In-loop-i) (j : ℕ) → j < 16 → let a = c.before.before.before.args in let i = c.before.loop-i.i in
-    (get_or a.a.now (i * 16 + j) 0 < 4096) × (get_or a.s.now (a.from + i * 16 + j) 0 < 4096)
-samples c j h =
-    let a = c.before.before.before.args in
-    let i = c.before.loop-i.i in
-    let z : a.from + i * 16 + j ≡ a.from + (i * 16 + j) = omega arith in
-    let l = c.before.before.before.requires.by_index (i * 16 + j) (omega (arith, c.loop-i-test.true)) in
-    (l.0, rw z l.1)
 
 -- the squares of an iteration
-one : (c : Upto-After-run_squares-t) → let a = c.before.before.before.before.args in let v = run_squares a.a.now a.s.now a.from c.before.before.loop-i.i in
-    (c.run_squares-t.result ≡ v) × (v ≤ 268304400)
-one c =
-    let p = c.before.before.before.before.requires.by_index in
-    (run_is _ _ _ _ _ c.run_squares-t.ensures, run-high _ _ _ _ (λ j h. p _ (omega (arith, c.before.loop-i-test.true))))
+one : (a s : List ℕ) (from n i r : ℕ) → i < n → ((k : ℕ) → k < n * 16 → (get_or a k 0 < 4096) × (get_or s (from + k) 0 < 4096)) → r ≡ sum 16 (λ j. squared_difference (get_or a (i * 16 + j) 0) (get_or s (from + i * 16 + j) 0))
+    → (r ≡ run_squares a s from i) × (run_squares a s from i ≤ 268304400)
+one a s from n i r h low e = (run_is _ _ _ _ _ e, run-high _ _ _ _ (λ j k. low _ (omega arith)))
 
 pub loop-i-init : goal.loop-i-init
 loop-i-init c = (sum-none _, omega arith, omega arith)
 
 pub overflow_mul-i : goal.overflow_mul-i
-overflow_mul-i c = omega (arith, c.before.before.before.requires.n_bound.0)
+overflow_mul-i c = omega (arith, c.requires.inside.0)
 
 pub overflow_mul-i-in-loop-i : goal.overflow_mul-i-in-loop-i
-overflow_mul-i-in-loop-i c = omega (arith, c.before.before.before.requires.n_bound.0)
+overflow_mul-i-in-loop-i c = omega (arith, c.requires.inside.0)
 
 pub overflow_add-from : goal.overflow_add-from
-overflow_add-from c = omega (arith, held c.before)
+overflow_add-from c = omega (arith, c.requires.inside.1 c.loop-i.i c.loop-i-test.true)
 
 pub run_squares-t-requires : goal.run_squares-t-requires
-run_squares-t-requires c = record { k_bound = (omega (arith, c.before.before.before.requires.n_bound.0), held c.before); by_index = λ j h. samples c.before j h }
+run_squares-t-requires c =
+    let i = c.loop-i.i in record {
+      inside = (omega (arith, c.requires.inside.0), c.requires.inside.1 i c.loop-i-test.true);
+      samples_taken = λ j h.
+          let z : c.args.from + i * 16 + j ≡ c.args.from + (i * 16 + j) = omega arith in
+          let l = c.requires.samples_taken (i * 16 + j) (omega (arith, c.loop-i-test.true)) in
+          (l.0, rw z l.1);
+    }
 
 pub overflow_add-t : goal.overflow_add-t
-overflow_add-t c = omega (arith, one c.before, c.before.before.before.before.requires.n_bound.0)
-
-pub overflow_step-i : goal.overflow_step-i
-overflow_step-i c = omega arith
-
-pub loop-i-smaller : goal.loop-i-smaller
-loop-i-smaller c = omega arith
+overflow_add-t c = omega (arith, one c.args.a.now c.args.s.now c.args.from c.args.n c.loop-i.i _ c.loop-i-test.true c.requires.samples_taken c.run_squares-t.ensures, c.requires.inside.0)
 
 pub loop-i-preserved : goal.loop-i-preserved
-loop-i-preserved c = let l = c.before.before.loop-i in (rw (l.invariant.0, (one c.before).0) (sum_more _ _), omega arith, omega (arith, one c.before))
+loop-i-preserved c =
+    let l = c.loop-i in
+    let s = one c.args.a.now c.args.s.now c.args.from c.args.n l.i _ c.loop-i-test.true c.requires.samples_taken c.run_squares-t.ensures in
+    (rw (l.invariant.0, s.0) (sum_more _ _), omega arith, omega (arith, s))
 
 pub returns : goal.returns
-returns c = let l = c.before.loop-i in let e : l.i ≡ c.before.before.before.args.n = omega arith in l.invariant.0 ∙ rw e (runs-all _ _ _ _)
+returns c = let l = c.loop-i in let e : l.i ≡ c.args.n = omega arith in l.invariant.0 ∙ rw e (runs-all _ _ _ _)

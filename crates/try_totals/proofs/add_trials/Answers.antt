@@ -1,29 +1,19 @@
 -- `try_totals::add_trials` meets its contract.
-use mathlib.Core.Path.{ap, ◌∙◌}
-use Prim.Native.Nat.{ℕ, ◌^◌, ◌<◌}
+use Rattle.std.proofs.Common.{ℕ, ◌^◌, ◌<◌, List, ap, ◌∙◌}
 use Rattle.cdef_spec.specs.LoopForm.{signed}
+use Rattle.distance_visible.specs.declared.Part.{Part}
 use Rattle.distance_visible.specs.CutLaws.{cut-within}
-use Rattle.try_totals.specs.Totals.{trial_distances}
+use Rattle.try_totals.specs.Totals.{trial_distances, part_distances, TrialsTaken}
 use Rattle.try_totals.specs.SameLaws.{listed-turns, listed-low}
-use borrow.Author.Rules.{rules}
 use Rattle.try_totals.proofs.add_trials.Goals as goal
-use Rattle.try_totals.proofs.add_trials.Goals.{Start}
-
-pub distances-d-requires : goal.distances-d-requires
-distances-d-requires c = search rules
 
 -- each distance is below 2 ^ 53
-each : (s : Start) (k : ℕ) → k < 12 → let a = s.args in trial_distances a.luma a.c a.rows a.cols a.original.now a.at a.pitch a.blocks.now a.step k < 2 ^ 53
+each : (p : Part) (blocks : List ℕ) (step t : ℕ) → TrialsTaken p blocks step → t < 12 → part_distances p blocks step t < 2 ^ 53
 unfolding trial_distances
-each s k h = cut-within _ _ s.requires.by_index.0 _ _ _ _ _ _ _ _ s.requires.base_in_bounds.2 s.requires.base_in_bounds.3 s.requires.by_index.1 s.requires.by_index.2 (s.requires.by_index.3 k h)
+each p blocks step t w h = cut-within _ _ _ _ _ _ _ _ _ _ p.sides.0 p.sides.1 p.weighs p.within (w t h)
 
 pub add_twelve-requires : goal.add_twelve-requires
-add_twelve-requires c = let s = c.before.before.before.before in
-    let p = s.requires.base_in_bounds in
-    (p.0, p.1, listed-low _ _ _ c.before.distances-d.ensures (each s.before))
-
-pub shape_of-totals : goal.shape_of-totals
-shape_of-totals c = search rules
+add_twelve-requires c = (c.requires.room.0, c.requires.room.1, listed-low _ _ _ c.distances-d.ensures (λ t h. each c.args.part.now c.args.blocks.now c.args.step t c.requires.trials h))
 
 pub returns : goal.returns
-returns c = c.before.add_twelve.ensures ∙ ap signed (listed-turns _ _ _ _ c.before.before.before.distances-d.ensures)
+returns c = c.add_twelve.ensures ∙ ap signed (listed-turns _ _ _ _ c.distances-d.ensures)

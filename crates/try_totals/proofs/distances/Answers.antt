@@ -1,60 +1,51 @@
 -- `try_totals::distances` meets its contract.
-use mathlib.Core.Path.{◌≡◌, refl, ◌∙◌}
-use mathlib.Core.List.{List}
-use Prim.Native.Nat.{ℕ, ◌^◌}
-use native.Mathlib.Omega.{arith}
+use Rattle.std.proofs.Common.{◌≡◌, ℕ, ◌+◌, ◌≤◌, List, refl, ◌∙◌, arith}
 use Rattle.distance_sums.specs.Blocks.{Within}
 use Rattle.distance_sums.specs.BlockLaws.{block-below}
-use Rattle.try_totals.specs.SameLaws.{whole_same, packed-same, within-12}
-use borrow.Author.Rules.{rules}
+use Rattle.distance_visible.specs.declared.Part.{Part}
+use Rattle.try_totals.specs.SameLaws.{part-whole, part-packed, within-12}
 use Rattle.try_totals.proofs.distances.Goals as goal
-use Rattle.try_totals.proofs.distances.Lts as steps
-use Rattle.try_totals.proofs.distances.Tie as tie
-use Rattle.try_totals.proofs.distances.Reads as reads
-
-abbrev Upto-Then-rows-cols-eq16 : Type 0
-Upto-Then-rows-cols-eq16 = steps.Then2 tie.the-claims reads.Pre reads.Post tie.handed_clauses
-
-pub overflow_add-rows : goal.overflow_add-rows
-overflow_add-rows c = search rules
 
 -- a whole block
-whole : (c : Upto-Then-rows-cols-eq16) → let a = c.before.before.before.before.args in (a.rows ≡ 8) × (a.cols ≡ 8) × (a.step ≡ 8)
-whole c = let s = c.before.before.before.before in let p = s.requires.rows_bound in (omega (arith, c.if-rows-cols-eq16.true, p.0, p.1), omega (arith, c.if-rows-cols-eq16.true, p.0, p.1), omega (arith, c.if-rows-cols-eq16.true, p.0, p.1, p.2, p.3))
+module _ (p : Part) (step : ℕ) (e : p.rows + p.cols ≡ 16) (h : p.cols ≤ step) (k : step ≤ 8) where
+  rows : p.rows ≡ 8
+  rows = omega (arith, e, p.sides.0, p.sides.1)
 
-eight : (s : List ℕ) (start pitch rows cols step m : ℕ) → rows ≡ 8 → cols ≡ 8 → pitch ≡ step → Within s start pitch rows cols m → Within s start step 8 8 m
-eight s start pitch rows cols step m er ec es w = rw (er, ec, es) at w
+  cols : p.cols ≡ 8
+  cols = omega (arith, e, p.sides.0, p.sides.1)
 
-original-in : (c : Upto-Then-rows-cols-eq16) → let s = c.before.before.before.before in let a = s.args in Within a.original.now a.at a.pitch 8 8 (2 ^ s.requires.by_index.0)
-original-in c = eight _ _ _ _ _ _ _ (whole c).0 (whole c).1 refl c.before.before.before.before.requires.by_index.2
+  wide : step ≡ 8
+  wide = omega (arith, cols, h, k)
+
+  whole : (s : List ℕ) (start pitch width m : ℕ) → pitch ≡ width → Within s start pitch p.rows p.cols m → Within s start width 8 8 m
+  whole s start pitch width m f w = rw (rows, cols, f) at w
 
 pub block_of-a-requires : goal.block_of-a-requires
-block_of-a-requires c = (original-in c.before).held
+block_of-a-requires c = let p = c.args.part.now in let r = c.requires.rows_inside in (whole p c.args.step c.if-part-eq16.true r.0 r.1 _ _ _ _ _ refl p.within).held
 
 pub whole_distances-requires : goal.whole_distances-requires
-whole_distances-requires c = let t = c.before.before in
-    let s = t.before.before.before.before in
-    let p = s.requires.by_index in
-    (p.0, p.1, rw c.before.block_of-a.ensures (block-below _ _ _ _ (original-in t.before)), λ k h. eight _ _ _ _ _ _ _ (whole t.before).0 (whole t.before).1 (whole t.before).2 (p.3 k h))
+whole_distances-requires c =
+    let p = c.args.part.now in
+    let r = c.requires.rows_inside in
+    let e = c.if-part-eq16.true in (
+      p.depth,
+      p.weighs.of_depth _ c.in-Some.is,
+      rw c.block_of-a.ensures (block-below _ _ _ _ (whole p c.args.step e r.0 r.1 _ _ _ _ _ refl p.within)),
+      λ t h. whole p c.args.step e r.0 r.1 _ _ _ _ _ (wide p c.args.step e r.0 r.1) (c.requires.trials t h),
+    )
 
-pub returns-then-rows-cols-eq16 : goal.returns-then-rows-cols-eq16
-returns-then-rows-cols-eq16 c = let t = c.before.before.before in
-    c.whole_distances.ensures ∙ rw t.before.if-luma.true (whole_same _ _ _ _ _ _ _ _ _ (whole t.before).0 (whole t.before).1 (whole t.before).2 c.before.before.block_of-a.ensures)
-
-pub packs-requires : goal.packs-requires
-packs-requires c = search rules
+pub returns-in-Some : goal.returns-in-Some
+returns-in-Some c =
+    let p = c.args.part.now in
+    let r = c.requires.rows_inside in
+    let e = c.if-part-eq16.true in
+    c.whole_distances.ensures ∙ part-whole p _ _ _ _ c.in-Some.is (rows p c.args.step e r.0 r.1) (cols p c.args.step e r.0 r.1) (wide p c.args.step e r.0 r.1) c.block_of-a.ensures
 
 pub packed_distances-requires : goal.packed_distances-requires
-packed_distances-requires c = let s = c.before.before.before.before.before.before in
-    let p = s.requires.by_index in
-    (c.before.packs.ensures c.if-packs.true, within-12 _ _ _ _ _ _ p.0 refl p.1.flat p.2, λ k h. within-12 _ _ _ _ _ _ p.0 c.before.before.if-step-cols.true p.1.flat (p.3 k h))
+packed_distances-requires c =
+    let p = c.args.part.now in
+    let k = p.weighs.flat in
+    (c.packs.ensures c.if-packs.true, within-12 _ _ _ _ _ _ p.depth refl k p.within, λ t h. within-12 _ _ _ _ _ _ p.depth c.if-step-part.true k (c.requires.trials t h))
 
-pub returns-then-packs : goal.returns-then-packs
-returns-then-packs c = let t = c.before in
-    c.packed_distances.ensures ∙ rw t.before.before.before.if-luma.false (packed-same _ _ _ _ _ _ _ _ t.before.before.if-step-cols.true)
-
-pub cut_distances-requires : goal.cut_distances-requires
-cut_distances-requires c = search rules
-
-pub returns : goal.returns
-returns c = search rules
+pub returns-in-None : goal.returns-in-None
+returns-in-None c = c.packed_distances.ensures ∙ part-packed c.args.part.now _ _ c.in-None.is c.if-step-part.true

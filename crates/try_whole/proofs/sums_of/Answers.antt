@@ -7,48 +7,23 @@ use Rattle.arith_sample.specs.Upto.{upto-none, upto-more, upto_all}
 use Rattle.distance_sums.specs.BlockLaws.{below-4096}
 use Rattle.try_whole.specs.Whole.{spreads_of, errors_of}
 use Rattle.try_whole.specs.WholeLaws.{trial-below, spread-so, error-so}
-use borrow.Author.Rules.{rules}
 use Rattle.try_whole.proofs.sums_of.Goals as goal
 
 pub loop-t-init : goal.loop-t-init
 loop-t-init c = (sym (upto-none _), sym (upto-none _), refl, refl, omega arith)
 
-pub overflow_mul-t : goal.overflow_mul-t
-overflow_mul-t c = omega arith
-
 pub block_of-b-requires : goal.block_of-b-requires
-block_of-b-requires c = (c.requires.by_index.3 c.loop-t.t c.loop-t-test.true).held
+block_of-b-requires c = (c.requires.3 c.loop-t.t c.loop-t-test.true).held
 
 pub spread_of-requires : goal.spread_of-requires
-spread_of-requires c = (rw c.block_of-b.ensures (below-4096 _ c.requires.by_index.0 c.requires.by_index.1 (trial-below _ _ c.requires.by_index.0 c.loop-t.t c.requires.by_index.1 c.requires.by_index.2 (c.requires.by_index.3 _ c.loop-t-test.true))), c.requires.none_value)
-
-pub offset_bounds-spreads-t : goal.offset_bounds-spreads-t
-offset_bounds-spreads-t c = omega arith
-
-pub bounds-spreads-t : goal.bounds-spreads-t
-bounds-spreads-t c = omega arith
+spread_of-requires c = rw c.block_of-b.ensures (below-4096 _ c.requires.0 c.requires.1 (trial-below _ _ c.requires.0 c.loop-t.t c.requires.1 c.requires.2 (c.requires.3 _ c.loop-t-test.true)))
 
 pub block_squares-requires : goal.block_squares-requires
-block_squares-requires c = (below-4096 _ c.requires.by_index.0 c.requires.by_index.1 c.requires.by_index.2, rw c.block_of-b.ensures (below-4096 _ c.requires.by_index.0 c.requires.by_index.1 (trial-below _ _ c.requires.by_index.0 c.loop-t.t c.requires.by_index.1 c.requires.by_index.2 (c.requires.by_index.3 _ c.loop-t-test.true))))
-
-pub overflow_cast-errors : goal.overflow_cast-errors
-overflow_cast-errors c = search rules
-
-pub offset_bounds-errors-t : goal.offset_bounds-errors-t
-offset_bounds-errors-t c = omega arith
-
-pub bounds-errors-t : goal.bounds-errors-t
-bounds-errors-t c = omega arith
-
-pub overflow_step-t : goal.overflow_step-t
-overflow_step-t c = omega arith
-
-pub loop-t-smaller : goal.loop-t-smaller
-loop-t-smaller c = omega arith
+block_squares-requires c = (below-4096 _ c.requires.0 c.requires.1 c.requires.2, rw c.block_of-b.ensures (below-4096 _ c.requires.0 c.requires.1 (trial-below _ _ c.requires.0 c.loop-t.t c.requires.1 c.requires.2 (c.requires.3 _ c.loop-t-test.true))))
 
 pub loop-t-preserved : goal.loop-t-preserved
 loop-t-preserved c = let l = c.loop-t in
-    let p = c.requires.by_index in
+    let p = c.requires in
     let w = p.3 _ c.loop-t-test.true in (
       upto-more _ _ _ _ l.invariant.0 (omega arith) (spread-so _ _ p.0 l.t p.1 p.2 w _ _ c.block_of-b.ensures c.spread_of.ensures),
       upto-more _ _ _ _ l.invariant.1 (omega arith) (error-so _ _ p.0 l.t p.1 p.2 w _ _ c.block_of-b.ensures c.block_squares.ensures),

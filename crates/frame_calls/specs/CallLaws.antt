@@ -1,7 +1,6 @@
 -- A frame call from its checks: what its core requires where they pass, and the outcome either way.
-use Rattle.std.specs.Prelude.{◌≡◌, refl, Bool, true, false, ◌||◌, leb, List, [], ◌∷◌, ℕ, ◌*◌, ◌/◌, ◌%◌, ◌≤◌, ℤ, pos, length, replicate, eqb, Ok, Err, Result as RustResult}
-use Rattle.std.proofs.Common.{sym, arith, ne_eqb, eqb-true, eq-eqb, leb-true}
-use Rattle.cdef_spec.specs.declared.DampingChoice.{DampingChoice}
+use Rattle.std.specs.Prelude.{◌≡◌, refl, Bool, true, List, [], ◌∷◌, ℕ, ◌*◌, ◌/◌, ◌%◌, ◌≤◌, ℤ, pos, length, replicate, Ok, Err, Result as RustResult, Option}
+use Rattle.std.proofs.Common.{ne_eqb, eqb-true, eq-eqb}
 use Rattle.cdef_spec.specs.declared.SignalledDamping.{SignalledDamping}
 use Rattle.cdef_spec.specs.declared.Refusal.{Refusal}
 use Rattle.cdef_spec.specs.declared.UnitPair.{UnitPair}
@@ -10,11 +9,13 @@ use Rattle.cdef_spec.specs.Words.{table}
 use Rattle.cdef_spec.specs.WordsLaws.{and_both}
 use Rattle.cdef_spec.specs.Document01.{in_force}
 use Rattle.cdef_spec.specs.Picture.{Picture, plane_width, plane_height, units, tried_total, measured_total, applied_plane}
-use Rattle.cdef_spec.specs.Answers.{nothing, result_of, read_done, code_of}
-use Rattle.cdef_spec.specs.AnswerLaws.{not-zero, read_done-err, read_done-ok}
-use Rattle.cdef_spec.specs.Questions.{full_planes, picture_listed, visible_taken, picture_taken, primary_taken, secondary_taken, pair_taken}
+use Rattle.cdef_spec.specs.Answers.{read_done, code_of}
+use Rattle.cdef_spec.specs.AnswerLaws.{not-zero, read_done-err}
+use Rattle.cdef_spec.specs.Questions.{full_planes, picture_listed, visible_taken, picture_taken}
 use Rattle.cdef_spec.specs.QuestionLaws.{Taken, questions-yes}
 use Rattle.cdef_spec.specs.FrameCalls.{trying_no, trying_outcome, scratch_length, measuring_no, measuring_outcome}
+use Rattle.check_picture.specs.RefusalLaws.{done-is}
+use Rattle.cdef_pairs.specs.KindLaws.{pair-low}
 use Rattle.cdef_pairs.specs.Applying.{applying_by_no, applying_by_outcome}
 
 -- ---- what passing says
@@ -30,28 +31,9 @@ second-long : (q : Picture) (a b : List ℕ) → full_planes q (a ∷ b ∷ []) 
 unfolding full_planes
 second-long q a b e = eqb-true _ _ (and_both _ _ (and_both _ _ e).1).0
 
--- a pair that passes question 8
-pair-low : (p : UnitPair) → pair_taken p ≡ true → (p.primary ≤ 15) × (p.secondary ≤ 4)
-unfolding pair_taken primary_taken secondary_taken
-pair-low p e =
-    let b = and_both _ _ e in
-    (leb-true p.primary 15 b.0, secondary-low p.secondary b.1)
-  where
-    secondary-low : (n : ℕ) → leb n 2 || eqb n 4 ≡ true → n ≤ 4
-    secondary-low n h = go (leb n 2) refl
-      where
-        go : (t : Bool) → leb n 2 ≡ t → n ≤ 4
-        go true l = omega (arith, leb-true n 2 l)
-        go false l = omega (arith, eqb-true n 4 (rw l at h))
-
--- the outcome of a call that is done
-done-is : (done : Unit {0}) (n : ℕ) → n ≡ 0 → read_done (Ok done) ≡ result_of n nothing
-unfolding code_of
-done-is done n z = read_done-ok {B = Unit {0}} done n (sym z) done
-
 -- ---- applying
 
-module _ (q : Picture) (d : DampingChoice) (snapshot : List ℕ) (listed : ℕ → Bool) (values : Bool) (ps : List UnitPair) (dst : List ℕ) where
+module _ (q : Picture) (d : Option SignalledDamping) (snapshot : List ℕ) (listed : ℕ → Bool) (values : Bool) (ps : List UnitPair) (dst : List ℕ) where
   pub applying-refuses : (B : Type 0) (r : Refusal) (x : RustResult (Unit {0}) Refusal) → x ≡ Err r → code_of {A = B} (Err r) ≡ applying_by_no q d snapshot listed values dst
       → applying_by_outcome q d snapshot listed values ps dst ≡ record { answer = read_done x; plane = dst }
   unfolding applying_by_outcome
@@ -77,7 +59,7 @@ module _ (q : Picture) (d : DampingChoice) (snapshot : List ℕ) (listed : ℕ �
 
 -- ---- trying
 
-module _ (q : Picture) (d : DampingChoice) (v : Visible) (snapshot original : List ℕ) (totals : List ℤ) where
+module _ (q : Picture) (d : Option SignalledDamping) (v : Visible) (snapshot original : List ℕ) (totals : List ℤ) where
   pub trying-refuses : (B : Type 0) (r : Refusal) (x : RustResult (Unit {0}) Refusal) → x ≡ Err r → code_of {A = B} (Err r) ≡ trying_no q d v snapshot original totals
       → trying_outcome q d v snapshot original totals ≡ record { answer = read_done x; totals = totals }
   unfolding trying_outcome
@@ -95,7 +77,7 @@ module _ (q : Picture) (d : DampingChoice) (v : Visible) (snapshot original : Li
 
 -- ---- measuring
 
-module _ (q : Picture) (d : DampingChoice) (v : Visible) (plane original : List ℕ) (p : UnitPair) (totals : List ℤ) (scratch : List ℕ) where
+module _ (q : Picture) (d : Option SignalledDamping) (v : Visible) (plane original : List ℕ) (p : UnitPair) (totals : List ℤ) (scratch : List ℕ) where
   pub measuring-refuses : (B : Type 0) (r : Refusal) (x : RustResult (Unit {0}) Refusal) → x ≡ Err r → code_of {A = B} (Err r) ≡ measuring_no q d v plane original p totals scratch
       → measuring_outcome q d v plane original p totals scratch ≡ record { answer = read_done x; totals = totals; scratch = scratch }
   unfolding measuring_outcome

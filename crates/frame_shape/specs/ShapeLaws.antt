@@ -33,6 +33,10 @@ rounded n zero h = omega arith
 rounded n (suc zero) h = omega arith
 rounded n (suc (suc s)) h = absurd (omega arith)
 
+-- a count of 64s, rounded up
+pub ceil_is : (n k : ℕ) → k ≡ n / 64 + min 1 (n % 64) → k ≡ (n + 63) / 64
+ceil_is n k e = omega arith
+
 four-or-eight : (s : ℕ) → s < 2 → (8 / 2 ^ s ≡ 4) ⊎ (8 / 2 ^ s ≡ 8)
 four-or-eight zero h = inr refl
 four-or-eight (suc zero) h = inl refl

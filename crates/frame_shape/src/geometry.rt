@@ -1,4 +1,5 @@
 // Blocks, units and the visible part of a plane.
+// Kept as clauses, by ≤ 512 and bx ≤ 512: with `Place { by, bx, ghost few }` each call reads `q.block_of(Place { by, bx })` for `q.block_of(by, bx)`, and each caller proves the same bounds of it.
 ghost use Rattle.std.specs.Prelude.{◌≡◌, ◌+◌, ◌*◌, ◌/◌, ◌≤◌, ◌<◌, ◌^◌, length};
 ghost use Rattle.cdef_spec.specs.Picture.{sub_x, sub_y, plane_width, plane_height, block_width, block_height, visible_rows, visible_cols, block_at, unit_at, units, counted};
 ghost use Rattle.frame_shape.specs.Frame.{block_of, visible_part};
@@ -31,7 +32,7 @@ impl<'a> ShapedPicture<'a> {
         ensures flags { (result.0 < 2) × (result.1 < 2) }
     {
         match self.picture.kind {
-            PlaneKind::Luma { vars: _ } => (0, 0),
+            PlaneKind::Luma { .. } => (0, 0),
             PlaneKind::Chroma { sx, sy } => (sx, sy),
         }
     }
@@ -40,10 +41,7 @@ impl<'a> ShapedPicture<'a> {
     pub fn is_luma(&self) -> bool
         ensures { result ≡ is_luma (shaped_in self.now).kind }
     {
-        match self.picture.kind {
-            PlaneKind::Luma { vars: _ } => true,
-            PlaneKind::Chroma { sx: _, sy: _ } => false,
-        }
+        matches!(self.picture.kind, PlaneKind::Luma { .. })
     }
 
     // The plane's own sides.
@@ -120,7 +118,7 @@ impl<'a> ShapedPicture<'a> {
     pub fn units(&self) -> usize
         ensures { (result ≡ units (shaped_in self.now)) × (result ≤ 4096) }
     {
-        (self.picture.height + 63) / 64 * ((self.picture.width + 63) / 64)
+        self.picture.height.div_ceil(64) * self.picture.width.div_ceil(64)
     }
 
     // The index of a block's unit.
@@ -128,7 +126,7 @@ impl<'a> ShapedPicture<'a> {
         requires { (by ≤ 512) × (bx ≤ 512) }
         ensures { result ≡ unit_at (shaped_in self.now) by bx }
     {
-        by / 8 * ((self.picture.width + 63) / 64) + bx / 8
+        by / 8 * self.picture.width.div_ceil(64) + bx / 8
     }
 }
 

@@ -8,7 +8,14 @@ ghost use Rattle.frame_shape.specs.Checked.{shaped_in};
 use crate::checked::ShapedPicture;
 use cdef_spec::{FilterParams, PlaneKind, SignalledDamping, TrialWay, UnitPair, WorkingDamping};
 
-// Block b's variance. In a function of its own, where the list's length is known to fit.
+// A pair whose strengths are in their ranges, question 8.
+#[derive(Clone, Copy)]
+pub struct TakenPair {
+    pub pair: UnitPair,
+    pub ghost low: { (pair.primary ≤ 15) × (pair.secondary ≤ 4) },
+}
+
+// Block b's variance. In a function of its own: the check knows there that the list's length fits in a usize.
 fn variance_of(vars: &[u32], b: usize) -> u32
     requires { b < length vars.now }
     ensures { result ≡ get_or vars.now b 0 }
@@ -24,10 +31,8 @@ impl<'a> ShapedPicture<'a> {
         ensures { result ≡ damping_of (shaped_in self.now).kind d self.now.picture.depth }
     {
         match self.picture.kind {
-            PlaneKind::Luma { vars: _ } => arith_damping::luma_damping(d, self.picture.depth),
-            PlaneKind::Chroma { sx: _, sy: _ } => {
-                arith_damping::chroma_damping(d, self.picture.depth)
-            },
+            PlaneKind::Luma { .. } => arith_damping::luma_damping(d, self.picture.depth),
+            PlaneKind::Chroma { .. } => arith_damping::chroma_damping(d, self.picture.depth),
         }
     }
 
@@ -39,7 +44,7 @@ impl<'a> ShapedPicture<'a> {
     {
         let dir = self.picture.dirs[b];
         match self.picture.kind {
-            PlaneKind::Luma { vars: _ } => dir,
+            PlaneKind::Luma { .. } => dir,
             PlaneKind::Chroma { sx, sy } => arith_tables::chroma_direction(sx, sy, dir),
         }
     }
@@ -52,20 +57,21 @@ impl<'a> ShapedPicture<'a> {
     {
         match self.picture.kind {
             PlaneKind::Luma { vars } => TrialWay::Luma(variance_of(vars, b)),
-            PlaneKind::Chroma { sx: _, sy: _ } => TrialWay::Chroma,
+            PlaneKind::Chroma { .. } => TrialWay::Chroma,
         }
     }
 
     // A signalled primary strength as the block's working one: in luma adjusted by the variance.
+    // Kept as a clause, s ≤ 15: it takes the one strength of a TakenPair, as a number.
     #[tactic(auto, unfolding(cdef_spec::specs::Lent::picture_in, cdef_spec::specs::Lent::kind_in, crate::specs::Frame::primary_of))]
     fn primary_of(&self, b: usize, s: u8) -> u32
         requires { HasVariance (shaped_in self.now).kind b × (s ≤ 15) }
         ensures { result ≡ primary_of (shaped_in self.now).kind (shaped_in self.now).depth b s }
     {
-        let p = (s as u32) << (self.picture.depth - 8);
+        let p = u32::from(s) << (self.picture.depth - 8);
         match self.picture.kind {
             PlaneKind::Luma { vars } => arith_strength::adjust_pri(p, variance_of(vars, b)),
-            PlaneKind::Chroma { sx: _, sy: _ } => p,
+            PlaneKind::Chroma { .. } => p,
         }
     }
 
@@ -82,16 +88,16 @@ impl<'a> ShapedPicture<'a> {
 
     // The filter parameters of block b, for a pair.
     #[tactic(auto, unfolding(cdef_spec::specs::Lent::picture_in))]
-    pub fn params_for(&self, b: usize, p: UnitPair, d: SignalledDamping) -> FilterParams
+    pub fn params_for(&self, b: usize, p: TakenPair, d: SignalledDamping) -> FilterParams
         requires block { HasParams (shaped_in self.now) b }
-        requires ranges { (p.primary ≤ 15) × (p.secondary ≤ 4) × (3 ≤ d.0) × (d.0 ≤ 6) }
-        ensures { result ≡ params_for (shaped_in self.now).kind (shaped_in self.now).depth (shaped_in self.now).dirs d p b }
+        requires damping { (3 ≤ d.0) × (d.0 ≤ 6) }
+        ensures { result ≡ params_for (shaped_in self.now).kind (shaped_in self.now).depth (shaped_in self.now).dirs d p.pair b }
     {
         let depth = self.picture.depth;
         FilterParams {
-            pri: self.primary_of(b, p.primary),
-            sec: (p.secondary as u32) << (depth - 8),
-            dir: self.dir_for(b, p.primary),
+            pri: self.primary_of(b, p.pair.primary),
+            sec: u32::from(p.pair.secondary) << (depth - 8),
+            dir: self.dir_for(b, p.pair.primary),
             damping: self.damping_of(d),
             depth,
         }
@@ -102,8 +108,5 @@ impl<'a> ShapedPicture<'a> {
 pub fn is_off(p: UnitPair) -> bool
     ensures { result ≡ is_off p }
 {
-    if p.primary != 0 {
-        return false;
-    }
-    p.secondary == 0
+    p.primary == 0 && p.secondary == 0
 }

@@ -1,12 +1,11 @@
 -- Totals: one block, one row of blocks, all rows.
-use Rattle.std.specs.Prelude.{◌≡◌, true, false, ◌&&◌, eqb, ltb, get_or, ◌*◌, List, [], ℕ, ◌+◌, ◌^◌, ◌≤◌, ◌<◌, ℤ, pos, replicate}
-use Rattle.std.proofs.Common.{ltb-true, add-one, ap, sym, ◌∙◌, arith}
+use Rattle.std.specs.Prelude.{◌≡◌, true, false, List, ℕ, ◌+◌, ◌^◌, ◌≤◌, ◌<◌, ℤ, pos, replicate}
+use Rattle.std.proofs.Common.{add-one, ap, sym, ◌∙◌, arith}
 use Rattle.cdef_spec.specs.declared.UnitPair.{UnitPair}
 use Rattle.cdef_spec.specs.declared.Visible.{Visible}
 use Rattle.cdef_spec.specs.Lent.{plane_in_full}
 use Rattle.cdef_spec.specs.Words.{table}
-use Rattle.cdef_spec.specs.WordsLaws.{and_both}
-use Rattle.cdef_spec.specs.Picture.{Picture, block_width, block_height, visible_rows, visible_cols, block_at, counted, unit_at, block_rows, block_cols, units, measured_total}
+use Rattle.cdef_spec.specs.Picture.{Picture, counted, unit_at, block_rows, block_cols, units, measured_total}
 use Rattle.cdef_spec.specs.LoopForm.{signed, add_at, measure_row, measure_rows}
 use Rattle.cdef_spec.specs.TotalLaws.{signed-zeros, signed-table, measure-is}
 use Rattle.arith_totals.specs.FoldLaws.{measure-rows-more}
@@ -32,14 +31,6 @@ pub row_step : (q : Picture) (v : Visible) (dist : ℕ → ℕ → ℕ) (by : �
 unfolding measure_row measure_one
 row_step q v dist by z n = rw (add-one n)
 
--- a counted block begins inside the visible area
-pub begun : (q : Picture) (v : Visible) (by bx : ℕ) → counted q v by bx ≡ true → (by * block_height q ≤ visible_rows q v) × (bx * block_width q ≤ visible_cols q v)
-unfolding counted
-begun q v by bx e =
-    let a = (and_both (eqb (get_or q.skip (block_at q by bx) 0) 0) (ltb (by * block_height q) (visible_rows q v) && ltb (bx * block_width q) (visible_cols q v)) e).1 in
-    let b = and_both (ltb (by * block_height q) (visible_rows q v)) (ltb (bx * block_width q) (visible_cols q v)) a in
-    (omega (arith, ltb-true (by * block_height q) (visible_rows q v) b.0), omega (arith, ltb-true (bx * block_width q) (visible_cols q v) b.1))
-
 module _ (i : CompareInput) (p : UnitPair) where
   abbrev q : Picture
   q = compare_in i
@@ -54,7 +45,7 @@ module _ (i : CompareInput) (p : UnitPair) where
   row_small by hy = record { turn = λ n hn. record { each = λ u. measure-low q i.visible (distance_in i p) (2 ^ 53) (λ m k hm hk e. low m k hm hk) by n u hy hn } }
     where
       low : (m k : ℕ) → m < block_rows q → k < block_cols q → distance_in i p m k ≤ 2 ^ 53
-      low m k hm hk = omega (arith, measured-low q i.filter.listed.shaped.shaped i.visible m k hm hk i.filter.damping p [] (plane_in_full i.filter.plane) (plane_in_full i.original) i.filter.sampled i.original_sampled)
+      low m k hm hk = omega (arith, measured-low q i.filter.listed.shaped.shaped i.visible m k hm hk i.filter.damping p (plane_in_full i.filter.plane) (plane_in_full i.original) i.filter.sampled i.original_sampled)
 
   pub totals-none : (n : ℕ) → n ≡ units q → replicate n (pos 0) ≡ signed (rows_measured i p 0)
   unfolding measure_rows

@@ -1,49 +1,37 @@
--- The rows of a block as the code selects them.
-use Rattle.std.specs.Prelude.{◌≡◌, Bool, true, List, ℕ, ◌+◌, ◌*◌, ◌^◌, ◌≤◌, ◌<◌, length}
-use Rattle.std.proofs.Math.Path.{ap}
-use Rattle.std.proofs.Common.{mul-le-mul, arith}
+-- The rows of a block as the code cuts them.
+use Rattle.std.specs.Prelude.{◌≡◌, List, ℕ, ◌+◌, ◌-◌, ◌*◌, ◌^◌, ◌≤◌, ◌<◌, length, take, drop}
+use Rattle.std.proofs.Common.{mul-le-mul, ◌∙◌, arith}
 use Rattle.cdef_spec.specs.declared.Block.{Block}
 use Rattle.cdef_spec.specs.declared.Visible.{Visible}
 use Rattle.cdef_spec.specs.Document01.{Plane}
 use Rattle.cdef_spec.specs.Picture.{Picture, plane_width, block_width, block_height, block_rows, block_cols}
 use Rattle.cdef_spec.specs.FrameCalls.{scratch_length}
 use Rattle.distance_sums.specs.Blocks.{Within}
-use Rattle.frame_shape.specs.Frame.{visible_part}
+use Rattle.frame_shape.specs.Frame.{block_of, visible_part}
 use Rattle.frame_shape.specs.Shape.{Shaped, Sampled}
-use Rattle.frame_shape.specs.ShapeLaws.{plane-wide, plane-high, block-wide, block-high, cols-in, rows_in}
+use Rattle.frame_shape.specs.ShapeLaws.{plane-wide, plane-high, rows_in, corner-is}
+use Rattle.frame_part.specs.PartLaws.{part-rows, part-cols}
 use Rattle.measure_plane.specs.Measure.{LowBlock}
-use Rattle.measure_rows.specs.Rows.{rows_of}
-use Rattle.measure_plane.specs.RowLaws.{plane-within, rows-room, rows-within}
+use Rattle.measure_plane.specs.RowLaws.{rows-room, rows-within}
 
-module _ (q : Picture) (h : Shaped q) (v : Visible) (by bx : ℕ) (hy : by < block_rows q) (hx : bx < block_cols q) (part : Block) (ep : part ≡ visible_part q v by bx) where
-  top-is : part.y ≡ by * block_height q
-  unfolding visible_part
-  top-is = ap (λ (x : Block). x.y) ep
+-- a block's rows reach as far as its visible part
+pub rows_taken : (q : Picture) (h : Shaped q) (v : Visible) (by bx : ℕ) → by < block_rows q → bx < block_cols q → (rows : List ℕ) → length rows ≡ scratch_length q → LowBlock q bx rows
+    → (n m depth from w : ℕ) → n ≡ (visible_part q v by bx).height → m ≡ (visible_part q v by bx).width → depth ≡ q.depth → from ≡ bx * block_width q → w ≡ plane_width q → Within rows from w n m (2 ^ depth)
+rows_taken q h v by bx hy hx rows len low n m depth from w en em ed ef ew = rw (en, em, ed, ef, ew) (rows-within q h by bx hy hx rows len low _ _ (part-rows q v by bx) (part-cols q v by bx))
 
-  left_is : part.x ≡ bx * block_width q
-  unfolding visible_part
-  left_is = ap (λ (x : Block). x.x) ep
+-- the plane's own rows, from the block's first on, in a list as long as the scratch
+module _ (q : Picture) (h : Shaped q) (by bx : ℕ) (hy : by < block_rows q) (hx : bx < block_cols q) (b : Block) (eb : b ≡ block_of q by bx) (src : Plane) (g : Sampled q src) where
+  own-begin : b.y * src.width ≡ by * block_height q * plane_width q
+  own-begin = rw ((corner-is q by bx b eb).1, g.wide)
 
-  sides-in : (part.height ≤ block_height q) × (part.width ≤ block_width q)
-  unfolding visible_part
-  sides-in = rw ep (omega arith, omega arith)
+  pub own-start : b.y * src.width < 2 ^ 32
+  own-start =
+      let k : by * block_height q ≤ 4096 = omega (arith, rows_in q h by bx hy hx, plane-high q h) in
+      omega (arith, own-begin, mul-le-mul k (plane-wide q h))
 
-  pub sides-small : (part.height ≤ 8) × (part.width ≤ 8)
-  sides-small = (omega (arith, sides-in.0, (block-high q h).1), omega (arith, sides-in.1, (block-wide q h).1))
+  module _ (n : ℕ) (len : n ≡ scratch_length q) where
+    pub own-room : b.y * src.width + n ≤ length src.samples
+    own-room = omega (arith, own-begin, rows-room q h by bx hy hx src g n len)
 
-  module _ (w : ℕ) (ew : w ≡ plane_width q) where
-    pub start_small : part.y * w + part.x < 2 ^ 32
-    start_small =
-        let k : part.y ≤ 4096 = omega (arith, top-is, rows_in q h by bx hy hx, plane-high q h) in
-        let m : w ≤ 4096 = omega (arith, ew, plane-wide q h) in
-        omega (arith, mul-le-mul k m, left_is, cols-in q h by bx hy hx, plane-wide q h)
-
-    pub original-in : (o : Plane) → Sampled q o → Within o.samples (part.y * w + part.x) w part.height part.width (2 ^ q.depth)
-    original-in o g = rw (top-is, left_is, ew) (plane-within q h by bx hy hx o g part.height part.width sides-in.0 sides-in.1)
-
-    module _ (on : Bool) (scratch : List ℕ) (src : Plane) (len : length scratch ≡ scratch_length q) (g : Sampled q src) where
-      pub plane-room : part.y * w + length scratch ≤ length src.samples
-      plane-room = rw (top-is, ew) (rows-room q h by bx hy hx on scratch src len g)
-
-      pub rows_taken : (on ≡ true → LowBlock q bx scratch) → (other : List ℕ) → other ≡ rows_of on scratch src.samples (part.y * w) → Within other part.x w part.height part.width (2 ^ q.depth)
-      rows_taken low other e = rw (e, top-is, left_is, ew) (rows-within q h by bx hy hx on scratch src len g low part.height part.width sides-in.0 sides-in.1)
+    pub own_taken : (l : List ℕ) → l ≡ take (b.y * src.width + n - b.y * src.width) (drop (b.y * src.width) src.samples) → l ≡ take n (drop (by * block_height q * plane_width q) src.samples)
+    own_taken l e = let k : b.y * src.width + n - b.y * src.width ≡ n = omega arith in e ∙ rw (k, own-begin)

@@ -1,7 +1,7 @@
 -- The distance of a block: as the code puts it together, and how large it is.
-use Rattle.std.specs.Prelude.{◌≡◌, Bool, true, false, cond, not, List, [], ℕ, ◌+◌, ◌-◌, ◌*◌, ◌^◌, ◌<◌, min, get_or, length}
+use Rattle.std.specs.Bool.{then_some}
+use Rattle.std.specs.Prelude.{◌≡◌, Bool, true, false, cond, List, ℕ, ◌+◌, ◌-◌, ◌*◌, ◌^◌, ◌<◌, min, get_or, length, take, drop, Option}
 use Rattle.std.proofs.Common.{refl, sym, ◌∙◌, arith}
-use Rattle.cdef_spec.specs.declared.Block.{Block}
 use Rattle.cdef_spec.specs.declared.DistanceConstants.{DistanceConstants}
 use Rattle.cdef_spec.specs.declared.SignalledDamping.{SignalledDamping}
 use Rattle.cdef_spec.specs.declared.UnitPair.{UnitPair}
@@ -9,25 +9,18 @@ use Rattle.cdef_spec.specs.declared.Visible.{Visible}
 use Rattle.cdef_spec.specs.Document01.{Plane, mark, or_else}
 use Rattle.cdef_spec.specs.Distance.{constants_of}
 use Rattle.cdef_spec.specs.FrameCalls.{scratch_length}
-use Rattle.cdef_spec.specs.Picture.{PlaneKind, luma, chroma, Picture, is_off, plane_width, plane_height, block_width, block_height, block_rows, block_cols, visible_rows, visible_cols, at_place, filtered_by, distance_of, block_distance}
+use Rattle.cdef_spec.specs.Picture.{Picture, is_off, plane_width, plane_height, block_width, block_height, block_rows, block_cols, visible_rows, visible_cols, at_place, filtered_by, block_distance}
 use Rattle.cdef_spec.proofs.PictureLaws.{filtered-low}
-use Rattle.distance_weight.specs.Weighing.{OfDepth}
 use Rattle.distance_sums.specs.Blocks.{at}
 use Rattle.distance_visible.specs.Cut.{cut_distance}
-use Rattle.distance_visible.specs.CutLaws.{cut-is, cut-same, cut_low}
+use Rattle.distance_visible.specs.CutLaws.{cut-same, cut_low, weights-of}
+use Rattle.frame_part.specs.KindLaws.{cut-kind}
 use Rattle.frame_shape.specs.Frame.{visible_part}
 use Rattle.frame_shape.specs.Shape.{Shaped, Sampled, is_luma}
 use Rattle.frame_shape.specs.ShapeLaws.{cols-in, rows_in, block-wide, block-high}
 use Rattle.frame_shape.specs.SampledLaws.{sample-low}
 use Rattle.measure_plane.specs.Measure.{row_sample, Filled, measured_distance}
-use Rattle.measure_rows.specs.Rows.{rows_of}
-use Rattle.measure_plane.specs.RowLaws.{plane-at, rows_at}
-
--- the code's distance, by the plane's kind
-cut-kind : (k : PlaneKind) (depth rows cols : ℕ) (o d : ℕ → ℕ → ℕ) → cut_distance (is_luma k) (constants_of depth) rows cols o d ≡ distance_of k depth rows cols o d
-unfolding is_luma
-cut-kind (luma vars) depth rows cols o d = cut-is true vars 0 0 depth rows cols o d
-cut-kind (chroma sx sy) depth rows cols o d = cut-is false [] sx sy depth rows cols o d
+use Rattle.measure_plane.specs.RowLaws.{plane-at, rows_at, own-is}
 
 module _ (q : Picture) (h : Shaped q) (v : Visible) (by bx : ℕ) where
   abbrev rows : ℕ
@@ -36,45 +29,46 @@ module _ (q : Picture) (h : Shaped q) (v : Visible) (by bx : ℕ) where
   abbrev cols : ℕ
   cols = min (block_width q) (visible_cols q v - bx * block_width q)
 
-  distance-as : (o d : ℕ → ℕ → ℕ) → block_distance q v by bx o d ≡ cut_distance (is_luma q.kind) (constants_of q.depth) rows cols (λ i j. o (by * block_height q + i) (bx * block_width q + j)) (λ i j. d (by * block_height q + i) (bx * block_width q + j))
+  distance-as : (o d : ℕ → ℕ → ℕ) → block_distance q v by bx o d ≡ cut_distance (then_some (is_luma q.kind) (constants_of q.depth)) rows cols (λ i j. o (by * block_height q + i) (bx * block_width q + j)) (λ i j. d (by * block_height q + i) (bx * block_width q + j))
   unfolding block_distance
   distance-as o d = sym (cut-kind q.kind q.depth rows cols _ _)
 
   -- it depends on the block alone
   pub distance-same : (o d e : ℕ → ℕ → ℕ) → ((i j : ℕ) → i < block_height q → j < block_width q → d (by * block_height q + i) (bx * block_width q + j) ≡ e (by * block_height q + i) (bx * block_width q + j)) → block_distance q v by bx o d ≡ block_distance q v by bx o e
-  distance-same o d e g = distance-as o d ∙ cut-same (is_luma q.kind) (constants_of q.depth) rows cols _ _ _ _ (λ i j hi hj. refl) (λ i j hi hj. g i j (omega arith) (omega arith)) ∙ sym (distance-as o e)
+  distance-same o d e g = distance-as o d ∙ cut-same (then_some (is_luma q.kind) (constants_of q.depth)) rows cols _ _ _ _ (λ i j hi hj. refl) (λ i j hi hj. g i j (omega arith) (omega arith)) ∙ sym (distance-as o e)
 
   pub distance-low : (o d : ℕ → ℕ → ℕ) → ((i j : ℕ) → i < block_height q → j < block_width q → (o (by * block_height q + i) (bx * block_width q + j) < 2 ^ q.depth) × (d (by * block_height q + i) (bx * block_width q + j) < 2 ^ q.depth)) → block_distance q v by bx o d < 2 ^ 53
   distance-low o d g =
       rw (distance-as o d)
-      (cut_low (is_luma q.kind) (constants_of q.depth) q.depth rows cols _ _ (omega (arith, (block-high q h).1)) (omega (arith, (block-wide q h).1)) (record { deep = h.deep; flat = h.flat; is = refl }) (λ i j hi hj. g i j (omega arith) (omega arith)))
+      (cut_low (then_some (is_luma q.kind) (constants_of q.depth)) q.depth rows cols _ _ (omega (arith, (block-high q h).1)) (omega (arith, (block-wide q h).1)) (weights-of (is_luma q.kind) _ _ (record { deep = h.deep; flat = h.flat; is = refl })) (λ i j hi hj. g i j (omega arith) (omega arith)))
 
   module _ (hy : by < block_rows q) (hx : bx < block_cols q) where
     -- as the code puts it together
-    pub rows-distance : (on : Bool) (scratch : List ℕ) (src o : Plane) → length scratch ≡ scratch_length q → Sampled q src → Sampled q o → (c : DistanceConstants) → OfDepth c q.depth
-        → (w : ℕ) (part : Block) (k : Bool) (other : List ℕ) (r : ℕ) → w ≡ plane_width q → part ≡ visible_part q v by bx → k ≡ is_luma q.kind → other ≡ rows_of on scratch src.samples (part.y * w)
-        → r ≡ cut_distance k c part.height part.width (at o.samples (part.y * w + part.x) w) (at other part.x w)
-        → r ≡ block_distance q v by bx (at_place q o.samples) (row_sample q on scratch src.samples (by * block_height q))
+    pub rows-distance : (rs : List ℕ) (o : Plane) → length rs ≡ scratch_length q → Sampled q o
+        → (k : Option DistanceConstants) (n m : ℕ) (samples : List ℕ) (start w from r : ℕ) → k ≡ then_some (is_luma q.kind) (constants_of q.depth) → n ≡ (visible_part q v by bx).height → m ≡ (visible_part q v by bx).width → samples ≡ o.samples
+        → start ≡ (visible_part q v by bx).y * plane_width q + (visible_part q v by bx).x → w ≡ plane_width q → from ≡ bx * block_width q
+        → r ≡ cut_distance k n m (at samples start w) (at rs from w)
+        → r ≡ block_distance q v by bx (at_place q o.samples) (row_sample q rs (by * block_height q))
     unfolding visible_part
-    rows-distance on scratch src o len gp go c m w part k other r ew ep ek eo e =
+    rows-distance rs o len go k n m samples start w from r ek en em eo es ew ef e =
         e
-        ∙ rw (eo, ep, ew, ek, m.is)
-        (cut-same (is_luma q.kind) (constants_of q.depth) rows cols _ _ _ _ (λ i j hi hj. plane-at q h by bx hy hx o go i j) (λ i j hi hj. rows_at q h by bx hy hx on scratch src len gp i j (omega arith) (omega arith))
-        ∙ sym (distance-as (at_place q o.samples) (row_sample q on scratch src.samples (by * block_height q))))
+        ∙ rw (ek, en, em, eo, es, ew, ef)
+        (cut-same (then_some (is_luma q.kind) (constants_of q.depth)) rows cols _ _ _ _ (λ i j hi hj. plane-at q h by bx hy hx o go i j) (λ i j hi hj. rows_at q h by bx hy hx rs len i j)
+        ∙ sym (distance-as (at_place q o.samples) (row_sample q rs (by * block_height q))))
 
     -- ---- the measured one
 
-    module _ (d : SignalledDamping) (p : UnitPair) (scratch : List ℕ) (src o : Plane) where
-      -- the selected rows hold the filtered block or, with 0, 0, the src.samples's
-      pub measured : (on : Bool) → on ≡ not (is_off p) → (on ≡ true → Filled q d src.samples p by bx scratch) → block_distance q v by bx (at_place q o.samples) (row_sample q on scratch src.samples (by * block_height q)) ≡ measured_distance q d v src.samples o.samples p by bx
+    module _ (d : SignalledDamping) (p : UnitPair) (src o : Plane) where
+      -- the rows hold the filtered block
+      pub filtered : is_off p ≡ false → (rs : List ℕ) → Filled q d src.samples p by bx rs → block_distance q v by bx (at_place q o.samples) (row_sample q rs (by * block_height q)) ≡ measured_distance q d v src.samples o.samples p by bx
       unfolding measured_distance row_sample Filled
-      measured on e g = rw e (distance-same _ _ _ (λ i j hi hj. go (is_off p) i j (λ t. g (e ∙ t) i j hi hj)))
-        where
-          go : (a : Bool) (i j : ℕ) → (not a ≡ true → get_or scratch (i * plane_width q + (bx * block_width q + j)) 0 ≡ or_else mark (filtered_by q d src.samples p by bx (by * block_height q + i) (bx * block_width q + j)))
-              → cond (not a) (get_or scratch ((by * block_height q + i - by * block_height q) * plane_width q + (bx * block_width q + j)) 0) (at_place q src.samples (by * block_height q + i) (bx * block_width q + j))
-              ≡ cond a (at_place q src.samples (by * block_height q + i) (bx * block_width q + j)) (or_else mark (filtered_by q d src.samples p by bx (by * block_height q + i) (bx * block_width q + j)))
-          go true i j t = refl
-          go false i j t = let z : by * block_height q + i - by * block_height q ≡ i = omega arith in rw z (t refl)
+      filtered e rs g = rw e (distance-same _ _ _ (λ i j hi hj. let z : by * block_height q + i - by * block_height q ≡ i = omega arith in rw z (g i j hi hj)))
+
+      -- or, with 0, 0, they are the plane's
+      pub unfiltered : is_off p ≡ true → Sampled q src → (n : ℕ) → n ≡ scratch_length q → (rs : List ℕ) → rs ≡ take n (drop (by * block_height q * plane_width q) src.samples)
+          → block_distance q v by bx (at_place q o.samples) (row_sample q rs (by * block_height q)) ≡ measured_distance q d v src.samples o.samples p by bx
+      unfolding measured_distance
+      unfiltered e g n len rs er = rw (e, er) (distance-same _ _ _ (λ i j hi hj. own-is q h by bx hy hx src g n len i j hi hj))
 
       pub measured-low : Sampled q src → Sampled q o → measured_distance q d v src.samples o.samples p by bx < 2 ^ 53
       unfolding measured_distance

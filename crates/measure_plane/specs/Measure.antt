@@ -1,5 +1,5 @@
 -- What measuring adds up, in the code's form. Definitions only.
-use Rattle.std.specs.Prelude.{◌≡◌, Bool, cond, List, ℕ, ◌+◌, ◌-◌, ◌*◌, ◌^◌, ◌≤◌, ◌<◌, get_or, replicate}
+use Rattle.std.specs.Prelude.{◌≡◌, cond, List, ℕ, ◌+◌, ◌-◌, ◌*◌, ◌^◌, ◌≤◌, ◌<◌, get_or, replicate}
 use Rattle.cdef_spec.specs.declared.SignalledDamping.{SignalledDamping}
 use Rattle.cdef_spec.specs.declared.UnitPair.{UnitPair}
 use Rattle.cdef_spec.specs.declared.Visible.{Visible}
@@ -10,18 +10,18 @@ use Rattle.arith_totals.specs.Small.{Small}
 use Rattle.frame_shape.specs.declared.inputs.CompareInput.{CompareInput}
 use Rattle.frame_shape.specs.Checked.{compare_in}
 
--- the sample at row r and column c of the plane: in the scratch, whose first row is the plane's row y, or in the plane
-unfoldable pub row_sample : Picture → Bool → List ℕ → List ℕ → ℕ → ℕ → ℕ → ℕ
-row_sample q filters scratch plane y r c = cond filters (get_or scratch ((r - y) * plane_width q + c) 0) (at_place q plane r c)
+-- the sample at row r and column c of the plane, in a block's rows, whose first is the plane's row y
+unfoldable pub row_sample : Picture → List ℕ → ℕ → ℕ → ℕ → ℕ
+row_sample q rows y r c = get_or rows ((r - y) * plane_width q + c) 0
 
 -- the scratch holds the filtered block (by, bx)
 unfoldable pub Filled : Picture → SignalledDamping → List ℕ → UnitPair → ℕ → ℕ → List ℕ → Type 0
 Filled q d plane p by bx scratch =
     (i j : ℕ) → i < block_height q → j < block_width q → get_or scratch (i * plane_width q + (bx * block_width q + j)) 0 ≡ or_else mark (filtered_by q d plane p by bx (by * block_height q + i) (bx * block_width q + j))
 
--- the samples of the scratch's block in column bx are of the depth
-pub record LowBlock (q : Picture) (bx : ℕ) (scratch : List ℕ) : Type 0 where
-  pub each : (i j : ℕ) → i < block_height q → j < block_width q → get_or scratch (i * plane_width q + (bx * block_width q + j)) 0 < 2 ^ q.depth
+-- in a block's rows, the samples of the block in column bx are of the depth
+pub record LowBlock (q : Picture) (bx : ℕ) (rows : List ℕ) : Type 0 where
+  pub each : (i j : ℕ) → i < block_height q → j < block_width q → get_or rows (i * plane_width q + (bx * block_width q + j)) 0 < 2 ^ q.depth
 
 -- the distance of the block (by, bx), filtered or, with 0, 0, unfiltered
 unfoldable pub measured_distance : Picture → SignalledDamping → Visible → List ℕ → List ℕ → UnitPair → ℕ → ℕ → ℕ

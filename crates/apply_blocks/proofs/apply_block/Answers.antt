@@ -3,7 +3,7 @@ use Rattle.std.proofs.Common.{arith}
 use Rattle.cdef_spec.specs.Lent.{picture_in}
 use Rattle.cdef_spec.specs.GeometryLaws.{unit-low}
 use Rattle.frame_shape.specs.ShapeLaws.{counts-low, number-low}
-use Rattle.apply_blocks.specs.BlockLaws.{skipped, off, on}
+use Rattle.apply_blocks.specs.BlockLaws.{room, filtered-is, skipped, off, on}
 use Rattle.apply_blocks.proofs.apply_block.Goals as goal
 
 pub block_at-requires : goal.block_at-requires
@@ -26,13 +26,16 @@ pair-p-requires g c = rw (c.unit_at.ensures, c.requires.paired.long) (unit-low _
 pub returns-then-is_off : goal.returns-then-is_off
 returns-then-is_off g c = off _ _ _ _ _ _ _ _ _ (rw c.unit_at.ensures at c.pair-p.ensures) c.is_off.ensures c.if-is_off.true
 
-pub filter_with-requires : goal.filter_with-requires
-filter_with-requires g c = record {
-  strengths = rw c.pair-p.ensures (c.requires.paired.low _);
+pub invariant_of-taken : goal.invariant_of-taken
+invariant_of-taken g c = record { low = rw c.pair-p.ensures (c.requires.paired.low _) }
+
+pub filter_block-requires : goal.filter_block-requires
+filter_block-requires g c = record {
   inside = c.requires.inside;
-  full = c.requires.full;
+  begins = omega arith;
+  room = room _ c.args.i.now.listed.shaped.shaped _ c.args.bx c.requires.inside.0 _ c.requires.full;
 }
 
 pub returns : goal.returns
 unfolding picture_in
-returns g c = on _ _ _ _ _ _ _ _ _ (rw c.unit_at.ensures at c.pair-p.ensures) c.is_off.ensures c.if-is_off.false (rw c.block_at.ensures at c.if-shaped-block_at-ne0.false) _ c.filter_with.ensures
+returns g c = on _ _ _ _ _ _ _ _ _ (rw c.unit_at.ensures at c.pair-p.ensures) c.is_off.ensures c.if-is_off.false (rw c.block_at.ensures at c.if-shaped-block_at-ne0.false) _ (filtered-is _ c.args.i.now.listed.shaped.shaped _ _ c.requires.inside.0 _ _ _ _ _ c.filter_block.ensures)

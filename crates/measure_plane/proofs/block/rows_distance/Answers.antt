@@ -1,50 +1,29 @@
 -- `measure_plane::block::rows_distance` meets its contract.
-use Rattle.std.proofs.Common.{arith}
-use Rattle.cdef_spec.specs.Lent.{picture_in, plane_in_full}
-use Rattle.frame_shape.specs.ShapeLaws.{counts-low}
-use Rattle.frame_shape.specs.SampledLaws.{seen-low}
-use Rattle.measure_plane.specs.CodeLaws.{sides-small, start_small, original-in, plane-room, rows_taken}
+use Rattle.std.proofs.Common.{◌≡◌}
+use Rattle.cdef_spec.specs.Lent.{plane_in_full}
+use Rattle.frame_shape.specs.ShapeLaws.{counts-low, corner-is}
+use Rattle.distance_sums.specs.Blocks.{at}
+use Rattle.distance_visible.specs.Cut.{cut_distance}
+use Rattle.measure_plane.specs.CodeLaws.{rows_taken}
 use Rattle.measure_plane.specs.DistanceLaws.{rows-distance}
 use Rattle.measure_plane.proofs.block.rows_distance.Goals as goal
 
-pub visible_part-part-requires : goal.visible_part-part-requires
-visible_part-part-requires c =
-    let i = c.args.i.now in
-    let h = i.filter.listed.shaped.shaped in
-    record { seen = seen-low _ h _ i.seen; few = counts-low _ h _ _ c.requires.inside.0 c.requires.inside.1; begun = c.requires.begun }
-
-pub overflow_mul-start : goal.overflow_mul-start
-unfolding plane_in_full
-overflow_mul-start c = let i = c.args.i.now in omega (arith, start_small _ i.filter.listed.shaped.shaped _ _ _ c.requires.inside.0 c.requires.inside.1 _ c.visible_part-part.ensures _ i.original_sampled.wide)
-
-pub rows_of-other-requires : goal.rows_of-other-requires
-unfolding plane_in_full
-rows_of-other-requires c = let i = c.args.i.now in plane-room _ i.filter.listed.shaped.shaped _ _ _ c.requires.inside.0 c.requires.inside.1 _ c.visible_part-part.ensures _ i.original_sampled.wide c.args.on _ _ c.requires.room i.filter.sampled
-
-pub overflow_add-start : goal.overflow_add-start
-unfolding plane_in_full
-overflow_add-start c = let i = c.args.i.now in omega (arith, start_small _ i.filter.listed.shaped.shaped _ _ _ c.requires.inside.0 c.requires.inside.1 _ c.visible_part-part.ensures _ i.original_sampled.wide)
+pub block_of-b-requires : goal.block_of-b-requires
+block_of-b-requires c = counts-low _ c.args.i.now.filter.listed.shaped.shaped _ _ c.requires.inside.0 c.requires.inside.1
 
 pub distance_cut-requires : goal.distance_cut-requires
-unfolding plane_in_full picture_in
+unfolding plane_in_full
 distance_cut-requires c =
-    let i = c.args.i.now in
-    let h = i.filter.listed.shaped.shaped in
     let r = c.requires in
-    let e = c.visible_part-part.ensures in record {
-      rows_bound = sides-small _ h _ _ _ r.inside.0 r.inside.1 _ e;
-      by_index = (
-        i.filter.listed.shaped.picture.depth,
-        record { deep = h.deep; flat = h.flat; is = r.constants },
-        original-in _ h _ _ _ r.inside.0 r.inside.1 _ e _ i.original_sampled.wide _ i.original_sampled,
-        rows_taken _ h _ _ _ r.inside.0 r.inside.1 _ e _ i.original_sampled.wide c.args.on _ _ r.room i.filter.sampled r.low _ c.rows_of-other.ensures,
-      );
-    }
+    let m = c.part_of-part.ensures in
+    rows_taken _ c.args.i.now.filter.listed.shaped.shaped c.args.i.now.visible _ _ r.inside.0 r.inside.1 _ r.room r.low _ _ _ _ _ m.sides.0 m.sides.1 m.depth (corner-is _ _ _ _ c.block_of-b.ensures).0 m.pitch
 
 pub returns-clause-distance : goal.returns-clause-distance
 unfolding plane_in_full
 returns-clause-distance c =
     let i = c.args.i.now in
-    let h = i.filter.listed.shaped.shaped in
     let r = c.requires in
-    rows-distance _ h _ _ _ r.inside.0 r.inside.1 c.args.on _ _ _ r.room i.filter.sampled i.original_sampled c.args.c (record { deep = h.deep; flat = h.flat; is = r.constants }) _ _ _ _ _ i.original_sampled.wide c.visible_part-part.ensures c.is_luma.ensures c.rows_of-other.ensures c.distance_cut.ensures.0
+    let m = c.part_of-part.ensures in
+    let p = c.part_of-part.result in
+    let e : c.distance_cut.result ≡ cut_distance p.weights p.rows p.cols (at p.samples.now p.start p.pitch) (at c.args.rows.now c.block_of-b.result.x p.pitch) = c.distance_cut.ensures.0 in
+    rows-distance _ i.filter.listed.shaped.shaped _ _ _ r.inside.0 r.inside.1 _ (plane_in_full i.original) r.room i.original_sampled _ _ _ _ _ _ _ _ m.weights m.sides.0 m.sides.1 m.samples m.start m.pitch (corner-is _ _ _ _ c.block_of-b.ensures).0 e

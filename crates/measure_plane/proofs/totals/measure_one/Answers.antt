@@ -4,9 +4,9 @@ use Rattle.cdef_spec.specs.Lent.{picture_in}
 use Rattle.cdef_spec.specs.LoopForm.{signed}
 use Rattle.cdef_spec.specs.GeometryLaws.{unit-low}
 use Rattle.frame_shape.specs.ShapeLaws.{counts-low, number-low}
+use Rattle.frame_shape.specs.CountedLaws.{begins-inside}
 use Rattle.frame_shape.specs.SampledLaws.{seen-low}
 use Rattle.measure_plane.specs.AddLaws.{one-counted, one-passed}
-use Rattle.measure_plane.specs.AddLaws.{begun}
 use Rattle.measure_plane.proofs.totals.measure_one.Goals as goal
 
 pub counted-requires : goal.counted-requires
@@ -21,7 +21,7 @@ pub returns-then-not-counted : goal.returns-then-not-counted
 returns-then-not-counted c = λ t e. e ∙ ap signed (sym (one-passed _ _ _ _ _ _ (sym c.counted.ensures ∙ c.if-not-counted.true)))
 
 pub measure_block-n-requires-clause-begun : goal.measure_block-n-requires-clause-begun
-measure_block-n-requires-clause-begun c = begun _ _ _ _ (sym c.counted.ensures ∙ c.if-not-counted.false)
+measure_block-n-requires-clause-begun c = begins-inside _ _ _ _ (sym c.counted.ensures ∙ c.if-not-counted.false)
 
 pub unit_at-requires : goal.unit_at-requires
 unit_at-requires c = counts-low _ c.args.i.now.filter.listed.shaped.shaped _ _ c.requires.inside.0 c.requires.inside.1

@@ -12,7 +12,6 @@ loop-bx-init c = λ t e. e ∙ ap signed (sym (measure-row-none _ _ _ _ t))
 pub measure_one-requires : goal.measure_one-requires
 unfolding picture_in
 measure_one-requires c = record {
-  strengths = c.requires.strengths;
   inside = (c.requires.inside, c.loop-bx-test.true);
   constants = c.requires.constants;
   lengths = (c.loop-bx.auto.scratch ∙ c.requires.lengths.0, c.loop-bx.auto.totals ∙ c.requires.lengths.1);

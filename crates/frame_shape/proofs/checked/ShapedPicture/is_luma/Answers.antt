@@ -8,6 +8,6 @@ pub returns-in-Luma : goal.returns-in-Luma
 unfolding picture_in kind_in is_luma
 returns-in-Luma c = rw c.in-Luma.is refl
 
-pub returns-in-Chroma : goal.returns-in-Chroma
+pub returns-in_default : goal.returns-in_default
 unfolding picture_in kind_in is_luma
-returns-in-Chroma c = rw c.in-Chroma.is refl
+returns-in_default c = rw c.in_default.is refl

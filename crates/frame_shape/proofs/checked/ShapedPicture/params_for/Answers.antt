@@ -10,4 +10,4 @@ unfolding picture_in
 returns c =
     let a = c.args in
     let q = a.self.now.picture in
-    rw (limit a.p.secondary q.depth (omega (arith, c.requires.ranges.1)) a.self.now.shaped.flat, params_are _ _ q.dirs.now a.d a.p a.b, c.primary_of.ensures, c.dir_for.ensures, c.damping_of.ensures)
+    rw (c.from.ensures, limit a.p.pair.secondary q.depth (omega (arith, a.p.low.1)) a.self.now.shaped.flat, params_are _ _ q.dirs.now a.d a.p.pair a.b, c.primary_of.ensures, c.dir_for.ensures, c.damping_of.ensures)

@@ -11,12 +11,12 @@ variance_of-requires c = rw c.in-Luma.is at c.requires.0
 
 pub adjust_pri-requires : goal.adjust_pri-requires
 unfolding picture_in
-adjust_pri-requires c = let h = c.args.self.now.shaped.flat in omega (arith, limit c.args.s c.args.self.now.picture.depth c.requires.1 h, limit-low c.args.s c.args.self.now.picture.depth c.requires.1 h)
+adjust_pri-requires c = let h = c.args.self.now.shaped.flat in rw c.from.ensures (omega (arith, limit c.args.s c.args.self.now.picture.depth c.requires.1 h, limit-low c.args.s c.args.self.now.picture.depth c.requires.1 h))
 
 pub returns-in-Luma : goal.returns-in-Luma
 unfolding picture_in kind_in primary_of
-returns-in-Luma c = rw c.in-Luma.is (c.adjust_pri.ensures ∙ rw (c.variance_of.ensures, limit c.args.s c.args.self.now.picture.depth c.requires.1 c.args.self.now.shaped.flat))
+returns-in-Luma c = rw c.in-Luma.is (c.adjust_pri.ensures ∙ rw (c.variance_of.ensures, c.from.ensures, limit c.args.s c.args.self.now.picture.depth c.requires.1 c.args.self.now.shaped.flat))
 
 pub returns-in-Chroma : goal.returns-in-Chroma
 unfolding picture_in kind_in primary_of
-returns-in-Chroma c = rw c.in-Chroma.is (limit c.args.s c.args.self.now.picture.depth c.requires.1 c.args.self.now.shaped.flat)
+returns-in-Chroma c = rw (c.in-Chroma.is, c.from.ensures) (limit c.args.s c.args.self.now.picture.depth c.requires.1 c.args.self.now.shaped.flat)

@@ -1,8 +1,8 @@
 -- What follows, as facts, where all checks of the direction of a block pass.
-use Rattle.std.specs.Prelude.{◌≡◌, true, false, List, [], ◌∷◌, ℕ, ◌<◌}
-use Rattle.std.proofs.Common.{sym, ◌∙◌, arith}
+use Rattle.std.specs.Prelude.{◌≡◌, true, ℕ, ◌<◌}
+use Rattle.std.proofs.Common.{arith}
 use Rattle.cdef_spec.specs.Document01.{Plane}
-use Rattle.cdef_spec.specs.Questions.{Question, ask, first_no, corner_taken, cut_taken}
+use Rattle.cdef_spec.specs.Questions.{cut_taken}
 use Rattle.cdef_spec.specs.QuestionLaws.{first-yes}
 use Rattle.cdef_spec.specs.BlockCalls.{direction_no}
 use Rattle.check_sides.specs.SideLaws.{corner-low}

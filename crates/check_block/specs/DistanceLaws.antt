@@ -1,9 +1,9 @@
 -- What follows, as facts, where all checks of a distance pass.
-use Rattle.std.specs.Prelude.{◌≡◌, Bool, true, false, ◌&&◌, List, [], ◌∷◌, ℕ, ◌*◌, ◌<◌, length, ℤ, pos}
+use Rattle.std.specs.Prelude.{◌≡◌, true, List, ℕ, ◌*◌, ◌<◌, length}
 use Rattle.std.proofs.Common.{arith}
 use Rattle.cdef_spec.specs.WordsLaws.{and_both}
 use Rattle.cdef_spec.specs.Document01.{Plane}
-use Rattle.cdef_spec.specs.Questions.{ask, first_no, side_taken, full, corner_taken, cut_taken}
+use Rattle.cdef_spec.specs.Questions.{full, cut_taken}
 use Rattle.cdef_spec.specs.QuestionLaws.{first-yes}
 use Rattle.cdef_spec.specs.BlockCalls.{alike, distance_no}
 use Rattle.check_block.specs.PartLaws.{PlaneFacts, plane-facts}

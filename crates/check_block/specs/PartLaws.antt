@@ -1,19 +1,19 @@
 -- What the parts say: the error code of a first part is the call's; where it passes, facts follow.
-use Rattle.std.specs.Prelude.{◌≡◌, refl, true, false, cond, ◌&&◌, List, [], ◌∷◌, ◌++◌, ℕ, ◌+◌, ◌-◌, ◌*◌, ◌/◌, ◌%◌, ◌^◌, ◌≤◌, ◌<◌, min, leb, ltb, eqb, length}
-use Rattle.std.proofs.Common.{sym, ◌∙◌, mul-le-mul, mul-le-mul_right, div-add-mod', arith, pow_mono}
+use Rattle.std.specs.Prelude.{◌≡◌, true, cond, ◌&&◌, List, [], ◌∷◌, ℕ, ◌+◌, ◌-◌, ◌*◌, ◌/◌, ◌%◌, ◌^◌, ◌≤◌, ◌<◌, min, leb, ltb, eqb, length}
+use Rattle.std.proofs.Common.{◌∙◌, mul-le-mul, mul-le-mul_right, div-add-mod', arith, pow_mono}
 use borrow.Author.Tests.{leb-true, ltb-true, ne_eqb}
 use Rattle.cdef_spec.specs.declared.Block.{Block}
 use Rattle.cdef_spec.specs.declared.FilterParams.{FilterParams}
 use Rattle.cdef_spec.specs.WordsLaws.{and_both}
 use Rattle.cdef_spec.specs.Document01.{Plane, filtered}
 use Rattle.cdef_spec.specs.Answers.{taken, refused, nothing, result_of}
-use Rattle.cdef_spec.specs.Questions.{Question, ask, first_no, depth_taken, side_taken, full, corner_taken, block_side_taken, block_taken, rows_taken, working_taken, params_taken, widened_taken}
+use Rattle.cdef_spec.specs.Questions.{ask, first_no, depth_taken, side_taken, full, corner_taken, block_side_taken, block_taken, rows_taken, working_taken, params_taken, widened_taken}
 use Rattle.cdef_spec.specs.QuestionLaws.{first-yes, first-join, none, more, depth-high}
 use Rattle.cdef_spec.specs.BlockCalls.{filter_no, filter_outcome}
 use Rattle.cdef_spec.specs.LoopForm.{put_block}
 use Rattle.filter_block.specs.Store.{Usable}
 use Rattle.filter_block.specs.TableLaws.{block-table}
-use Rattle.check_block.specs.Parts.{plane_first, filter_first}
+use Rattle.check_block.specs.Parts.{filter_first}
 use Rattle.check_sides.specs.SideLaws.{side-le, full-length, corner-low, block-side-le}
 
 -- ---- 1, 2 and 4

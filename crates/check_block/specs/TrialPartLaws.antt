@@ -1,6 +1,6 @@
 -- What the trial's parts say: the error code of a first part is the call's; where it passes, facts follow.
-use Rattle.std.specs.Prelude.{◌≡◌, refl, true, false, cond, ◌&&◌, List, [], ◌∷◌, ℕ, ◌≤◌, ◌<◌, ltb, eqb, length}
-use Rattle.std.proofs.Common.{sym, ◌∙◌, arith}
+use Rattle.std.specs.Prelude.{◌≡◌, true, cond, ◌&&◌, List, [], ◌∷◌, ℕ, ◌≤◌, ◌<◌, ltb, eqb, length}
+use Rattle.std.proofs.Common.{arith}
 use borrow.Author.Tests.{ltb-true, eqb-true, ne_eqb}
 use Rattle.cdef_spec.specs.declared.Block.{Block}
 use Rattle.cdef_spec.specs.declared.TrialWay.{TrialWay}
@@ -9,7 +9,7 @@ use Rattle.cdef_spec.specs.Words.{table}
 use Rattle.cdef_spec.specs.WordsLaws.{and_both}
 use Rattle.cdef_spec.specs.Document01.{Plane}
 use Rattle.cdef_spec.specs.Answers.{taken, refused, nothing, result_of}
-use Rattle.cdef_spec.specs.Questions.{Question, ask, first_no, block_taken, way_taken, working_taken, widened_taken}
+use Rattle.cdef_spec.specs.Questions.{ask, first_no, way_taken, working_taken, widened_taken}
 use Rattle.cdef_spec.specs.QuestionLaws.{first-yes, first-join, none, more}
 use Rattle.cdef_spec.specs.BlockCalls.{trial_no, trial_place, trial_outcome}
 use Rattle.check_block.specs.TrialParts.{trial_first}

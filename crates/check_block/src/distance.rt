@@ -1,4 +1,5 @@
 // The checks of the distances.
+// Kept as parameters: as in lib.rt.
 ghost use Rattle.std.specs.Prelude.{◌≡◌, IfOk};
 ghost use Rattle.cdef_spec.specs.Lent.{plane_in, plane_in_full};
 ghost use Rattle.cdef_spec.specs.Answers.{code_of};

@@ -1,4 +1,5 @@
 // The checks of the block filter.
+// Kept as a clause, the block's height ≤ 8: question 5 has passed it, and the caller's Block says nothing.
 ghost use Rattle.std.specs.Prelude.{◌≡◌, ◌≤◌, ◌<◌, IfOk};
 ghost use Rattle.cdef_spec.specs.Lent.{plane_in, plane_in_full};
 ghost use Rattle.cdef_spec.specs.Answers.{code_of};

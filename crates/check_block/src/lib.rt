@@ -1,4 +1,5 @@
 // The checks of the calls on one block, in order: each returns why the first that fails does. No public function of the crate requires anything.
+// Kept as parameters: a call's own, as the caller passes them, in the order of the call.
 #![tactic(auto, unfolding(cdef_spec::specs::Answers::code_of, cdef_spec::specs::Answers::error_code, cdef_spec::specs::Questions::first_no, cdef_spec::specs::BlockCalls::direction_no, cdef_spec::specs::BlockCalls::distance_no))]
 
 ghost use Rattle.std.specs.Prelude.{◌≡◌, ◌≤◌, IfOk};
@@ -16,7 +17,7 @@ pub mod filter; // filter.rt: the checks of the block filter
 pub mod trial; // trial.rt: the checks of the trial
 
 // 1, 2 and 4: the depth, the sides, the plane's length.
-#[tactic(auto, unfolding(cdef_spec::specs::Answers::code_of, cdef_spec::specs::Answers::error_code, cdef_spec::specs::Questions::first_no, cdef_spec::specs::Lent::plane_in, cdef_spec::specs::Lent::plane_in_full))]
+#[tactic(auto, unfolding(cdef_spec::specs::Answers::code_of, cdef_spec::specs::Answers::error_code, cdef_spec::specs::Questions::first_no, cdef_spec::specs::Questions::side_taken, cdef_spec::specs::Lent::plane_in, cdef_spec::specs::Lent::plane_in_full))]
 pub fn full_plane<'a>(plane: &Plane<'a>, depth: u8) -> Result<FullPlane<'a>, Refusal>
     ensures first_no { code_of result ≡ first_no (plane_first (plane_in plane.now) depth) }
     ensures same { IfOk result (λ p. plane_in_full p ≡ plane_in plane.now) }
@@ -25,7 +26,9 @@ pub fn full_plane<'a>(plane: &Plane<'a>, depth: u8) -> Result<FullPlane<'a>, Ref
     if !check_sides::depth_taken(depth) {
         return Err(Refusal::Depth);
     }
-    if !(check_sides::side_taken(plane.width) && check_sides::side_taken(plane.height)) {
+    if !(check_sides::side_taken::<4096>(plane.width)
+        && check_sides::side_taken::<4096>(plane.height))
+    {
         return Err(Refusal::Sides);
     }
     if !check_sides::full(plane) {
@@ -39,13 +42,13 @@ pub fn full_plane<'a>(plane: &Plane<'a>, depth: u8) -> Result<FullPlane<'a>, Ref
 }
 
 // 5: a block that begins in the plane.
-#[tactic(auto, unfolding(cdef_spec::specs::Questions::block_taken))]
+#[tactic(auto, unfolding(cdef_spec::specs::Questions::block_taken, cdef_spec::specs::Questions::side_taken, cdef_spec::specs::Questions::block_side_taken))]
 pub fn block_taken(plane: &Plane<'_>, b: Block) -> bool
     ensures { result ≡ block_taken (plane_in plane.now) b }
 {
     check_sides::corner_taken(plane, b.x, b.y)
-        && check_sides::block_side_taken(b.width)
-        && check_sides::block_side_taken(b.height)
+        && check_sides::side_taken::<8>(b.width)
+        && check_sides::side_taken::<8>(b.height)
 }
 
 // 1, 2, 4, 5 and 9 of the direction of a block.

@@ -1,4 +1,5 @@
 // The checks of the trial.
+// Kept as parameters: as in lib.rt; a TrialParams is made once they are taken.
 ghost use Rattle.std.specs.Prelude.{◌≡◌, ◌&&◌, ltb, IfOk};
 ghost use Rattle.cdef_spec.specs.Lent.{plane_in, plane_in_full};
 ghost use Rattle.cdef_spec.specs.Answers.{code_of};

@@ -1,5 +1,5 @@
 -- Where the questions of a frame call pass, what its core is given has the facts that its type states.
-use Rattle.std.specs.Prelude.{◌≡◌, refl, Bool, true, ◌&&◌, List, ℕ, ◌*◌, ◌^◌, ◌<◌, leb, length, get_or}
+use Rattle.std.specs.Prelude.{◌≡◌, refl, true, ◌&&◌, List, ℕ, ◌*◌, ◌^◌, ◌<◌, leb, length, get_or}
 use Rattle.std.proofs.Common.{leb-true}
 use Rattle.cdef_spec.specs.declared.SignalledDamping.{SignalledDamping}
 use Rattle.cdef_spec.specs.declared.Visible.{Visible}
@@ -21,11 +21,10 @@ in-force q d t =
     let e = and_both (leb 3 d.0) (leb d.0 6) c.1 in
     record { least = leb-true 3 d.0 e.0; most = leb-true d.0 6 e.1 }
 
-pub seen : (q r : Picture) (v : Visible) (sizes : Bool) → q ≡ r → sizes && visible_taken r v ≡ true → Seen q v
+pub seen : (q r : Picture) (v : Visible) → q ≡ r → visible_taken r v ≡ true → Seen q v
 unfolding visible_taken
-seen q r v sizes e t =
-    let a = (and_both sizes (visible_taken r v) t).1 in
-    let b = and_both (leb 1 v.width && leb v.width r.width) (leb 1 v.height && leb v.height r.height) a in
+seen q r v e t =
+    let b = and_both (leb 1 v.width && leb v.width r.width) (leb 1 v.height && leb v.height r.height) t in
     let wide = leb-true v.width r.width (and_both (leb 1 v.width) (leb v.width r.width) b.0).1 in
     let high = leb-true v.height r.height (and_both (leb 1 v.height) (leb v.height r.height) b.1).1 in
     rw e (record { wide = wide; high = high })

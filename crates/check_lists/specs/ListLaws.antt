@@ -1,20 +1,21 @@
 -- Laws of the tests on whole lists, as a loop checks them entry by entry.
 use Rattle.std.specs.Prelude.{◌≡◌, Bool, ◌&&◌, eqb, get_or, length}
 use Rattle.std.proofs.Math.Path.{refl}
-use Rattle.std.proofs.Common.{sym, ◌∙◌, arith, pow_pos}
+use Rattle.std.proofs.Common.{sym, ap, ◌∙◌, arith, pow_pos, rules, tests, Some}
 use Rattle.std.proofs.Math.Bool.{true, false}
 use mathlib.Core.List.{List, [], ◌∷◌}
-use Prim.Native.Nat.{ℕ, zero, suc, ◌+◌, ◌*◌, ◌/◌, ◌^◌, ◌≤◌, ◌<◌}
+use Prim.Native.Nat.{ℕ, zero, suc, ◌+◌, ◌-◌, ◌*◌, ◌/◌, ◌^◌, ◌≤◌}
 use Rattle.std.proofs.Math.Numerals.{add-one}
-use borrow.Author.Tests.{lt-ltb, le-ltb}
+use borrow.Author.Tests.{lt-ltb}
 use Rattle.std.specs.Int.Bits.{bit_or}
-use Rattle.std.specs.List.{list_all}
+use Rattle.std.specs.List.{list_all, fold}
+use Rattle.std.proofs.Math.ListN.{take, drop}
+use Rattle.std.specs.Ordering.{partial_lt, nat_cmp}
 use Rattle.std.proofs.Math.Dec.{ltb}
 use Rattle.cdef_spec.specs.Words.{every}
-use Rattle.cdef_spec.specs.WordsLaws.{and-make}
-use Rattle.cdef_spec.specs.Questions.{all_below, all_taken}
+use Rattle.cdef_spec.specs.Questions.{all_below, all_taken, sample_taken}
 use Rattle.check_lists.specs.Quarters.{in_four}
-use Rattle.check_samples.specs.LookedLaws.{or-below, shifted_none}
+use Rattle.check_samples.specs.LookedLaws.{or-below, shifted_none, row-of, row_below}
 
 and_one : (a : Bool) → true && a ≡ a && true
 and_one true = refl
@@ -68,23 +69,26 @@ unfolding all_below all_taken
 below-taken m [] = refl
 below-taken m (x ∷ xs) = rw (below-taken m xs)
 
--- what `all` answers, of these tests
-pub all-taken : (f : ℕ → Bool) (l : List ℕ) → list_all f l ≡ all_taken f l
-unfolding all_taken
-all-taken f [] = refl
-all-taken f (x ∷ xs) = rw (all-taken f xs)
+-- what `all_below` answers at unsigned numbers
+less-is : (x m : ℕ) → partial_lt (λ a b. Some (nat_cmp a b)) x m ≡ ltb x m
+less-is x m = search (rules, tests)
 
-pub all-below : (m : ℕ) (l : List ℕ) → list_all (λ x. ltb x m) l ≡ all_below m l
-all-below m l = all-taken (λ x. ltb x m) l ∙ below-taken m l
+pub below_all : (m : ℕ) (l : List ℕ) → list_all (λ x. partial_lt (λ a b. Some (nat_cmp a b)) x m) l ≡ all_below m l
+unfolding all_below
+below_all m [] = refl
+below_all m (x ∷ xs) = rw (less-is x m, below_all m xs)
 
 -- the bits of the first k samples
 module _ (d : ℕ) (l : List ℕ) where
-  pub bits-more : (bits k : ℕ) → ltb bits (2 ^ d) ≡ every k (λ k. ltb (get_or l k 0) (2 ^ d)) → ltb (bit_or bits (get_or l k 0)) (2 ^ d) ≡ every (k + 1) (λ k. ltb (get_or l k 0) (2 ^ d))
-  unfolding every
-  bits-more bits k e = or-below d bits (get_or l k 0) ∙ rw (add-one k, e)
-
-  pub bits-say : (bits k : ℕ) → ltb bits (2 ^ d) ≡ every k (λ k. ltb (get_or l k 0) (2 ^ d)) → k ≡ length l → eqb (bits / 2 ^ d) 0 ≡ all_below (2 ^ d) l
-  bits-say bits k e h = shifted_none bits d ∙ e ∙ rw h (all-every (λ x. ltb x (2 ^ d)) l ∙ below-taken (2 ^ d) l)
+  -- .. and of those that are left
+  pub rest-say : (bits n rest : ℕ) → n ≤ length l → ltb bits (2 ^ d) ≡ every n (λ k. ltb (get_or l k 0) (2 ^ d)) → rest ≡ fold bit_or 0 (take (length l - n) (drop n l)) → eqb (bit_or bits rest / 2 ^ d) 0 ≡ all_below (2 ^ d) l
+  unfolding sample_taken
+  rest-say bits n rest h e r =
+      let low : ltb rest (2 ^ d) ≡ every (length l - n) (λ j. ltb (get_or l (n + j) 0) (2 ^ d)) =
+      ap (λ x. ltb x (2 ^ d)) (r ∙ row-of l n (length l - n) (omega arith)) ∙ row_below l d n (length l - n) in
+      shifted_none (bit_or bits rest) d
+      ∙ or-below d bits rest
+      ∙ rw (e, low) (every-next n (length l - n) (length l) (λ k. ltb (get_or l k 0) (2 ^ d)) (omega arith) ∙ all-every (λ x. ltb x (2 ^ d)) l ∙ below-taken (2 ^ d) l)
 
   -- four streams: the bits of the first k samples of each quarter
   module _ (n : ℕ) where

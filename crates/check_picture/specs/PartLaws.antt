@@ -1,12 +1,9 @@
 -- What the parts say: a part's error code is the call's; where a part passes, the next one is checked.
-use Rattle.std.specs.Prelude.{◌≡◌, Bool, List, [], ◌∷◌, ◌++◌, ℕ}
+use Rattle.std.specs.Prelude.{◌≡◌, List, [], ◌∷◌, ◌++◌, ℕ}
 use Rattle.std.proofs.Common.{sym, ◌∙◌, arith, ne_eqb}
-use Rattle.cdef_spec.specs.declared.SignalledDamping.{SignalledDamping}
-use Rattle.cdef_spec.specs.Picture.{Picture}
 use Rattle.cdef_spec.specs.Questions.{Question, first_no}
 use Rattle.cdef_spec.specs.QuestionLaws.{Numbered, first-join, none, more}
-use Rattle.cdef_spec.specs.FrameCalls.{questions}
-use Rattle.check_picture.specs.Parts.{sides_first, shape_first, lists_next, values_next, samples_last}
+use Rattle.check_picture.specs.Parts.{sides_first}
 
 -- one, two and three questions, none with the number 0
 pub one : (x : Question) → (x.number ≡ 0 → ⊥) → Numbered (x ∷ [])

@@ -1,4 +1,5 @@
 // The questions that the frame calls share, in order: 1, 2 and 3 make a shaped picture; then 4 and 7; then 8, which makes a listed one; then 9.
+// Kept as a clause, depth ≤ 12, and the numbers of question 2 as parameters: these are the checks that make the types which say such ranges.
 // A list is walked (8, 9) only once its length has passed (4, 7).
 #![tactic(auto)]
 
@@ -83,18 +84,18 @@ fn picture_listed(shaped: &ShapedPicture<'_>) -> bool
 pub fn visible_taken(picture: &Picture<'_>, v: Visible) -> bool
     ensures { result ≡ visible_taken (picture_in picture.now) v }
 {
-    1 <= v.width && v.width <= picture.width && 1 <= v.height && v.height <= picture.height
+    (1..=picture.width).contains(&v.width) && (1..=picture.height).contains(&v.height)
 }
 
-// 4 and 7 of two planes and of the lists per block; own: the result of a call's own part of 7.
+// 4 of two planes, and 7 of the lists per block.
 #[tactic(auto, unfolding(cdef_spec::specs::Questions::first_no, cdef_spec::specs::Questions::full_planes, cdef_spec::specs::Answers::code_of, cdef_spec::specs::Answers::error_code))]
-pub fn lists(shaped: &ShapedPicture<'_>, a: &[u16], b: &[u16], own: bool) -> Result<(), Refusal>
-    ensures { code_of result ≡ first_no (lists_next (shaped_in shaped.now) (a.now ∷ b.now ∷ []) own) }
+pub fn lists(shaped: &ShapedPicture<'_>, a: &[u16], b: &[u16]) -> Result<(), Refusal>
+    ensures { code_of result ≡ first_no (lists_next (shaped_in shaped.now) (a.now ∷ b.now ∷ [])) }
 {
     if !is_full(shaped, a) || !is_full(shaped, b) {
         return Err(Refusal::PlaneLength);
     }
-    if !picture_listed(shaped) || !own {
+    if !picture_listed(shaped) {
         return Err(Refusal::Lengths);
     }
     Ok(())
@@ -107,7 +108,7 @@ fn variances_taken(kind: &PlaneKind<'_>) -> bool
 {
     match kind {
         PlaneKind::Luma { vars } => {
-            check_lists::all_below_u32(vars, check_values::VARIANCE_LIMIT + 1)
+            check_lists::all_below(vars, &(check_values::VARIANCE_LIMIT + 1))
         }
         PlaneKind::Chroma { sx: _, sy: _ } => true,
     }
@@ -118,47 +119,34 @@ fn variances_taken(kind: &PlaneKind<'_>) -> bool
 fn picture_taken(picture: &Picture<'_>, d: SignalledDamping) -> bool
     ensures { result ≡ picture_taken (picture_in picture.now) d }
 {
-    check_lists::all_below_u8(picture.skip, 2)
-        && check_lists::all_below_u8(picture.dirs, 8)
-        && variances_taken(&picture.kind)
-        && check_values::signalled_taken(d)
+    let flags = check_lists::all_below(picture.skip, &2);
+    let dirs = check_lists::all_below(picture.dirs, &8);
+    flags && dirs && variances_taken(&picture.kind) && check_values::signalled_taken(d)
 }
 
-// 8 of the lists per block and of the figure in force; vals: the result of a call's own part of 8.
+// 8 of the lists per block and of the figure in force.
 #[tactic(auto, unfolding(cdef_spec::specs::Questions::first_no, cdef_spec::specs::Answers::code_of, cdef_spec::specs::Answers::error_code))]
 pub fn values<'a>(
     shaped: &ShapedPicture<'a>,
     d: SignalledDamping,
-    vals: bool,
 ) -> Result<ListedPicture<'a>, Refusal>
     requires { picture_listed (shaped_in shaped.now) ≡ true }
-    ensures refusal { code_of result ≡ first_no (values_next (shaped_in shaped.now) d vals) }
+    ensures refusal { code_of result ≡ first_no (values_next (shaped_in shaped.now) d) }
     ensures picture { IfOk result (λ q. listed_in q ≡ shaped_in shaped.now) }
 {
-    if !picture_taken(&shaped.picture, d) || !vals {
+    if !picture_taken(&shaped.picture, d) {
         return Err(Refusal::Values);
     }
     Ok(ListedPicture { shaped: *shaped })
 }
 
-// 9: all samples of one plane, and of two.
+// 9: all samples of a plane.
 #[tactic(auto, unfolding(cdef_spec::specs::Questions::first_no, cdef_spec::specs::Questions::all_samples_below, cdef_spec::specs::Answers::code_of, cdef_spec::specs::Answers::error_code))]
 pub fn plane(a: &[u16], depth: u8) -> Result<(), Refusal>
     requires { depth ≤ 12 }
     ensures { code_of result ≡ first_no (samples_last depth (a.now ∷ [])) }
 {
     if !check_lists::samples_below(a, depth) {
-        return Err(Refusal::Samples);
-    }
-    Ok(())
-}
-
-#[tactic(auto, unfolding(cdef_spec::specs::Questions::first_no, cdef_spec::specs::Questions::all_samples_below, cdef_spec::specs::Answers::code_of, cdef_spec::specs::Answers::error_code))]
-pub fn planes(a: &[u16], b: &[u16], depth: u8) -> Result<(), Refusal>
-    requires { depth ≤ 12 }
-    ensures { code_of result ≡ first_no (samples_last depth (a.now ∷ b.now ∷ [])) }
-{
-    if !check_lists::samples_below(a, depth) || !check_lists::samples_below(b, depth) {
         return Err(Refusal::Samples);
     }
     Ok(())

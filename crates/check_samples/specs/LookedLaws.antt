@@ -1,5 +1,5 @@
 -- The samples examined are below 2 ^ depth where their combined bits are, and so is each sample that a block reads, past the right or bottom edge too.
-use Rattle.std.specs.Prelude.{◌≡◌, Bool, true, ◌&&◌, List, ltb, eqb, get_or}
+use Rattle.std.specs.Prelude.{◌≡◌, Bool, true, ◌&&◌, List, ltb, eqb, get_or, length}
 use Rattle.std.proofs.Math.Path.{refl, ap}
 use Rattle.std.proofs.Common.{◌∙◌, div-lt_iff_lt-mul, add-one, pow_pos}
 use Prim.Native.Nat.{ℕ, zero, suc, ◌+◌, ◌-◌, ◌*◌, ◌/◌, ◌^◌, ◌≤◌, ◌<◌, min}
@@ -7,6 +7,10 @@ use Rattle.std.proofs.Math.Decide.{dec_lt}
 use native.Mathlib.Omega.{arith}
 use borrow.Author.Tests.{lt-ltb, le-ltb, ltb-true, eq-eqb, ne_eqb}
 use Rattle.std.specs.Int.Bits.{bit_or, or_add_and}
+use Rattle.std.specs.List.{fold}
+use Rattle.std.proofs.Math.ListN.{take, drop}
+use Rattle.std.proofs.lemmas.List.{get_or-drop, length-drop}
+use Rattle.std.proofs.lemmas.List.Sums.{fold_more}
 use Rattle.std.proofs.lemmas.Nat.{or_lt, and_le_l, and_le_r}
 use Rattle.cdef_spec.specs.Words.{every}
 use Rattle.cdef_spec.specs.WordsLaws.{every-at}
@@ -50,13 +54,13 @@ shifted_none a k = go (dec_lt a (2 ^ k))
         back z = let l : a < 1 * 2 ^ k = (div-lt_iff_lt-mul {y = 1} (pow_pos k)).0 (omega arith) in omega arith
 
 module _ (s : List ℕ) where
-  pub row_none : (at : ℕ) → 0 ≡ or_row s at 0
+  -- the bits of a slice
+  pub row-of : (at n : ℕ) → at + n ≤ length s → fold bit_or 0 (take n (drop at s)) ≡ or_row s at n
   unfolding or_row
-  row_none at = refl
-
-  pub row_more : (at n : ℕ) → bit_or (or_row s at n) (get_or s (at + n) 0) ≡ or_row s at (n + 1)
-  unfolding or_row
-  row_more at n = rw (add-one n)
+  row-of at zero h = refl
+  row-of at (suc n) h =
+      let l : n < length (drop at s) = omega (arith, length-drop at s) in
+      rw (← add-one n) (fold_more bit_or 0 (drop at s) n 0 l ∙ rw (row-of at n (omega arith), get_or-drop at s n 0))
 
   pub rows_none : (w y x cols : ℕ) → 0 ≡ or_rows s w y x cols 0
   unfolding or_rows
@@ -67,7 +71,7 @@ module _ (s : List ℕ) where
   rows_more w y x cols n = rw (add-one n)
 
   module _ (d : ℕ) where
-    row_below : (at n : ℕ) → ltb (or_row s at n) (2 ^ d) ≡ every n (λ j. sample_taken d (get_or s (at + j) 0))
+    pub row_below : (at n : ℕ) → ltb (or_row s at n) (2 ^ d) ≡ every n (λ j. sample_taken d (get_or s (at + j) 0))
     unfolding or_row every sample_taken
     row_below at zero = lt-ltb 0 (2 ^ d) (pow_pos d)
     row_below at (suc n) = or-below d (or_row s at n) (get_or s (at + n) 0) ∙ rw (row_below at n)
@@ -76,6 +80,12 @@ module _ (s : List ℕ) where
     unfolding or_rows every
     rows-below w y x cols zero = lt-ltb 0 (2 ^ d) (pow_pos d)
     rows-below w y x cols (suc n) = or-below d (or_rows s w y x cols n) (or_row s ((y + n) * w + x) cols) ∙ rw (rows-below w y x cols n, row_below ((y + n) * w + x) cols)
+
+-- the tests of the first n entries, taken together
+pub every-of : (f : ℕ → Bool) (l : List ℕ) (n : ℕ) → n ≤ length l → fold (λ t x. t && f x) true (take n l) ≡ every n (λ k. f (get_or l k 0))
+unfolding every
+every-of f l zero h = refl
+every-of f l (suc n) h = rw (← add-one n) (fold_more (λ t x. t && f x) true l n 0 (omega arith) ∙ rw (every-of f l n (omega arith)))
 
 every-same : (n : ℕ) (f g : ℕ → Bool) → ((k : ℕ) → f k ≡ g k) → every n f ≡ every n g
 unfolding every

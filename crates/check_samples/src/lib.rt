@@ -1,7 +1,10 @@
 // Question 9: whether the samples examined are below 2^depth; in a window also the mark.
+// Kept as a clause, depth ≤ 12, and plane, x and y as parameters: as in check_lists; a block's corner comes from the caller number by number.
 #![tactic(auto)]
 
 ghost use Rattle.std.specs.Prelude.{◌≡◌, [], ◌∷◌, ◌+◌, ◌^◌, ◌≤◌, ◌<◌, eqb, get_or, length};
+ghost use Rattle.std.specs.List.{fold};
+ghost use Rattle.std.specs.Int.Bits.{bit_or};
 ghost use Rattle.cdef_spec.specs.Words.{every};
 ghost use Rattle.cdef_spec.specs.Lent.{plane_in_full};
 ghost use Rattle.cdef_spec.specs.Answers.{code_of};
@@ -12,20 +15,15 @@ use arith_sample::MARK;
 use cdef_spec::Refusal;
 use cdef_spec::full::FullPlane;
 
-// The bits that are set in any of n samples, from `at` on.
-#[tactic(auto, using(crate::specs::LookedLaws::row_none, crate::specs::LookedLaws::row_more))]
-fn row_bits(plane: &[u16], at: usize, n: usize) -> u16
-    requires { at + n ≤ length plane.now }
-    ensures { result ≡ or_row plane.now at n }
+// The bits that are set in any of the samples.
+pub fn bits_of(samples: &[u16]) -> u16
+    ensures { result ≡ fold bit_or 0 samples.now }
 {
-    let mut bits = 0u16;
-    for j in 0..n {
-        bits |= plane[at + j];
-    }
-    bits
+    samples.iter().fold(0, |bits, v| bits | *v)
 }
 
 // The bits that are set in any of rows by cols samples, from row y and column x on.
+// Kept by index: the rows as chunks of the plane's width divide its length by the width, which measured 1.05 times the time of a direction, 1.11 of a distance and 1.39 of squares.
 #[tactic(auto, using(crate::specs::LookedLaws::rows_none, crate::specs::LookedLaws::rows_more))]
 fn block_bits(plane: &FullPlane<'_>, x: usize, y: usize, rows: usize, cols: usize) -> u16
     requires { (y + rows ≤ plane.now.height) × (x + cols ≤ plane.now.width) }
@@ -33,7 +31,8 @@ fn block_bits(plane: &FullPlane<'_>, x: usize, y: usize, rows: usize, cols: usiz
 {
     let mut bits = 0;
     for i in 0..rows {
-        bits |= row_bits(plane.samples, (y + i) * plane.width + x, cols);
+        let at = (y + i) * plane.width + x;
+        bits |= bits_of(&plane.samples[at..at + cols]);
     }
     bits
 }
@@ -54,26 +53,14 @@ pub fn cut_taken(plane: &FullPlane<'_>, x: usize, y: usize, depth: u8) -> bool
     bits >> depth == 0
 }
 
-// 1 where a sample is neither below `top` nor the mark, else 0.
-#[tactic(auto, unfolding(cdef_spec::specs::Questions::sample_or_mark))]
-fn wrong(v: u16, top: u16, depth: u8) -> u16
-    requires { top ≡ 2 ^ depth }
-    ensures { (eqb result 0 ≡ sample_or_mark depth v) × (result ≤ 1) }
-{
-    if v < top || v == MARK { 0 } else { 1 }
-}
-
 // Whether each entry is a sample of the depth or the mark.
 pub fn window_taken(w: &[u16; 144], depth: u8) -> bool
     requires { depth ≤ 12 }
     ensures { result ≡ every 144 (λ k. sample_or_mark depth (get_or w.now k 0)) }
 {
     let top = 1u16 << depth;
-    let mut bad = 0u16;
-    for v in w {
-        bad += wrong(*v, top, depth);
-    }
-    bad == 0
+    w.iter()
+        .fold(true, |taken, v| taken & (*v < top || *v == MARK))
 }
 
 // The same as an answer, for the block filter and the trial, on the gathered window: its entries are the examined samples, and marks.

@@ -1,3 +1,2 @@
 -- What the results of the tests say.
-pub mod Said
 pub mod SideLaws

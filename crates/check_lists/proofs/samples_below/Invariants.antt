@@ -2,7 +2,6 @@
 use mathlib.Core.Path.{◌≡◌}
 use Prim.Native.Nat.{◌-◌, ◌^◌, ◌≤◌}
 use lib.Dec.{ltb}
-use lib.ListN.{get_or, length}
 use Rattle.cdef_spec.specs.Words.{every}
 use Rattle.check_lists.specs.Quarters.{in_four}
 use Rattle.check_lists.proofs.samples_below.Given as goal
@@ -12,9 +11,3 @@ invariant-loop-k l = (ltb l.bits (2 ^ l.depth) ≡ every l.k (in_four l.depth l.
 
 abbrev pub decreases-loop-k : goal.decreases-loop-k
 decreases-loop-k l = l.n - l.k
-
-abbrev pub invariant-loop-k-2 : goal.invariant-loop-k-2
-invariant-loop-k-2 l = (ltb l.bits (2 ^ l.depth) ≡ every l.k (λ j. ltb (get_or l.list j 0) (2 ^ l.depth))) × (l.k ≤ length l.list)
-
-abbrev pub decreases-loop-k-2 : goal.decreases-loop-k-2
-decreases-loop-k-2 l = length l.list - l.k

@@ -1,30 +1,29 @@
 -- Laws of the test of the pairs: the units one after the other.
-use Rattle.std.specs.Prelude.{◌≡◌, refl, Bool, true, false, List, ℕ, ◌+◌, ◌≤◌, ◌<◌, length}
-use Rattle.std.proofs.Common.{sym, ◌∙◌, add-one, le-leb}
+use Rattle.std.specs.Prelude.{◌≡◌, refl, Bool, true, List, ℕ, zero, suc, ◌≤◌, ◌<◌, length, get_or, take}
+use Rattle.std.specs.List.{list_all, range_with_len}
+use Rattle.std.proofs.Common.{sym, ap, ◌∙◌, arith, add-one, le-leb}
+use Rattle.std.proofs.lemmas.List.{take_all}
+use Rattle.std.proofs.lemmas.List.Folds.{list_all_more}
+use Rattle.std.proofs.lemmas.List.FromFn.{length-range_with_len, get_or-range_with_len}
 use Rattle.std.proofs.lemmas.Bool.{lt-leb}
 use Rattle.cdef_spec.specs.declared.UnitPair.{UnitPair}
 use Rattle.cdef_spec.specs.Words.{every}
-use Rattle.cdef_spec.specs.WordsLaws.{every-at}
 use Rattle.cdef_spec.specs.Document01.{is_trial_pair}
 use Rattle.cdef_spec.specs.Picture.{pair_at}
 use Rattle.agree_parts.specs.Parts.{trial_pairs}
 
+-- a test of the numbers below n, one after the other
 module _ (f : ℕ → Bool) where
-  pub every-none : every 0 f ≡ true
+  every-of : (n i : ℕ) → i ≤ n → list_all f (take i (range_with_len 0 n)) ≡ every i f
   unfolding every
-  every-none = refl
+  every-of n zero h = refl
+  every-of n (suc i) h =
+      let l : i < length (range_with_len 0 n) = omega (arith, length-range_with_len 0 n) in
+      let v : get_or (range_with_len 0 n) i 0 ≡ i = omega (arith, get_or-range_with_len 0 n i 0 (omega arith)) in
+      rw (← add-one i) (list_all_more f (range_with_len 0 n) i 0 l ∙ rw (every-of n i (omega arith), v))
 
-  pub every_more : (n : ℕ) → every n f ≡ true → f n ≡ true → every (n + 1) f ≡ true
-  unfolding every
-  every_more n e g = rw (add-one n, e, g) refl
-
-  -- one that fails among the first n
-  pub every-fails : (n u : ℕ) → u < n → f u ≡ false → every n f ≡ false
-  every-fails n u h e = go (every n f) refl
-    where
-      go : (b : Bool) → every n f ≡ b → b ≡ false
-      go true g = sym (sym e ∙ every-at n f g u h)
-      go false g = refl
+  pub every-below : (n : ℕ) → list_all f (range_with_len 0 n) ≡ every n f
+  every-below n = ap (list_all f) (sym (take_all n (range_with_len 0 n) (omega (arith, length-range_with_len 0 n)))) ∙ every-of n n (omega arith)
 
 module _ (ps : List UnitPair) where
   pub many-pairs : 4096 < length ps → true ≡ trial_pairs ps

@@ -1,18 +1,14 @@
 -- The direction pass from its checks: what its core requires where they pass, and the outcome either way. The core is given a plane Q that is p with its samples counted.
-use Rattle.std.specs.Prelude.{◌≡◌, refl, List, ℕ, ◌+◌, ◌*◌, ◌/◌, ◌%◌, ◌^◌, ◌≤◌, ◌<◌, get_or, length, Ok, Err, Result as RustResult}
-use Rattle.std.proofs.Common.{sym, ne_eqb, eq-eqb}
+use Rattle.std.specs.Prelude.{◌≡◌, refl, List, ℕ, ◌*◌, ◌/◌, ◌%◌, Ok, Err, Result as RustResult}
+use Rattle.std.proofs.Common.{ne_eqb, eq-eqb}
 use Rattle.cdef_spec.specs.declared.Refusal.{Refusal}
 use Rattle.cdef_spec.specs.Words.{table}
 use Rattle.cdef_spec.specs.Document01.{Plane, block_direction, block_variance}
-use Rattle.cdef_spec.specs.Answers.{nothing, result_of, read_done, code_of}
-use Rattle.cdef_spec.specs.AnswerLaws.{not-zero, read_done-err, read_done-ok}
+use Rattle.cdef_spec.specs.Answers.{read_done, code_of}
+use Rattle.cdef_spec.specs.AnswerLaws.{not-zero, read_done-err}
 use Rattle.cdef_spec.specs.FrameCalls.{direction_pass_no, direction_pass_outcome}
+use Rattle.check_picture.specs.RefusalLaws.{done-is}
 use Rattle.check_pass.specs.PassLaws.{PassFacts, pass-facts}
-
--- the outcome of a call that is done
-done-is : (done : Unit {0}) (n : ℕ) → n ≡ 0 → read_done (Ok done) ≡ result_of n nothing
-unfolding code_of
-done-is done n z = read_done-ok {B = Unit {0}} done n (sym z) done
 
 module _ (p : Plane) (depth : ℕ) (dirs vars : List ℕ) where
   pub pass-refuses : (B : Type 0) (r : Refusal) (x : RustResult (Unit {0}) Refusal) → x ≡ Err r → code_of {A = B} (Err r) ≡ direction_pass_no p depth dirs vars

@@ -1,11 +1,12 @@
-// The calls for applying: the snapshot filtered into a destination, each unit with its own pair of the caller's slice.
+// Applying: the snapshot filtered into a destination, each unit with its own pair of the caller's slice.
+// Kept as parameters: the slices that a caller lends, one by one and in the order of docs/CALLS.md.
 ghost use Rattle.std.specs.Prelude.{◌≡◌};
 ghost use Rattle.cdef_spec.specs.Answers.{read_done};
 ghost use Rattle.cdef_spec.specs.Lent.{picture_in};
 ghost use Rattle.cdef_spec.specs.FrameCalls.{applying_outcome};
 
 use cdef_pairs::PairSlice;
-use cdef_spec::{DampingChoice, Picture, Refusal, UnitPair};
+use cdef_spec::{Picture, Refusal, SignalledDamping, UnitPair};
 
 // Applying in a plane of a picture, one pair per unit. The destination's length is checked; its old contents are not examined.
 pub fn apply_units(
@@ -13,7 +14,7 @@ pub fn apply_units(
     snapshot: &[u16],
     picture: &Picture<'_>,
     pairs: &[UnitPair],
-    damping: DampingChoice,
+    damping: Option<SignalledDamping>,
 ) -> Result<(), Refusal>
     ensures { applying_outcome (picture_in picture.now) damping snapshot.now pairs.now dst.old
         ≡ record { answer = read_done result; plane = dst.new } }

@@ -1,6 +1,6 @@
 -- The three calls, one after the other, by their outcomes. Definitions only.
-use Rattle.std.specs.Prelude.{Bool, true, false, cond, ◌&&◌, List, ℕ, eqb, ℤ, Ok, Err, Result as RustResult}
-use Rattle.cdef_spec.specs.declared.DampingChoice.{DampingChoice}
+use Rattle.std.specs.Prelude.{Bool, true, false, cond, ◌&&◌, List, ℕ, eqb, ℤ, Ok, Err, Result as RustResult, Option}
+use Rattle.cdef_spec.specs.declared.SignalledDamping.{SignalledDamping}
 use Rattle.cdef_spec.specs.declared.UnitPair.{UnitPair}
 use Rattle.cdef_spec.specs.declared.Visible.{Visible}
 use Rattle.cdef_spec.specs.Picture.{Picture}
@@ -9,8 +9,8 @@ use Rattle.cdef_spec.specs.Demand3.{off}
 use Rattle.agree_parts.specs.Parts.{trial_pairs, copied}
 use Rattle.cdef_spec.specs.Answers.{error_code}
 use Rattle.cdef_pairs.specs.Applying.{applying_by_no, applying_by_outcome}
-use Rattle.cdef_agree.specs.declared.Disagreement.{Disagreement}
-use Rattle.cdef_agree.specs.declared.Disagreement.TheVariants.{NotTrialPairs, Trying, Applying, Measuring}
+use Rattle.cdef_agree.specs.declared.NotCompared.{NotCompared}
+use Rattle.cdef_agree.specs.declared.NotCompared.TheVariants.{NotTrialPairs, Trying, Applying, Measuring}
 
 -- ---- what an agreement means, in the rules' terms (RULES, Questions; RULES, Agreement)
 
@@ -27,15 +27,15 @@ pub data AgreementResult : Type 0 where
   rejected : RejectedBy → ℕ → AgreementResult
 
 -- case by case. A pair that is none of the twelve is a strength out of range: 8
-unfoldable pub read_disagreement : Disagreement → AgreementResult
-read_disagreement NotTrialPairs = rejected by_pair_test 8
-read_disagreement (Trying r) = rejected by_trying (error_code r)
-read_disagreement (Applying r) = rejected by_applying (error_code r)
-read_disagreement (Measuring r) = rejected by_measuring (error_code r)
+unfoldable pub read_not_compared : NotCompared → AgreementResult
+read_not_compared NotTrialPairs = rejected by_pair_test 8
+read_not_compared (Trying r) = rejected by_trying (error_code r)
+read_not_compared (Applying r) = rejected by_applying (error_code r)
+read_not_compared (Measuring r) = rejected by_measuring (error_code r)
 
-unfoldable pub read_agreement : RustResult (Unit {0}) Disagreement → AgreementResult
+unfoldable pub read_agreement : RustResult (Unit {0}) NotCompared → AgreementResult
 read_agreement (Ok done) = agreed
-read_agreement (Err d) = read_disagreement d
+read_agreement (Err d) = read_not_compared d
 
 -- the error code: 0 where the totals agree
 unfoldable pub agreement_number : AgreementResult → ℕ
@@ -57,7 +57,7 @@ pub record AgreeOutcome : Type 0 where
 
 -- trying; then, with pairs of the twelve, applying to a copy of the snapshot; then measuring what applying left, with pair 0, 0.
 -- trial: is each pair one of the twelve; asked and applied: applying's error code, 0 for none, and its outcome, by its destination
-unfoldable pub agree_with : Bool → (List ℕ → ℕ) → (List ℕ → ApplyingOutcome) → Picture → DampingChoice → Visible → List ℕ → List ℕ → List ℤ → List ℕ → List ℤ → List ℕ → AgreeOutcome
+unfoldable pub agree_with : Bool → (List ℕ → ℕ) → (List ℕ → ApplyingOutcome) → Picture → Option SignalledDamping → Visible → List ℕ → List ℕ → List ℤ → List ℕ → List ℤ → List ℕ → AgreeOutcome
 agree_with trial asked applied q damping v snapshot original tried dst measured scratch =
     let first = eqb (trying_no q damping v snapshot original tried) 0 in
     let t : TryingOutcome = trying_outcome q damping v snapshot original tried in
@@ -77,16 +77,16 @@ agree_with trial asked applied q damping v snapshot original tried dst measured 
     }
 
 -- any list of pairs, by its own tests of questions 7 and 8
-unfoldable pub agree_by_outcome : Picture → DampingChoice → Visible → List ℕ → List ℕ → (ℕ → Bool) → Bool → List UnitPair → List ℤ → List ℕ → List ℤ → List ℕ → AgreeOutcome
+unfoldable pub agree_by_outcome : Picture → Option SignalledDamping → Visible → List ℕ → List ℕ → (ℕ → Bool) → Bool → List UnitPair → List ℤ → List ℕ → List ℤ → List ℕ → AgreeOutcome
 agree_by_outcome q damping v snapshot original listed taken ps tried dst measured scratch =
     agree_with (trial_pairs ps) (applying_by_no q damping snapshot listed taken) (applying_by_outcome q damping snapshot listed taken ps) q damping v snapshot original tried dst measured scratch
 
 -- one pair per unit
-unfoldable pub agree_outcome : Picture → DampingChoice → Visible → List ℕ → List ℕ → List UnitPair → List ℤ → List ℕ → List ℤ → List ℕ → AgreeOutcome
+unfoldable pub agree_outcome : Picture → Option SignalledDamping → Visible → List ℕ → List ℕ → List UnitPair → List ℤ → List ℕ → List ℤ → List ℕ → AgreeOutcome
 agree_outcome q damping v snapshot original ps tried dst measured scratch =
     agree_with (trial_pairs ps) (applying_no q damping snapshot ps) (applying_outcome q damping snapshot ps) q damping v snapshot original tried dst measured scratch
 
 -- the twin with two plain lists, a primary and a secondary strength per unit
-unfoldable pub agree_lists_outcome : Picture → DampingChoice → Visible → List ℕ → List ℕ → List ℕ → List ℕ → List ℤ → List ℕ → List ℤ → List ℕ → AgreeOutcome
+unfoldable pub agree_lists_outcome : Picture → Option SignalledDamping → Visible → List ℕ → List ℕ → List ℕ → List ℕ → List ℤ → List ℕ → List ℤ → List ℕ → AgreeOutcome
 agree_lists_outcome q damping v snapshot original pris secs tried dst measured scratch =
     agree_with (trial_pairs (pairs_of pris secs)) (applying_lists_no q damping snapshot pris secs) (applying_lists_outcome q damping snapshot pris secs) q damping v snapshot original tried dst measured scratch

@@ -1,11 +1,11 @@
 -- THE AGREEMENT: where the three calls accept their input, the measured totals agree with the tried ones, for every list of pairs, for two lists, and for any list that keeps the laws of pairs.
-use Rattle.std.specs.Prelude.{◌≡◌, Bool, false, cond, ℕ, ◌*◌, ◌≤◌, ◌<◌, leb, eqb, ℤ, length}
+use Rattle.std.specs.Prelude.{◌≡◌, Bool, false, cond, ℕ, ◌*◌, ◌≤◌, ◌<◌, leb, eqb, ℤ, length, Option}
 use Rattle.std.proofs.Math.Path.{refl, sym, subst}
 use Rattle.std.proofs.Common.{◌∙◌, arith}
 use Rattle.std.proofs.Math.Bool.{true}
 use mathlib.Core.List.{List, []}
 use borrow.Author.Tests.{eq-eqb, eqb-true, le-leb}
-use Rattle.cdef_spec.specs.declared.DampingChoice.{DampingChoice}
+use Rattle.cdef_spec.specs.declared.SignalledDamping.{SignalledDamping}
 use Rattle.cdef_spec.specs.declared.UnitPair.{UnitPair}
 use Rattle.cdef_spec.specs.declared.Visible.{Visible}
 use Rattle.cdef_spec.specs.Words.{every}
@@ -28,7 +28,7 @@ never e = let o : ◌≡◌ {A = ℕ} 0 1 = cc in absurd (omega arith)
 
 -- ---- what applying's acceptance says of its lists
 
-module _ (q : Picture) (d : DampingChoice) (snapshot : List ℕ) (ps : List UnitPair) (dst : List ℕ) (z : applying_no q d snapshot ps dst ≡ 0) where
+module _ (q : Picture) (d : Option SignalledDamping) (snapshot : List ℕ) (ps : List UnitPair) (dst : List ℕ) (z : applying_no q d snapshot ps dst ≡ 0) where
   same-long : length dst ≡ length snapshot
   unfolding applying_no full_planes
   same-long =
@@ -46,7 +46,7 @@ module _ (q : Picture) (d : DampingChoice) (snapshot : List ℕ) (ps : List Unit
       (eqb-true _ _ a.1, few-units q t.two)
 
 -- a destination that applying accepts holds the snapshot
-copy_is : (q : Picture) (d : DampingChoice) (snapshot : List ℕ) (ps : List UnitPair) (dst : List ℕ) → applying_no q d snapshot ps (copied snapshot dst) ≡ 0 → copied snapshot dst ≡ snapshot
+copy_is : (q : Picture) (d : Option SignalledDamping) (snapshot : List ℕ) (ps : List UnitPair) (dst : List ℕ) → applying_no q d snapshot ps (copied snapshot dst) ≡ 0 → copied snapshot dst ≡ snapshot
 unfolding copied
 copy_is q d snapshot ps dst = go (eqb (length dst) (length snapshot)) refl
   where
@@ -77,7 +77,7 @@ own : (q : Picture) → with_directions q q.dirs (own_vars q.kind) ≡ q
 unfolding with_directions
 own q = rw (own-kind q.kind)
 
-module _ (q : Picture) (d : DampingChoice) (v : Visible) (snapshot original : List ℕ) where
+module _ (q : Picture) (d : Option SignalledDamping) (v : Visible) (snapshot original : List ℕ) where
   tried-yes : (tried : List ℤ) → trying_no q d v snapshot original tried ≡ 0 → (trying_outcome q d v snapshot original tried).answer ≡ taken nothing
   unfolding trying_outcome result_of
   tried-yes tried z = rw z
@@ -121,7 +121,7 @@ number-of true true false e i j k h = refl
 number-of true false c e i j k h = refl
 number-of false b c e i j k h = refl
 
-module _ (trial : Bool) (asked : List ℕ → ℕ) (applied : List ℕ → ApplyingOutcome) (q : Picture) (d : DampingChoice) (v : Visible) (snapshot original : List ℕ) (tried : List ℤ) (dst : List ℕ) (measured : List ℤ) (scratch : List ℕ) where
+module _ (trial : Bool) (asked : List ℕ → ℕ) (applied : List ℕ → ApplyingOutcome) (q : Picture) (d : Option SignalledDamping) (v : Visible) (snapshot original : List ℕ) (tried : List ℤ) (dst : List ℕ) (measured : List ℤ) (scratch : List ℕ) where
   abbrev out : AgreeOutcome
   out = agree_with trial asked applied q d v snapshot original tried dst measured scratch
 
@@ -154,13 +154,13 @@ module _ (trial : Bool) (asked : List ℕ → ℕ) (applied : List ℕ → Apply
   totals-are z t a = rw (z, t, a) (refl, refl)
 
 -- applying matters only by its error code and its outcome for the copy
-pub with-same : (trial trial' : Bool) (asked asked' : List ℕ → ℕ) (applied applied' : List ℕ → ApplyingOutcome) (q : Picture) (d : DampingChoice) (v : Visible) (snapshot original : List ℕ) (tried : List ℤ) (dst : List ℕ) (measured : List ℤ) (scratch : List ℕ)
+pub with-same : (trial trial' : Bool) (asked asked' : List ℕ → ℕ) (applied applied' : List ℕ → ApplyingOutcome) (q : Picture) (d : Option SignalledDamping) (v : Visible) (snapshot original : List ℕ) (tried : List ℤ) (dst : List ℕ) (measured : List ℤ) (scratch : List ℕ)
     → trial ≡ trial' → asked (copied snapshot dst) ≡ asked' (copied snapshot dst) → applied (copied snapshot dst) ≡ applied' (copied snapshot dst)
     → agree_with trial asked applied q d v snapshot original tried dst measured scratch ≡ agree_with trial' asked' applied' q d v snapshot original tried dst measured scratch
 unfolding agree_with
 with-same trial trial' asked asked' applied applied' q d v snapshot original tried dst measured scratch e f g = rw (e, f, g)
 
-module _ (q : Picture) (d : DampingChoice) (v : Visible) (snapshot original : List ℕ) where
+module _ (q : Picture) (d : Option SignalledDamping) (v : Visible) (snapshot original : List ℕ) where
   -- for every list of pairs
   pub agreed : (ps : List UnitPair) (tried : List ℤ) (dst : List ℕ) (measured : List ℤ) (scratch : List ℕ) → is_agreed (agree_outcome q d v snapshot original ps tried dst measured scratch).answer ≡ true
       → Agrees q ps (agree_outcome q d v snapshot original ps tried dst measured scratch).tried (agree_outcome q d v snapshot original ps tried dst measured scratch).measured

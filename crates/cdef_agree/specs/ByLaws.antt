@@ -1,7 +1,7 @@
 -- The three calls with any list of pairs that keeps the laws: the agreement, and the two kinds of lists.
-use Rattle.std.specs.Prelude.{◌≡◌, refl, Bool, true, ◌&&◌, List, ℕ, ℤ, eqb, length}
+use Rattle.std.specs.Prelude.{◌≡◌, refl, Bool, true, ◌&&◌, List, ℕ, ℤ, eqb, length, Option}
 use Rattle.std.proofs.Common.{sym, subst, ◌∙◌, eq-eqb}
-use Rattle.cdef_spec.specs.declared.DampingChoice.{DampingChoice}
+use Rattle.cdef_spec.specs.declared.SignalledDamping.{SignalledDamping}
 use Rattle.cdef_spec.specs.declared.UnitPair.{UnitPair}
 use Rattle.cdef_spec.specs.declared.Visible.{Visible}
 use Rattle.cdef_spec.specs.WordsLaws.{and_both, and-make}
@@ -16,7 +16,7 @@ use Rattle.agree_parts.specs.Parts.{trial_pairs, copied}
 use Rattle.cdef_agree.specs.Agree.{agreed as totals_agree, is_agreed, AgreeOutcome, agree_with, agree_by_outcome, agree_outcome, agree_lists_outcome}
 use Rattle.cdef_agree.specs.AgreeLaws.{all_yes, with-same, agreed}
 
-module _ (q : Picture) (d : DampingChoice) (v : Visible) (snapshot original : List ℕ) where
+module _ (q : Picture) (d : Option SignalledDamping) (v : Visible) (snapshot original : List ℕ) where
   module _ (listed : ℕ → Bool) (taken : Bool) (ps : List UnitPair) (many : (n : ℕ) → listed n ≡ true → length ps ≡ n) (same : (n : ℕ) → listed n ≡ true → taken ≡ all_taken pair_taken ps) where
     -- what a list's own tests let through, applying lets through
     taken-too : (dst : List ℕ) → applying_by_no q d snapshot listed taken dst ≡ 0 → applying_no q d snapshot ps dst ≡ 0

@@ -1,7 +1,8 @@
 -- What the three calls leave, from the answers that they return.
-use Rattle.std.specs.Prelude.{◌≡◌, refl, Bool, true, false, List, ℕ, ℤ, Ok, Err, Result as RustResult}
+use Rattle.std.specs.Prelude.{◌≡◌, refl, Bool, true, false, List, ℕ, ℤ, Ok, Err, MatchResult, Result as RustResult, Option}
+use Rattle.std.specs.Result.{IsErrAnd}
 use Rattle.std.proofs.Common.{sym, ap, ◌∙◌, ne_eqb}
-use Rattle.cdef_spec.specs.declared.DampingChoice.{DampingChoice}
+use Rattle.cdef_spec.specs.declared.SignalledDamping.{SignalledDamping}
 use Rattle.cdef_spec.specs.declared.Refusal.{Refusal}
 use Rattle.cdef_spec.specs.declared.UnitPair.{UnitPair}
 use Rattle.cdef_spec.specs.declared.Visible.{Visible}
@@ -13,6 +14,7 @@ use Rattle.cdef_spec.specs.Demand3.{off}
 use Rattle.cdef_pairs.specs.PairLaws.{number-back}
 use Rattle.cdef_pairs.specs.Applying.{applying_by_no, applying_by_outcome}
 use Rattle.agree_parts.specs.Parts.{trial_pairs, copied}
+use Rattle.cdef_agree.specs.declared.NotCompared.{NotCompared}
 use Rattle.cdef_agree.specs.Agree.{by_trying, by_pair_test, by_applying, by_measuring, agreed, rejected, AgreeOutcome, agree_with, agree_by_outcome}
 
 -- the error code of a call that refused, and of one that is done
@@ -24,7 +26,35 @@ none-of : (n : ℕ) (done : Unit {0}) (x : RustResult (Unit {0}) Refusal) → x 
 unfolding read_done number_of
 none-of n done x e h = sym (number-back n) ∙ ap number_of (h ∙ ap read_done e)
 
-module _ (q : Picture) (d : DampingChoice) (v : Visible) (snapshot original : List ℕ) (listed : ℕ → Bool) (values : Bool) (ps : List UnitPair) (tried : List ℤ) (dst : List ℕ) (measured : List ℤ) (scratch : List ℕ) where
+abbrev not_done : NotCompared → RustResult (Unit {0}) NotCompared
+not_done k = Err k
+
+err-is : (j k : NotCompared) → not_done j ≡ not_done k → j ≡ k
+err-is j k e = ap (λ (m : RustResult (Unit {0}) NotCompared). reason j m) e
+  where
+    reason : NotCompared → RustResult (Unit {0}) NotCompared → NotCompared
+    reason d (Ok v) = d
+    reason d (Err k) = k
+
+-- what `map_err` makes of an answer: a refusal in its way, or the work done
+module _ (way : Refusal → NotCompared) (x : RustResult (Unit {0}) Refusal) (m : RustResult (Unit {0}) NotCompared) (h : MatchResult x (λ v. m ≡ Ok v) (λ e. IsErrAnd m (λ k. k ≡ way e))) where
+  pub handed : (k : NotCompared) → m ≡ Err k → (r : Refusal) × (x ≡ Err r) × (k ≡ way r)
+  handed k e = go x m h e
+    where
+      go : (x : RustResult (Unit {0}) Refusal) (m : RustResult (Unit {0}) NotCompared) → MatchResult x (λ v. m ≡ Ok v) (λ e. IsErrAnd m (λ k. k ≡ way e)) → m ≡ Err k → (r : Refusal) × (x ≡ Err r) × (k ≡ way r)
+      go (Ok v) m h e = cc
+      go (Err r) (Ok v) h e = absurd h
+      go (Err r) (Err j) h e = (r, refl, sym (err-is j k e) ∙ h)
+
+  pub was_done : (v : Unit {0}) → m ≡ Ok v → (w : Unit {0}) × (x ≡ Ok w)
+  was_done v e = go x m h e
+    where
+      go : (x : RustResult (Unit {0}) Refusal) (m : RustResult (Unit {0}) NotCompared) → MatchResult x (λ v. m ≡ Ok v) (λ e. IsErrAnd m (λ k. k ≡ way e)) → m ≡ Ok v → (w : Unit {0}) × (x ≡ Ok w)
+      go (Ok w) m h e = (w, refl)
+      go (Err r) (Ok v) h e = absurd h
+      go (Err r) (Err j) h e = cc
+
+module _ (q : Picture) (d : Option SignalledDamping) (v : Visible) (snapshot original : List ℕ) (listed : ℕ → Bool) (values : Bool) (ps : List UnitPair) (tried : List ℤ) (dst : List ℕ) (measured : List ℤ) (scratch : List ℕ) where
   abbrev out : AgreeOutcome
   out = agree_by_outcome q d v snapshot original listed values ps tried dst measured scratch
 

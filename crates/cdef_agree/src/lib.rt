@@ -1,4 +1,5 @@
 // Trying, applying and measuring, one call after the other, and the agreement of their totals.
+// Kept as parameters: the slices that a caller lends, as in the three calls.
 #![tactic(auto)]
 
 ghost use Rattle.std.specs.Prelude.{◌≡◌, OnOk};
@@ -7,11 +8,11 @@ ghost use Rattle.cdef_spec.specs.Demand3.{Agrees};
 ghost use Rattle.cdef_agree.specs.Agree.{read_agreement, agree_by_outcome};
 
 use cdef_pairs::Pairs;
-use cdef_spec::{DampingChoice, Picture, Refusal, UnitPair, Visible};
+use cdef_spec::{Picture, Refusal, SignalledDamping, UnitPair, Visible};
 
 // Why the totals are not compared: a pair is none of the twelve, or one of the calls refused.
 #[derive(Clone, Copy, Debug, PartialEq, Eq)]
-pub enum Disagreement {
+pub enum NotCompared {
     NotTrialPairs,
     Trying(Refusal),
     Applying(Refusal),
@@ -30,8 +31,8 @@ pub fn agree_units<P: Pairs>(
     picture: &Picture<'_>,
     visible: Visible,
     pairs: &P,
-    damping: DampingChoice,
-) -> Result<(), Disagreement>
+    damping: Option<SignalledDamping>,
+) -> Result<(), NotCompared>
     ensures outcome { agree_by_outcome (picture_in picture.now) damping visible snapshot.now original.now (P.listed pairs.now)
         (P.taken pairs.now) (P.pairs pairs.now) tried.old dst.old measured.old scratch.old ≡ record {
           answer = read_agreement result;
@@ -42,26 +43,22 @@ pub fn agree_units<P: Pairs>(
         } }
     ensures agrees { OnOk result (Agrees (picture_in picture.now) (P.pairs pairs.now) tried.new measured.new) }
 {
-    if let Err(refusal) = cdef::trying::try_units(
-        tried, snapshot, original, picture, visible, damping,
-    ) {
-        return Err(Disagreement::Trying(refusal));
-    }
+    cdef::trying::try_units(tried, snapshot, original, picture, visible, damping).map_err(
+        NotCompared::Trying,
+    )?;
     if !agree_parts::trial_pairs(pairs) {
-        return Err(Disagreement::NotTrialPairs);
+        return Err(NotCompared::NotTrialPairs);
     }
     agree_parts::copy(dst, snapshot);
-    if let Err(refusal) = frame_calls::applying(dst, snapshot, picture, pairs, damping) {
-        return Err(Disagreement::Applying(refusal));
-    }
+    frame_calls::applying(dst, snapshot, picture, pairs, damping).map_err(NotCompared::Applying)?;
+    // Kept as its two numbers, as the definition `off` and the sentence above the function have them: a constant would be used once here.
     let off = UnitPair {
         primary: 0,
         secondary: 0,
     };
-    if let Err(refusal) = cdef::measuring::measure_units(
+    cdef::measuring::measure_units(
         measured, scratch, dst, original, picture, visible, off, damping,
-    ) {
-        return Err(Disagreement::Measuring(refusal));
-    }
+    )
+    .map_err(NotCompared::Measuring)?;
     Ok(())
 }

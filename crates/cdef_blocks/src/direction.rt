@@ -1,4 +1,5 @@
 // The call for the direction of a block.
+// Kept as parameters: a call's own, in the order of docs/CALLS.md.
 ghost use Rattle.std.specs.Prelude.{◌≡◌};
 ghost use Rattle.cdef_spec.specs.Lent.{plane_in};
 ghost use Rattle.cdef_spec.specs.Answers.{read_found};

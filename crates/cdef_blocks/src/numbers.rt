@@ -29,7 +29,7 @@ pub fn damping(index: u32) -> Result<SignalledDamping, Refusal>
     Ok(arith_damping::cdef_damping(index))
 }
 
-// The working damping of a luma plane: the signalled one + depth - 8.
+// The working damping of a luma plane: the signalled one + depth - 8. Kept beside chroma's: the two rules have a name each (`docs/RULES.md`), and a C entry each.
 pub fn luma_damping(signalled: SignalledDamping, depth: u8) -> Result<WorkingDamping, Refusal>
     ensures { read result ≡ luma_damping_outcome signalled depth }
 {
@@ -37,7 +37,7 @@ pub fn luma_damping(signalled: SignalledDamping, depth: u8) -> Result<WorkingDam
     Ok(arith_damping::luma_damping(signalled, depth))
 }
 
-// The working damping of a chroma plane: one less than luma's.
+// The working damping of a chroma plane: one less than luma's. Kept beside luma's, likewise.
 pub fn chroma_damping(signalled: SignalledDamping, depth: u8) -> Result<WorkingDamping, Refusal>
     ensures { read result ≡ chroma_damping_outcome signalled depth }
 {

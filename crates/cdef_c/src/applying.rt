@@ -1,4 +1,5 @@
 // The calls for applying; bare numbers become a damping here alone.
+// Kept as parameters: C passes numbers and lists one by one. Kept as two functions, luma and chroma: `include/cdef.h` has an entry each, with a variance or with subsampling flags.
 ghost use Rattle.std.specs.Prelude.{◌≡◌};
 ghost use Rattle.cdef_spec.specs.Answers.{number_of};
 ghost use Rattle.cdef_spec.specs.Picture.{luma_picture, chroma_picture};
@@ -7,7 +8,7 @@ ghost use Rattle.arith_damping.specs.Choice.{choice_of};
 
 use crate::{answer, pictures};
 
-// Applying in luma: a primary and a secondary strength per unit.
+// Applying in luma: a primary and a secondary strength per unit. Kept as two lists: C passes them so.
 #[unsafe(no_mangle)]
 pub extern "C" fn quern_apply_luma(
     dst: &mut [u16],
@@ -23,7 +24,7 @@ pub extern "C" fn quern_apply_luma(
     damping: u8,
     unstated: u8,
 ) -> u32
-    ensures value { result ≡ number_of (applying_lists_outcome (luma_picture depth width height skip.now dirs.now vars.now)
+    ensures code { result ≡ number_of (applying_lists_outcome (luma_picture depth width height skip.now dirs.now vars.now)
         (choice_of damping unstated) snapshot.now pris.now secs.now dst.old).answer }
     ensures dst_after { dst.new ≡ (applying_lists_outcome
         (luma_picture depth width height skip.now dirs.now vars.now) (choice_of damping unstated)
@@ -34,7 +35,7 @@ pub extern "C" fn quern_apply_luma(
     answer::number(cdef_lists::apply_units(dst, snapshot, &picture, pris, secs, d))
 }
 
-// Applying in a chroma plane: a primary and a secondary strength per unit.
+// Applying in a chroma plane: a primary and a secondary strength per unit. Kept as two lists: C passes them so.
 #[unsafe(no_mangle)]
 pub extern "C" fn quern_apply_chroma(
     dst: &mut [u16],
@@ -51,7 +52,7 @@ pub extern "C" fn quern_apply_chroma(
     damping: u8,
     unstated: u8,
 ) -> u32
-    ensures value { result ≡ number_of (applying_lists_outcome (chroma_picture depth width height sx sy skip.now dirs.now)
+    ensures code { result ≡ number_of (applying_lists_outcome (chroma_picture depth width height sx sy skip.now dirs.now)
         (choice_of damping unstated) snapshot.now pris.now secs.now dst.old).answer }
     ensures dst_after { dst.new ≡ (applying_lists_outcome (chroma_picture depth width height sx sy skip.now dirs.now)
         (choice_of damping unstated) snapshot.now pris.now secs.now dst.old).plane }

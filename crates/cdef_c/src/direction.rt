@@ -1,4 +1,5 @@
 // The call for the direction of a block.
+// Kept as parameters: C passes numbers and lists one by one.
 ghost use Rattle.std.specs.Prelude.{◌≡◌};
 ghost use Rattle.cdef_spec.specs.Answers.{number_of};
 ghost use Rattle.cdef_spec.specs.BlockCalls.{direction_outcome};
@@ -18,7 +19,7 @@ pub extern "C" fn quern_direction(
     direction: &mut u8,
     variance: &mut u32,
 ) -> u32
-    ensures value { result ≡ number_of (direction_outcome (record { samples = plane.now; width = width; height = height }) depth y x) }
+    ensures code { result ≡ number_of (direction_outcome (record { samples = plane.now; width = width; height = height }) depth y x) }
     ensures direction_value { direction.exit.now
         ≡ (value_or (record { direction = direction.entry.now; variance = variance.old })
         (direction_outcome (record { samples = plane.now; width = width; height = height }) depth y x)).direction }

@@ -1,4 +1,5 @@
 // The call for the direction pass.
+// Kept as parameters: C passes numbers and lists one by one.
 ghost use Rattle.std.specs.Prelude.{◌≡◌};
 ghost use Rattle.cdef_spec.specs.Answers.{number_of};
 ghost use Rattle.cdef_spec.specs.FrameCalls.{direction_pass_outcome};
@@ -16,7 +17,7 @@ pub extern "C" fn quern_direction_pass(
     height: usize,
     depth: u8,
 ) -> u32
-    ensures value { result ≡ number_of (direction_pass_outcome (record { samples = plane.now; width = width; height = height }) depth
+    ensures code { result ≡ number_of (direction_pass_outcome (record { samples = plane.now; width = width; height = height }) depth
         dirs.old vars.old).answer }
     ensures dirs_after { dirs.new ≡ (direction_pass_outcome (record { samples = plane.now; width = width; height = height }) depth
         dirs.old vars.old).dirs }

@@ -1,4 +1,5 @@
 // The calls for the distance of two blocks.
+// Kept as parameters: C passes numbers and lists one by one.
 ghost use Rattle.std.specs.Prelude.{◌≡◌};
 ghost use Rattle.cdef_spec.specs.Answers.{number_of};
 ghost use Rattle.cdef_spec.specs.BlockCalls.{distance_outcome, squares_outcome};
@@ -19,7 +20,7 @@ pub extern "C" fn quern_distance(
     depth: u8,
     out: &mut i64,
 ) -> u32
-    ensures value { result ≡ number_of (distance_outcome (record { samples = orig.now; width = width; height = height }) other.now
+    ensures code { result ≡ number_of (distance_outcome (record { samples = orig.now; width = width; height = height }) other.now
         depth y x) }
     ensures out_after { out.new ≡ value_or out.old
         (distance_outcome (record { samples = orig.now; width = width; height = height }) other.now depth y x) }
@@ -47,7 +48,7 @@ pub extern "C" fn quern_squares(
     depth: u8,
     out: &mut i64,
 ) -> u32
-    ensures value { result ≡ number_of (squares_outcome (record { samples = orig.now; width = width; height = height }) other.now depth
+    ensures code { result ≡ number_of (squares_outcome (record { samples = orig.now; width = width; height = height }) other.now depth
         y x) }
     ensures out_after { out.new ≡ value_or out.old
         (squares_outcome (record { samples = orig.now; width = width; height = height }) other.now depth y x) }

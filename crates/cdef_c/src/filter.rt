@@ -1,4 +1,5 @@
 // The call for the block filter; bare numbers become a block and parameters here alone.
+// Kept as parameters: C passes numbers and lists one by one.
 ghost use Rattle.std.specs.Prelude.{◌≡◌};
 ghost use Rattle.cdef_spec.specs.Answers.{number_of};
 ghost use Rattle.cdef_spec.specs.BlockCalls.{filter_outcome};
@@ -24,7 +25,7 @@ pub extern "C" fn quern_filter_block(
     damping: u8,
     depth: u8,
 ) -> u32
-    ensures value { result ≡ number_of (filter_outcome (record { samples = plane.now; width = width; height = height })
+    ensures code { result ≡ number_of (filter_outcome (record { samples = plane.now; width = width; height = height })
         (record { x = x; y = y; width = bw; height = bh })
         (record { pri = pri; sec = sec; dir = dir; damping = record { 0 = damping }; depth = depth }) y0 dst.old).answer }
     ensures dst_after { dst.new ≡ (filter_outcome (record { samples = plane.now; width = width; height = height })

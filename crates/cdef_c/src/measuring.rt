@@ -1,4 +1,5 @@
 // The calls for measuring; bare numbers become a visible size, a pair and a damping here alone.
+// Kept as parameters: C passes numbers and lists one by one. Kept as two functions, luma and chroma: `include/cdef.h` has an entry each, with a variance or with subsampling flags.
 ghost use Rattle.std.specs.Prelude.{◌≡◌};
 ghost use Rattle.cdef_spec.specs.Answers.{number_of};
 ghost use Rattle.cdef_spec.specs.Picture.{luma_picture, chroma_picture};
@@ -28,7 +29,7 @@ pub extern "C" fn quern_measure_luma(
     damping: u8,
     unstated: u8,
 ) -> u32
-    ensures value { result ≡ number_of (measuring_outcome (luma_picture depth width height skip.now dirs.now vars.now)
+    ensures code { result ≡ number_of (measuring_outcome (luma_picture depth width height skip.now dirs.now vars.now)
         (choice_of damping unstated) (record { width = visible_width; height = visible_height }) plane.now original.now
         (record { primary = primary; secondary = secondary }) totals.old scratch.old).answer }
     ensures totals_after { totals.new ≡
@@ -44,10 +45,7 @@ pub extern "C" fn quern_measure_luma(
         width: visible_width,
         height: visible_height,
     };
-    let pair = UnitPair {
-        primary: primary,
-        secondary: secondary,
-    };
+    let pair = UnitPair { primary, secondary };
     let picture = pictures::luma(depth, width, height, skip, dirs, vars);
     let d = arith_damping::choice_of(damping, unstated);
     answer::number(cdef::measuring::measure_units(
@@ -76,7 +74,7 @@ pub extern "C" fn quern_measure_chroma(
     damping: u8,
     unstated: u8,
 ) -> u32
-    ensures value { result ≡ number_of (measuring_outcome (chroma_picture depth width height sx sy skip.now dirs.now)
+    ensures code { result ≡ number_of (measuring_outcome (chroma_picture depth width height sx sy skip.now dirs.now)
         (choice_of damping unstated) (record { width = visible_width; height = visible_height }) plane.now original.now
         (record { primary = primary; secondary = secondary }) totals.old scratch.old).answer }
     ensures totals_after { totals.new ≡
@@ -92,10 +90,7 @@ pub extern "C" fn quern_measure_chroma(
         width: visible_width,
         height: visible_height,
     };
-    let pair = UnitPair {
-        primary: primary,
-        secondary: secondary,
-    };
+    let pair = UnitPair { primary, secondary };
     let picture = pictures::chroma(depth, width, height, sx, sy, skip, dirs);
     let d = arith_damping::choice_of(damping, unstated);
     answer::number(cdef::measuring::measure_units(

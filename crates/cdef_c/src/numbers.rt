@@ -11,7 +11,7 @@ use cdef_spec::{SignalledDamping, WorkingDamping};
 // Constrains a difference.
 #[unsafe(no_mangle)]
 pub extern "C" fn quern_constrain(difference: i32, strength: u32, damping: u8, out: &mut i32) -> u32
-    ensures value { result ≡ number_of (constrain_outcome difference strength (record { 0 = damping })) }
+    ensures code { result ≡ number_of (constrain_outcome difference strength (record { 0 = damping })) }
     ensures out_after { out.new ≡ value_or out.old (constrain_outcome difference strength (record { 0 = damping })) }
 {
     give(
@@ -23,7 +23,7 @@ pub extern "C" fn quern_constrain(difference: i32, strength: u32, damping: u8, o
 // Adjusts a primary strength by a variance.
 #[unsafe(no_mangle)]
 pub extern "C" fn quern_adjust_pri(strength: u32, variance: u32, out: &mut u32) -> u32
-    ensures value { result ≡ number_of (adjust_outcome strength variance) }
+    ensures code { result ≡ number_of (adjust_outcome strength variance) }
     ensures out_after { out.new ≡ value_or out.old (adjust_outcome strength variance) }
 {
     give(cdef_blocks::numbers::adjust(strength, variance), out)
@@ -32,16 +32,16 @@ pub extern "C" fn quern_adjust_pri(strength: u32, variance: u32, out: &mut u32) 
 // The signalled damping of a quality index.
 #[unsafe(no_mangle)]
 pub extern "C" fn quern_damping(index: u32, out: &mut u8) -> u32
-    ensures value { result ≡ number_of (damping_outcome index) }
+    ensures code { result ≡ number_of (damping_outcome index) }
     ensures out_after { out.new ≡ (value_or (record { 0 = out.old }) (damping_outcome index)).0 }
 {
     give(cdef_blocks::numbers::damping(index).map(|d| d.0), out)
 }
 
-// The working damping of a luma plane.
+// The working damping of a luma plane. Kept beside chroma's: C has an entry for each, with a name of its own.
 #[unsafe(no_mangle)]
 pub extern "C" fn quern_luma_damping(signalled: u8, depth: u8, out: &mut u8) -> u32
-    ensures value { result ≡ number_of (luma_damping_outcome (record { 0 = signalled }) depth) }
+    ensures code { result ≡ number_of (luma_damping_outcome (record { 0 = signalled }) depth) }
     ensures out_after { out.new ≡ (value_or (record { 0 = out.old }) (luma_damping_outcome (record { 0 = signalled }) depth)).0 }
 {
     give(
@@ -50,10 +50,10 @@ pub extern "C" fn quern_luma_damping(signalled: u8, depth: u8, out: &mut u8) -> 
     )
 }
 
-// The working damping of a chroma plane.
+// The working damping of a chroma plane. Kept beside luma's, likewise.
 #[unsafe(no_mangle)]
 pub extern "C" fn quern_chroma_damping(signalled: u8, depth: u8, out: &mut u8) -> u32
-    ensures value { result ≡ number_of (chroma_damping_outcome (record { 0 = signalled }) depth) }
+    ensures code { result ≡ number_of (chroma_damping_outcome (record { 0 = signalled }) depth) }
     ensures out_after { out.new ≡ (value_or (record { 0 = out.old }) (chroma_damping_outcome (record { 0 = signalled }) depth)).0 }
 {
     give(

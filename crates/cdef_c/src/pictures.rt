@@ -1,4 +1,5 @@
 // The picture of a frame call, out of the numbers and lists that C passes.
+// Kept as parameters: C passes numbers and lists one by one. Kept as two functions, luma and chroma: each is called by its own entries of `include/cdef.h`.
 ghost use Rattle.std.specs.Prelude.{◌≡◌};
 ghost use Rattle.cdef_spec.specs.Lent.{picture_in};
 ghost use Rattle.cdef_spec.specs.Picture.{luma_picture, chroma_picture};

@@ -9,10 +9,8 @@ ghost use Rattle.cdef_spec.specs.Root.{least_normal, root_of};
 pub extern "C" fn quern_root(v: f64) -> f64
     ensures { result ≡ cond (le least_normal v && lt v (inf false)) (root_of v) v }
 {
-    if f64::from_bits(0x10_0000_0000_0000) <= v {
-        if v < f64::from_bits(0x7ff0_0000_0000_0000) {
-            return arith_root::root(v);
-        }
+    if f64::from_bits(0x10_0000_0000_0000) <= v && v < f64::INFINITY {
+        return arith_root::root(v);
     }
     v
 }

@@ -1,4 +1,5 @@
 // The calls for the trial of a block, one for luma and one for chroma; bare numbers become a block and a damping here alone.
+// Kept as parameters: C passes numbers and lists one by one. Kept as two functions, luma and chroma: `include/cdef.h` has an entry each, the one with a variance, the other without.
 ghost use Rattle.std.specs.Prelude.{◌≡◌};
 ghost use Rattle.cdef_spec.specs.declared.TrialWay.TheVariants.{Luma, Chroma};
 ghost use Rattle.cdef_spec.specs.Answers.{number_of};
@@ -23,7 +24,7 @@ pub extern "C" fn quern_trial_luma(
     damping: u8,
     depth: u8,
 ) -> u32
-    ensures value { result ≡ number_of (trial_outcome (record { samples = plane.now; width = width; height = height })
+    ensures code { result ≡ number_of (trial_outcome (record { samples = plane.now; width = width; height = height })
         (record { x = x; y = y; width = bw; height = bh }) (Luma variance) dir (record { 0 = damping }) depth out.old).answer }
     ensures out_after { out.new ≡ (trial_outcome (record { samples = plane.now; width = width; height = height })
         (record { x = x; y = y; width = bw; height = bh }) (Luma variance) dir (record { 0 = damping }) depth out.old).out }
@@ -59,7 +60,7 @@ pub extern "C" fn quern_trial_chroma(
     damping: u8,
     depth: u8,
 ) -> u32
-    ensures value { result ≡ number_of (trial_outcome (record { samples = plane.now; width = width; height = height })
+    ensures code { result ≡ number_of (trial_outcome (record { samples = plane.now; width = width; height = height })
         (record { x = x; y = y; width = bw; height = bh }) Chroma dir (record { 0 = damping }) depth out.old).answer }
     ensures out_after { out.new ≡ (trial_outcome (record { samples = plane.now; width = width; height = height })
         (record { x = x; y = y; width = bw; height = bh }) Chroma dir (record { 0 = damping }) depth out.old).out }

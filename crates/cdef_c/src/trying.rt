@@ -1,4 +1,5 @@
 // The calls for trying; bare numbers become a visible size and a damping here alone.
+// Kept as parameters: C passes numbers and lists one by one. Kept as two functions, luma and chroma: `include/cdef.h` has an entry each, with a variance or with subsampling flags.
 ghost use Rattle.std.specs.Prelude.{◌≡◌};
 ghost use Rattle.cdef_spec.specs.Answers.{number_of};
 ghost use Rattle.cdef_spec.specs.Picture.{luma_picture, chroma_picture};
@@ -25,7 +26,7 @@ pub extern "C" fn quern_try_luma(
     damping: u8,
     unstated: u8,
 ) -> u32
-    ensures value { result ≡ number_of (trying_outcome (luma_picture depth width height skip.now dirs.now vars.now)
+    ensures code { result ≡ number_of (trying_outcome (luma_picture depth width height skip.now dirs.now vars.now)
         (choice_of damping unstated) (record { width = visible_width; height = visible_height }) snapshot.now original.now
         totals.old).answer }
     ensures totals_after { totals.new ≡ (trying_outcome (luma_picture depth width height skip.now dirs.now vars.now)
@@ -59,7 +60,7 @@ pub extern "C" fn quern_try_chroma(
     damping: u8,
     unstated: u8,
 ) -> u32
-    ensures value { result ≡ number_of (trying_outcome (chroma_picture depth width height sx sy skip.now dirs.now)
+    ensures code { result ≡ number_of (trying_outcome (chroma_picture depth width height sx sy skip.now dirs.now)
         (choice_of damping unstated) (record { width = visible_width; height = visible_height }) snapshot.now original.now
         totals.old).answer }
     ensures totals_after { totals.new ≡

@@ -1,10 +1,10 @@
 -- No picture has more than 4,096 units; applying's error code, out of its outcome, and that of the variant with two lists.
-use Rattle.std.specs.Prelude.{◌≡◌, Bool, cond, ◌&&◌, List, ℕ, ◌≤◌, leb, eqb, length}
+use Rattle.std.specs.Prelude.{◌≡◌, Bool, cond, ◌&&◌, List, ℕ, ◌≤◌, leb, eqb, length, Option}
 use Rattle.std.proofs.Math.Path.{refl, sym, ap}
 use Rattle.std.proofs.Common.{◌∙◌, arith, mul-le-mul}
 use Rattle.std.proofs.Math.Bool.{true, false}
 use borrow.Author.Tests.{leb-true, eqb-true}
-use Rattle.cdef_spec.specs.declared.DampingChoice.{DampingChoice}
+use Rattle.cdef_spec.specs.declared.SignalledDamping.{SignalledDamping}
 use Rattle.cdef_spec.specs.declared.UnitPair.{UnitPair}
 use Rattle.cdef_spec.specs.WordsLaws.{and_both}
 use Rattle.cdef_spec.specs.Picture.{Picture, unit_rows, unit_cols, units}
@@ -40,7 +40,7 @@ number-back n = go (eqb n 0) refl
     go true z = sym (eqb-true n 0 z)
     go false z = refl
 
-module _ (q : Picture) (d : DampingChoice) (snapshot dst : List ℕ) where
+module _ (q : Picture) (d : Option SignalledDamping) (snapshot dst : List ℕ) where
   number-of : (ps : List UnitPair) → number_of (applying_outcome q d snapshot ps dst).answer ≡ applying_no q d snapshot ps dst
   unfolding applying_outcome
   number-of ps = number-back _

@@ -1,7 +1,7 @@
 // The list of unit pairs (RULES, Glossary: one primary and one secondary strength per unit): a trait, for the caller's slice of structs and for two lists of bytes.
 #![tactic(auto)]
 
-ghost use Rattle.std.specs.Prelude.{◌≡◌, Bool, List, ℕ, ◌<◌, ◌&&◌, eqb, get_or, length};
+ghost use Rattle.std.specs.Prelude.{◌≡◌, Bool, List, ℕ, ◌<◌, ◌&&◌, eqb, length};
 ghost use Rattle.cdef_spec.specs.declared.UnitPair.{UnitPair};
 ghost use Rattle.cdef_spec.specs.Picture.{pair_at};
 ghost use Rattle.cdef_spec.specs.Questions.{all_taken, pair_taken, primary_taken, secondary_taken};
@@ -12,6 +12,7 @@ ghost use Rattle.cdef_pairs.specs.KindLaws.{lists-as-many, lists-taken, slice-as
 use cdef_spec::UnitPair;
 
 // A list of unit pairs, however the caller keeps it, and its own tests of questions 7 and 8.
+// The laws tie the tests to the pairs; what pairs, listed and taken are is to be read at each kind, since the contracts are written in them.
 pub trait Pairs {
     // the pair of each unit
     ghost pairs: { Self → List UnitPair };
@@ -75,15 +76,9 @@ impl<'a> Pairs for PairSlice<'a> {
 // A list with the primary strength of each unit, and one with the secondary strengths. Their lengths are tested by question 7.
 #[derive(Clone, Copy)]
 pub struct StrengthLists<'a> {
+    // Kept as two lists: the C interface passes them so.
     pub pris: &'a [u8],
     pub secs: &'a [u8],
-}
-
-// Entry k of a list, 0 past its end.
-fn at_or_zero(list: &[u8], k: usize) -> u8
-    ensures { result ≡ get_or list.now k 0 }
-{
-    list.get(k).copied().unwrap_or(0)
 }
 
 impl<'a> Pairs for StrengthLists<'a> {
@@ -98,7 +93,9 @@ impl<'a> Pairs for StrengthLists<'a> {
     }
 
     fn are_taken(&self) -> bool {
-        check_lists::all_primary(self.pris) && check_lists::all_secondary(self.secs)
+        let primaries = self.pris.iter().all(|n| check_values::primary_taken(*n));
+        let secondaries = self.secs.iter().all(|n| check_values::secondary_taken(*n));
+        primaries && secondaries
     }
 
     fn count(&self) -> usize {
@@ -108,7 +105,7 @@ impl<'a> Pairs for StrengthLists<'a> {
     fn pair(&self, u: usize) -> UnitPair {
         UnitPair {
             primary: self.pris[u],
-            secondary: at_or_zero(self.secs, u),
+            secondary: self.secs.get(u).copied().unwrap_or(0),
         }
     }
 

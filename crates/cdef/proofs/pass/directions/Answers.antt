@@ -1,7 +1,7 @@
 -- `cdef::pass::directions` meets its contract.
 use Rattle.std.proofs.Common.{rules}
 use Rattle.cdef_spec.specs.AnswerLaws.{zero-so}
-use Rattle.cdef_spec.specs.Lent.{plane_in, plane_in_full}
+use Rattle.cdef_spec.specs.Lent.{plane_in_full}
 use Rattle.cdef.proofs.PassLaws.{pass-refuses, pass-ready, pass-does}
 use Rattle.cdef.proofs.pass.directions.Goals as goal
 

@@ -15,7 +15,7 @@ cdef_direction-requires c =
     let p = plane_in_full c.in_ok-full.full in
     let f = direction-facts p a.depth a.y a.x (passes (λ p. direction_no p a.depth a.y a.x) _ _ c.in_ok-full.ensures.same c.in_ok-full.ensures.first_no) in
     let q = f.plane in
-    record { corner_on_plane = (f.x-in, f.y-in, q.deep, q.flat); samples_fit = f.cut }
+    record { x-in = f.x-in; y-in = f.y-in; depth_low = q.deep; depth-high = q.flat; low = f.cut }
 
 pub returns : goal.returns
 unfolding plane_in_full direction_outcome result_of read_found

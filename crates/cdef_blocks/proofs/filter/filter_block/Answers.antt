@@ -51,8 +51,8 @@ filter_window-requires c =
     let b = f.block in
     let taken = widened-so p a.block a.params.depth f.plane b _ c.window-win.ensures c.in_ok-window_no.ensures in
     record {
-      x_lt_w = (b.x-in, b.y-in, f.plane.wide, f.plane.high, b.bw, b.bh);
-      y0_le_y = (f.start, f.room);
+      begins = (b.x-in, b.y-in, f.plane.wide, f.plane.high, b.bw, b.bh);
+      rows_fit = (f.start, f.room);
       held = (rw c.window-win.ensures (held-so p a.block a.params.depth f.plane b taken), f.usable);
     }
 

@@ -49,10 +49,15 @@ trial_window-requires c =
     let f = trial-facts p a.block a.way a.dir a.damping a.depth a.out.now (trial-passes _ _ c.in_ok-full.ensures.same a.block a.way a.dir a.damping a.depth a.out.now c.in_ok-full.ensures.first_no) in
     let b = f.block in
     let taken = widened-so p a.block a.depth f.plane b _ c.window-win.ensures c.in_ok-window_no.ensures in
-    record {
-      out_len = (f.long, b.bw, b.bh, rw c.window-win.ensures (marked-so p a.block a.depth f.plane b taken));
-      dir_bound = (f.dir-low, f.damping-low, f.plane.deep, f.plane.flat);
-    }
+    (f.long, b.bw, b.bh, rw c.window-win.ensures (marked-so p a.block a.depth f.plane b taken))
+
+pub invariant_of-params : goal.invariant_of-params
+unfolding code_of
+invariant_of-params c =
+    let a = c.args in
+    let p = plane_in_full c.in_ok-full.full in
+    let f = trial-facts p a.block a.way a.dir a.damping a.depth a.out.now (trial-passes _ _ c.in_ok-full.ensures.same a.block a.way a.dir a.damping a.depth a.out.now c.in_ok-full.ensures.first_no) in
+    record { taken = (f.dir-low, f.damping-low); deep = (f.plane.deep, f.plane.flat) }
 
 pub returns : goal.returns
 unfolding code_of read_done

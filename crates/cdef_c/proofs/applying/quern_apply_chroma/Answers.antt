@@ -1,9 +1,8 @@
 -- `cdef_c::applying::quern_apply_chroma` meets its contract.
 use mathlib.Core.Path.{ap, ◌∙◌}
-use Rattle.cdef_answer.specs.JoinLaws.{applying-parts}
-use borrow.Author.Rules.{rules}
+use Rattle.cdef_c.specs.JoinLaws.{applying-parts}
 use Rattle.cdef_spec.specs.Answers.{number_of}
 use Rattle.cdef_c.proofs.applying.quern_apply_chroma.Goals as goal
 
 pub returns : goal.returns
-returns c = rw (← c.choice_of-d.ensures, ← c.chroma-picture.ensures) (record { value = c.number.ensures ∙ ap number_of (applying-parts _ _ _ c.apply_units.ensures).0; dst_after = (applying-parts _ _ _ c.apply_units.ensures).1 })
+returns c = rw (← c.choice_of-d.ensures, ← c.chroma-picture.ensures) (record { code = c.number.ensures ∙ ap number_of (applying-parts _ _ _ c.apply_units.ensures).0; dst_after = (applying-parts _ _ _ c.apply_units.ensures).1 })

@@ -10,11 +10,11 @@ unfolding plane_in read_found
 returns-in-Ok c =
     let old : DirectionFound = record { direction = c.args.direction.now; variance = c.args.variance.now } in
     let b = done _ old _ c.in-Ok.ensures in
-    record { value = b.0; direction_value = ap (λ (f : DirectionFound). f.direction) b.1; variance_after = ap (λ (f : DirectionFound). f.variance) b.1 }
+    record { code = b.0; direction_value = ap (λ (f : DirectionFound). f.direction) b.1; variance_after = ap (λ (f : DirectionFound). f.variance) b.1 }
 
 pub returns-in-Err : goal.returns-in-Err
 unfolding plane_in read_found
 returns-in-Err c =
     let old : DirectionFound = record { direction = c.args.direction.now; variance = c.args.variance.now } in
     let b = not_done _ old _ c.in-Err.ensures in
-    record { value = c.from.ensures ∙ b.0; direction_value = ap (λ (f : DirectionFound). f.direction) b.1; variance_after = ap (λ (f : DirectionFound). f.variance) b.1 }
+    record { code = c.from.ensures ∙ b.0; direction_value = ap (λ (f : DirectionFound). f.direction) b.1; variance_after = ap (λ (f : DirectionFound). f.variance) b.1 }

@@ -1,5 +1,5 @@
 -- `cdef_c::numbers::quern_chroma_damping` meets its contract.
-use Rattle.std.proofs.Common.{◌≡◌, ◌∙◌, ap, rules}
+use Rattle.std.proofs.Common.{◌∙◌, ap, rules}
 use Rattle.cdef_spec.specs.declared.WorkingDamping.{WorkingDamping}
 use Rattle.cdef_spec.specs.Answers.{Result, number_of}
 use Rattle.cdef_c.specs.Values.{value_or}
@@ -10,6 +10,6 @@ pub returns : goal.returns
 returns c =
     let old : WorkingDamping = record { 0 = c.args.out.now } in
     record {
-      value = c.give.ensures.value ∙ mapped-code (λ (d : WorkingDamping). d.0) c.chroma_damping.result c.map.result _ (λ x y k. search rules) c.map.ensures.cases ∙ ap number_of c.chroma_damping.ensures;
+      code = c.give.ensures.code ∙ mapped-code (λ (d : WorkingDamping). d.0) c.chroma_damping.result c.map.result _ (λ x y k. search rules) c.map.ensures.cases ∙ ap number_of c.chroma_damping.ensures;
       out_after = c.give.ensures.out_after ∙ mapped-value (λ (d : WorkingDamping). d.0) c.chroma_damping.result c.map.result _ (λ x y k. search rules) old c.map.ensures.cases ∙ ap (λ (o : Result WorkingDamping). (value_or old o).0) c.chroma_damping.ensures;
     }

@@ -1,5 +1,5 @@
 -- `cdef_c::numbers::quern_damping` meets its contract.
-use Rattle.std.proofs.Common.{◌≡◌, ◌∙◌, ap, rules}
+use Rattle.std.proofs.Common.{◌∙◌, ap, rules}
 use Rattle.cdef_spec.specs.declared.SignalledDamping.{SignalledDamping}
 use Rattle.cdef_spec.specs.Answers.{Result, number_of}
 use Rattle.cdef_c.specs.Values.{value_or}
@@ -10,6 +10,6 @@ pub returns : goal.returns
 returns c =
     let old : SignalledDamping = record { 0 = c.args.out.now } in
     record {
-      value = c.give.ensures.value ∙ mapped-code (λ (d : SignalledDamping). d.0) c.damping.result c.map.result _ (λ x y k. search rules) c.map.ensures.cases ∙ ap number_of c.damping.ensures;
+      code = c.give.ensures.code ∙ mapped-code (λ (d : SignalledDamping). d.0) c.damping.result c.map.result _ (λ x y k. search rules) c.map.ensures.cases ∙ ap number_of c.damping.ensures;
       out_after = c.give.ensures.out_after ∙ mapped-value (λ (d : SignalledDamping). d.0) c.damping.result c.map.result _ (λ x y k. search rules) old c.map.ensures.cases ∙ ap (λ (o : Result SignalledDamping). (value_or old o).0) c.damping.ensures;
     }

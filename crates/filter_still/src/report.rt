@@ -1,7 +1,6 @@
 // What is printed: a line with the sizes, a line per unit, and whether all agree.
 ghost use Rattle.std.specs.Prelude.{◌<◌, IfSome};
 
-use cdef_spec::UnitPair;
 use print::{PairText, UnitTotals};
 use std::io;
 use still_steps::steps::{Filtered, Job};
@@ -19,14 +18,6 @@ fn heading(rt: &impl Print, job: &Job<'_>) -> io::Result<()> {
         n.units(),
         PairText(job.pair)
     )
-}
-
-// The trial number of a pair, if it is one of the twelve.
-fn trial_of(pair: UnitPair) -> Option<usize>
-    ensures { IfSome result (λ t. t < 12) }
-{
-    let trial = arith_trials::trial_of(pair);
-    if trial < 12 { Some(trial) } else { None }
 }
 
 // Whether all agree, or how many units do not; nothing is compared where the pair has no trial number.
@@ -48,7 +39,7 @@ fn outcome(rt: &impl Print, trial: Option<usize>, filtered: &Filtered) -> io::Re
 
 pub fn report(rt: &impl Print, job: &Job<'_>, filtered: &Filtered) -> io::Result<()> {
     heading(rt, job)?;
-    let trial = trial_of(job.pair);
+    let trial = arith_trials::trial_of(job.pair);
     let units = filtered.tried.chunks_exact(12).zip(&filtered.measured);
     for (u, (tried, measured)) in units.enumerate() {
         let totals = UnitTotals {

@@ -24,7 +24,7 @@ fn damping_argument(given: &str) -> Result<SignalledDamping, Problem<'_>> {
 
 // The number given by an argument, which no call accepts where it is not a strength.
 fn strength_argument(given: &str) -> Option<u8> {
-    number_of(given.as_bytes()).map(|n| small(n))
+    number_of(given.as_bytes()).map(small)
 }
 
 // The request of the program's name and six arguments.

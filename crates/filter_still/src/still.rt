@@ -1,7 +1,7 @@
 // The still read, filtered and written.
 use crate::problem::Problem;
 use crate::{report, request};
-use cdef_spec::{DampingChoice, Visible};
+use cdef_spec::Visible;
 use std::alloc::Global;
 use std::rt::Files;
 use still_files::{Picture, read_picture, write_picture};
@@ -37,7 +37,7 @@ pub fn filter<'a>(
         },
         depth: format.depth,
         pair: request.pair,
-        damping: DampingChoice::Given(request.damping),
+        damping: Some(request.damping),
     };
     let filtered = steps::filter(alloc, &job)?;
     write_picture(rt, alloc, request.output, format, filtered.plane.as_slice()).map_err(

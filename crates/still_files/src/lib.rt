@@ -1,4 +1,5 @@
 // Pictures out of files and into files.
+// Kept as parameters: what the program may do (files, memory) and a path, as std's functions take them.
 #![tactic(auto)]
 
 use std::alloc::{AllocError, Global};
@@ -60,13 +61,7 @@ pub fn write_picture(
     plane: &[u16],
 ) -> Result<(), FileError> {
     let mut samples = vec![in alloc; 0; format.bytes()]?;
-    encode::encode(
-        samples.as_mut_slice(),
-        plane,
-        format.header.width,
-        format.pitch(),
-        format.step(),
-    );
+    encode::encode(samples.as_mut_slice(), plane, &format);
     let header = format.header;
     let mut file = fs::create(rt, path)?;
     write!(file, "{header}")?;

@@ -41,7 +41,7 @@ impl Counts {
     }
 
     pub fn units(self) -> usize
-        ensures value { result ≡ unit_count self }
+        ensures counted { result ≡ unit_count self }
         ensures most { result ≤ 4096 }
     {
         units_along(self.width) * units_along(self.height)
@@ -67,5 +67,5 @@ fn units_along(side: usize) -> usize
     requires { side ≤ 4096 }
     ensures { result ≡ (side + 63) / 64 }
 {
-    (side + 63) / 64
+    side.div_ceil(64)
 }

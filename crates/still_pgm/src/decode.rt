@@ -17,12 +17,13 @@ fn sample_at(samples: &[u8], step: usize, k: usize) -> u16
     if step == 1 {
         return u16::from(samples.get(k).copied().unwrap_or(0));
     }
-    let high = u16::from(samples.get(2 * k).copied().unwrap_or(0));
-    let low = u16::from(samples.get(2 * k + 1).copied().unwrap_or(0));
-    high * 256 + low
+    let high = samples.get(2 * k).copied().unwrap_or(0);
+    let low = samples.get(2 * k + 1).copied().unwrap_or(0);
+    u16::from_be_bytes([high, low])
 }
 
 // Each sample of a plane whose rows are `pitch` long.
+// Kept by place: a sample's row and column, each limited to the picture's last, say which sample of the file it is; row by row there are two counts in place of one.
 fn fill(plane: &mut [u16], pitch: usize, samples: &[u8], h: Header)
     requires pitch_nonzero { 0 < pitch }
     requires sides_taken { is_taken h.width h.height ≡ true }

@@ -59,7 +59,7 @@ impl Format {
 
     // How many bytes the samples have.
     pub fn bytes(&self) -> usize
-        ensures value { result ≡ self.now.header.width * self.now.header.height * step_of self.now.header.maximum }
+        ensures counted { result ≡ self.now.header.width * self.now.header.height * step_of self.now.header.maximum }
         ensures most { result ≤ 1572864 }
     {
         self.header.width * self.header.height * self.step()

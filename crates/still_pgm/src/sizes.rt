@@ -1,6 +1,8 @@
 // Which pictures are accepted: the maximum and the sides; and the padded sizes.
 ghost use Rattle.std.specs.Prelude.{◌≤◌, ◌≡◌};
-ghost use Rattle.still_pgm.specs.Sizes.{depth_of, step_of, padded, is_side, is_taken};
+ghost use Rattle.still_pgm.specs.Sizes.{depth_of, step_of, padded, is_taken};
+
+use check_sides::side_taken;
 
 // The depth of a maximum 2^depth - 1, for depth 8 to 12; none for every other maximum.
 #[tactic(auto, unfolding(crate::specs::Sizes::depth_of))]
@@ -30,26 +32,14 @@ pub fn padded_side(side: usize) -> usize
     requires { side ≤ 4096 }
     ensures { result ≡ padded side }
 {
-    (side + 7) / 8 * 8
+    side.next_multiple_of(8)
 }
 
-// A side of 1 to 4,096.
-#[tactic(auto, unfolding(crate::specs::Sizes::is_side))]
-fn is_side(side: usize) -> bool
-    ensures { result ≡ is_side side }
-{
-    1 <= side && side <= 4096
-}
-
-// Two sides, and at most 786,432 samples once padded.
+// Two sides of 1 to 4,096, and at most 786,432 samples once padded.
 pub(crate) fn is_taken(width: usize, height: usize) -> bool
     ensures { result ≡ is_taken width height }
 {
-    if !is_side(width) {
-        return false;
-    }
-    if !is_side(height) {
-        return false;
-    }
-    padded_side(width) * padded_side(height) <= 786_432
+    side_taken::<4096>(width)
+        && side_taken::<4096>(height)
+        && padded_side(width) * padded_side(height) <= 786_432
 }

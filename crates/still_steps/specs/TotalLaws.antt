@@ -1,5 +1,7 @@
 -- Totals compared.
-use Rattle.std.specs.Prelude.{◌≡◌, refl, Bool, true, false, cond, List, ℕ, zero, suc, ◌+◌, ◌*◌, ◌≤◌, get_or, ℤ, pos, negsuc}
+use mir.Val.{bool_byte}
+use Rattle.std.specs.Prelude.{◌≡◌, refl, Bool, true, false, cond, not, eqb, List, ℕ, zero, suc, ◌+◌, ◌*◌, ◌≤◌, get_or, ℤ, pos, negsuc}
+use Rattle.std.proofs.Math.Decide.{ℕ_discrete}
 use Rattle.std.proofs.Common.{ap, add-one, arith, eq-eqb, ne_eqb}
 use Rattle.still_lists.specs.Lists.{same_total, differ}
 
@@ -34,6 +36,19 @@ other_is (pos a) (pos b) f = ne_eqb a b (λ e. f (ap pos e))
 other_is (negsuc a) (negsuc b) f = ne_eqb a b (λ e. f (ap negsuc e))
 other_is (pos a) (negsuc b) f = refl
 other_is (negsuc a) (pos b) f = refl
+
+-- two totals, and numbers that are the same where the totals are
+pub bits_same : (a b : ℤ) (m n : ℕ) → (m ≡ n → a ≡ b) → (a ≡ b → m ≡ n) → not (eqb m n) ≡ not (same_total a b)
+bits_same a b m n f g = go (ℕ_discrete m n)
+  where
+    go : Dec (m ≡ n) → not (eqb m n) ≡ not (same_total a b)
+    go (yes e) = rw (eq-eqb m n e, same_is a b (f e)) refl
+    go (no h) = rw (ne_eqb m n h, other_is a b (λ e. h (g e))) refl
+
+-- one is counted where two differ
+pub one_where : (d : ℕ) (differ same : Bool) → d ≡ bool_byte differ → differ ≡ not same → d ≡ cond same 0 1
+one_where d differ true e f = rw f at e
+one_where d differ false e f = rw f at e
 
 -- a unit differs once at most
 pub one_at_most : (d : ℕ) (b : Bool) → d ≡ cond b 0 1 → d ≤ 1

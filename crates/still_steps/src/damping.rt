@@ -16,7 +16,7 @@ pub enum DampingError {
     NotDamping,
 }
 
-// A number as a u8; every larger one is 255, which no call accepts.
+// A number as a u8; every larger one is 255, which no call accepts. Kept, since two callers need it: `u8::try_from(n).unwrap_or(255)` in both is no plainer.
 pub fn small(n: usize) -> u8
     ensures { result ≡ min n 255 }
 {
@@ -28,12 +28,8 @@ pub fn small(n: usize) -> u8
 pub fn damping_of(text: &[u8]) -> Result<SignalledDamping, DampingError>
     ensures { read_text result ≡ damping_of text.now }
 {
-    let Some((letter, number)) = text.split_first() else {
-        return Err(DampingError::NotDamping);
-    };
-    let Some(n) = number_of(number) else {
-        return Err(DampingError::NotDamping);
-    };
+    let (letter, number) = text.split_first().ok_or(DampingError::NotDamping)?;
+    let n = number_of(number).ok_or(DampingError::NotDamping)?;
     match *letter {
         b'q' => numbers::damping(n as u32).map_err(DampingError::Rejected),
         b'd' => Ok(SignalledDamping(small(n))),

@@ -1,10 +1,11 @@
 // The calls, one after the other: the direction pass, trying, applying, measuring. The first that refuses ends them.
+// Kept as parameters: the memory, the job and its picture; the picture holds slices of the direction pass, which the job does not.
 ghost use Rattle.std.specs.Prelude.{◌*◌, ◌≤◌, ◌≡◌, length, IfOk};
 ghost use Rattle.still_lists.specs.Lists.{unit_count, total_count};
 
 use crate::refusals::{Call, Refused};
 use cdef::{applying, measuring, pass, trying};
-use cdef_spec::{DampingChoice, Picture, Plane, PlaneKind, UnitPair, Visible};
+use cdef_spec::{Picture, Plane, PlaneKind, SignalledDamping, UnitPair, Visible};
 use std::alloc::{AllocError, Global};
 use still_lists::Counts;
 use thiserror::Error;
@@ -24,7 +25,7 @@ pub struct Job<'a> {
     pub visible: Visible,
     pub depth: u8,
     pub pair: UnitPair,
-    pub damping: DampingChoice,
+    pub damping: Option<SignalledDamping>,
 }
 
 // The filtered plane; twelve tried totals per unit, and the measured one.

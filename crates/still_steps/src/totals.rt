@@ -1,15 +1,16 @@
 // Totals compared.
-ghost use Rattle.std.specs.Prelude.{◌+◌, ◌*◌, ◌≤◌, ◌<◌, ◌≡◌, cond, length};
+ghost use Rattle.std.specs.Prelude.{◌*◌, ◌≤◌, ◌<◌, ◌≡◌, not, length};
 ghost use Rattle.still_lists.specs.Lists.{same_total, differ};
 
-// 0 where two totals are the same, else 1.
-fn differs(tried: i64, measured: i64) -> usize
-    ensures { result ≡ cond (same_total tried measured) 0 1 }
+// Whether two totals differ.
+fn differs(tried: i64, measured: i64) -> bool
+    ensures { result ≡ not (same_total tried measured) }
 {
-    if tried == measured { 0 } else { 1 }
+    tried != measured
 }
 
 // In how many units the measured total differs from the tried one of a trial number.
+// Kept by index: over `tried.chunks_exact(12).zip(measured)` the check couldn't prove that the count fits its type.
 pub fn differing(tried: &[i64], measured: &[i64], trial: usize) -> usize
     requires trial_of_twelve { trial < 12 }
     requires twelve_per_unit { length tried.now ≡ 12 * length measured.now }
@@ -18,7 +19,7 @@ pub fn differing(tried: &[i64], measured: &[i64], trial: usize) -> usize
 {
     let mut count = 0;
     for (u, total) in measured.iter().enumerate() {
-        count += differs(tried[12 * u + trial], *total);
+        count += usize::from(differs(tried[12 * u + trial], *total));
     }
     count
 }

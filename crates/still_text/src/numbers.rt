@@ -6,6 +6,7 @@ ghost use Rattle.still_text.specs.Text.{most, decimal, digit_count, number_of};
 const MOST: usize = 4_294_967_295;
 
 // The number whose digits a text begins with, and what is left behind them; none where it begins with no digit.
+// Kept as a loop: a chain takes `position` with `unwrap_or(text.len())`, `split_at`, and a `fold` whose sums and products have to saturate, since no bound is known inside it.
 pub fn digits(text: &[u8]) -> Option<(usize, &[u8])>
     ensures { MatchOption result (digit_count text.now ≡ 0) (λ d. (0 < digit_count text.now) × (d.0 ≡ min most (decimal 0 text.now)) × (d.1.now ≡ drop (digit_count text.now) text.now)) }
 {

@@ -1,13 +1,13 @@
 // Trying, applying and measuring a picture with its pairs.
 use crate::inputs::Inputs;
 use anyhow::Result;
-use cdef_agree::Disagreement;
+use cdef_agree::NotCompared;
 use cdef_pairs::{PairSlice, Pairs, StrengthLists};
-use cdef_spec::DampingChoice;
+use cdef_spec::SignalledDamping;
 use std::alloc::{AllocError, Global};
 use testlib_pictures::picture::{Picture, UNITS, VISIBLE};
 
-// How the pairs are passed: as one slice of structs, or as two lists of strengths.
+// How the pairs are passed: as one slice of structs, or as two lists of strengths. Kept as two lists below: the C entries take them so, and this tests it.
 #[derive(Clone, Copy, Debug, PartialEq, Eq)]
 pub enum Form {
     OneSlice,
@@ -17,16 +17,17 @@ pub enum Form {
 // What the three calls return, and the totals that they leave.
 #[derive(Drop)]
 pub struct Outcome {
-    pub answer: Result<(), Disagreement>,
+    pub answer: Result<(), NotCompared>,
     pub tried: Vec<i64>,
     pub measured: Vec<i64>,
 }
 
+// The outcome of a picture with its pairs in a form. The two lists are Kept, as above.
 pub fn picture(
     alloc: Global,
     form: Form,
     picture: &Picture,
-    damping: DampingChoice,
+    damping: Option<SignalledDamping>,
 ) -> Result<Outcome> {
     let inputs = Inputs::new(alloc, picture)?;
     let outcome = match form {
@@ -54,7 +55,7 @@ fn agreed<P: Pairs>(
     picture: &Picture,
     inputs: &Inputs,
     pairs: &P,
-    damping: DampingChoice,
+    damping: Option<SignalledDamping>,
 ) -> Result<Outcome, AllocError> {
     let mut tried = vec![in alloc; 0i64; 12 * UNITS]?;
     let mut dst = vec![in alloc; 0u16; inputs.snapshot.len()]?;

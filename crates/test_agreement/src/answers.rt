@@ -1,5 +1,5 @@
 // What applying returns for a list of one pair so many times, for a flat luma picture of 64 by 128: two units.
-use cdef_spec::{DampingChoice, Picture, PlaneKind, Refusal, SignalledDamping, UnitPair};
+use cdef_spec::{Picture, PlaneKind, Refusal, SignalledDamping, UnitPair};
 use std::alloc::{AllocError, Global};
 use std::io;
 
@@ -67,6 +67,6 @@ fn applied(alloc: Global, times: usize, pair: UnitPair) -> Result<Result<(), Ref
         &[100; 8192],
         &picture,
         &pairs,
-        DampingChoice::Given(SignalledDamping(5)),
+        Some(SignalledDamping(5)),
     ))
 }

@@ -9,8 +9,8 @@ mod inputs; // inputs.rt: what the three calls are given
 
 use agreed::Form;
 use anyhow::Result;
-use cdef_agree::Disagreement;
-use cdef_spec::{DampingChoice, SignalledDamping};
+use cdef_agree::NotCompared;
+use cdef_spec::SignalledDamping;
 use std::io;
 use testlib_pictures::picture::Picture;
 use testlib_pictures::report;
@@ -40,32 +40,33 @@ fn pictures(rt: &(impl Print + AllocGlobal), form: Form) -> Result<()> {
 }
 
 // Luma is given a signalled damping, chroma that of quality index 120, by its call.
-fn stated(picture: &Picture) -> Result<DampingChoice> {
+fn stated(picture: &Picture) -> Result<Option<SignalledDamping>> {
     if picture.is_luma() {
-        return Ok(DampingChoice::Given(SignalledDamping(5)));
+        return Ok(Some(SignalledDamping(5)));
     }
-    Ok(DampingChoice::Given(cdef_blocks::numbers::damping(120)?))
+    Ok(Some(cdef_blocks::numbers::damping(120)?))
 }
 
 // The totals tried with no damping stated, and those measured after applying with damping 3.
 fn unstated(rt: &(impl Print + AllocGlobal), picture: &Picture) -> Result<()> {
-    let three = DampingChoice::Given(SignalledDamping(3));
+    let three = Some(SignalledDamping(3));
     let applied = agreed::picture(rt.alloc(), Form::TwoLists, picture, three)?;
-    let found = agreed::picture(rt.alloc(), Form::TwoLists, picture, DampingChoice::Unstated)?;
+    let found = agreed::picture(rt.alloc(), Form::TwoLists, picture, None)?;
     report::totals(rt, picture, &found.tried, &applied.measured)?;
     outcome(rt, applied.answer)?;
     outcome(rt, found.answer)?;
     Ok(())
 }
 
-// The calls by number: 0 where a pair is none of the twelve, 1 trying, 2 applying, 3 measuring.
-fn outcome(rt: &impl Print, answer: Result<(), Disagreement>) -> io::Result<()> {
+// Of a difference the call is printed by its number: 0 where a pair is none of the twelve, 1 trying, 2 applying, 3 measuring.
+// Kept as numbers: they are text that is printed; the calls are the variants of NotCompared.
+fn outcome(rt: &impl Print, answer: Result<(), NotCompared>) -> io::Result<()> {
     let (call, code) = match answer {
         Ok(()) => return println!(rt; "all agree"),
-        Err(Disagreement::NotTrialPairs) => (0, 0),
-        Err(Disagreement::Trying(refusal)) => (1, u32::from(refusal)),
-        Err(Disagreement::Applying(refusal)) => (2, u32::from(refusal)),
-        Err(Disagreement::Measuring(refusal)) => (3, u32::from(refusal)),
+        Err(NotCompared::NotTrialPairs) => (0, 0),
+        Err(NotCompared::Trying(refusal)) => (1, u32::from(refusal)),
+        Err(NotCompared::Applying(refusal)) => (2, u32::from(refusal)),
+        Err(NotCompared::Measuring(refusal)) => (3, u32::from(refusal)),
     };
     println!(rt; "different: call {call}, error code {code}")
 }

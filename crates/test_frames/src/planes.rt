@@ -1,5 +1,5 @@
 // The planes of a frame, filtered and compared with the recorded ones.
-use cdef_spec::{DampingChoice, Picture, Plane, PlaneKind, Refusal, SignalledDamping};
+use cdef_spec::{Picture, Plane, PlaneKind, Refusal, SignalledDamping};
 use std::alloc::{AllocError, Global};
 use std::io;
 use testlib_frame::frame::{Component, Frame};
@@ -77,8 +77,7 @@ fn applied(
     dst: &mut [u16],
 ) -> Result<Result<(), Refusal>, AllocError> {
     let header = frame.header;
-    let pris = frame.primaries(alloc, component)?;
-    let secs = frame.secondaries(alloc, component)?;
+    let pairs = frame.pairs(alloc, component)?;
     let kind = match component {
         Component::Y => PlaneKind::Luma { vars: &found.vars },
         Component::U | Component::V => PlaneKind::Chroma {
@@ -97,6 +96,6 @@ fn applied(
     if component == Component::Y && found.done.is_err() {
         return Ok(found.done);
     }
-    let damping = DampingChoice::Given(SignalledDamping(header.damping));
-    Ok(cdef_lists::apply_units(dst, before, &picture, &pris, &secs, damping))
+    let damping = Some(SignalledDamping(header.damping));
+    Ok(cdef::applying::apply_units(dst, before, &picture, &pairs, damping))
 }

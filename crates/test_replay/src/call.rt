@@ -4,9 +4,9 @@ use crate::case;
 use crate::chroma::ApplyChroma;
 use crate::distances::{Distance, Squares};
 use crate::numbers::{Adjust, Constrain, Damping, Log2Floor};
-use std::error::Error;
+use std::io;
 use std::str::FromStr;
-use std::{fmt, io};
+use thiserror::Error;
 
 // The calls in the order of their numbers.
 #[derive(Clone, Copy, Debug, PartialEq, Eq)]
@@ -24,20 +24,14 @@ pub enum Call {
 }
 
 // A text that is no call's number.
-#[derive(Clone, Copy, Debug, PartialEq, Eq)]
+#[derive(Clone, Copy, Debug, PartialEq, Eq, Error)]
+#[error("a line does not begin with a call's number")]
 pub struct UnknownCall;
-
-impl fmt::Display for UnknownCall {
-    fn fmt<W: fmt::Write>(&self, f: &mut fmt::Formatter<W>) -> fmt::Result {
-        f.write_str("a line does not begin with a call's number")
-    }
-}
-
-impl Error for UnknownCall {}
 
 impl FromStr for Call {
     type Err = UnknownCall;
 
+    // Kept as numbers: files.txt and the table of data/README.md name the calls by them.
     fn from_str(number: &str) -> Result<Self, UnknownCall> {
         match number {
             "0" => Ok(Call::Constrain),

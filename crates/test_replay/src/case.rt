@@ -27,7 +27,7 @@ pub fn stored<T: Default>(returned: Result<T, Refusal>) -> (u32, T)
 }
 
 // Whether a line is a case that holds.
-fn is_same<C: Case>(alloc: Global, line: &str) -> Result<bool, AllocError> {
+fn is_held<C: Case>(alloc: Global, line: &str) -> Result<bool, AllocError> {
     match C::parse(Numbers::new(alloc, line)) {
         Ok(case) => Ok(case.holds()),
         Err(LineError::OutOfMemory(e)) => Err(e),
@@ -37,13 +37,13 @@ fn is_same<C: Case>(alloc: Global, line: &str) -> Result<bool, AllocError> {
 
 // How many cases of a text hold; every other line is printed. A line that begins with # is a comment.
 pub fn replayed<C: Case>(rt: &(impl Print + AllocGlobal), text: &str) -> io::Result<usize> {
-    let mut same: usize = 0;
+    let mut held: usize = 0;
     for line in text.lines().filter(|line| !line.starts_with('#')) {
-        if is_same::<C>(rt.alloc(), line)? {
-            same = same.saturating_add(1);
+        if is_held::<C>(rt.alloc(), line)? {
+            held = held.saturating_add(1);
         } else {
             println!(rt; "different: {line}")?;
         }
     }
-    Ok(same)
+    Ok(held)
 }

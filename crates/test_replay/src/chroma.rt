@@ -1,6 +1,6 @@
 // Applying in chroma to a picture of 8 by 8 samples of luma.
 use crate::case::{Case, stored};
-use cdef_spec::{DampingChoice, Picture, PlaneKind, SignalledDamping};
+use cdef_spec::{Picture, PlaneKind, SignalledDamping};
 use testlib_lines::numbers::{LineError, Numbers};
 
 // depth sx sy dir pri sec damping place code sample, and the plane: the sample at a place after applying;
@@ -13,7 +13,7 @@ pub struct ApplyChroma {
     dir: u8,
     pri: u8,
     sec: u8,
-    damping: DampingChoice,
+    damping: Option<SignalledDamping>,
     place: usize,
     code: u32,
     sample: u16,
@@ -21,10 +21,10 @@ pub struct ApplyChroma {
     dst: Vec<u16>,
 }
 
-fn damping(stored: u8) -> DampingChoice {
+fn damping(stored: u8) -> Option<SignalledDamping> {
     match stored {
-        0 => DampingChoice::Unstated,
-        _ => DampingChoice::Given(SignalledDamping(stored)),
+        0 => None,
+        _ => Some(SignalledDamping(stored)),
     }
 }
 
@@ -71,6 +71,7 @@ impl Case for ApplyChroma {
             skip: &[0],
             dirs: &[self.dir],
         };
+        // Kept as two lists: the C entries take them so, and this tests it.
         let done = cdef_lists::apply_units(
             &mut dst,
             &self.plane,

@@ -1,4 +1,5 @@
 // The calls on numbers.
+// Kept: a `parse` for each case, since each names its own fields; a macro would need the same names and their types once more.
 use crate::case::{Case, stored};
 use cdef_blocks::numbers;
 use cdef_spec::WorkingDamping;

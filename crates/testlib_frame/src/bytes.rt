@@ -2,24 +2,17 @@
 ghost use Rattle.std.specs.Prelude.{◌≡◌, length, IfOk};
 
 use std::num::TryFromIntError;
+use thiserror::Error;
 
 // Why a file is not a frame.
-#[derive(Clone, Copy, Debug, PartialEq, Eq)]
+#[derive(Clone, Copy, Debug, PartialEq, Eq, Error)]
 pub enum FrameError {
-    // It does not begin with CDEFRAW1.
+    #[error("it does not begin with CDEFRAW1")]
     Mark,
-
-    // A number of its header is outside the range that is read here.
-    Number,
-
-    // It is not as long as its header says.
+    #[error("a number of its header is outside the range that is read here: {0}")]
+    Number(#[from] TryFromIntError),
+    #[error("it is not as long as its header says")]
     Length,
-}
-
-impl From<TryFromIntError> for FrameError {
-    fn from(_e: TryFromIntError) -> FrameError {
-        FrameError::Number
-    }
 }
 
 // What of a file has not been read.

@@ -1,8 +1,9 @@
 // The flags, the strengths and the samples of a file.
-ghost use Rattle.std.specs.Prelude.{◌≡◌, ◌*◌, length, IfOk};
+ghost use Rattle.std.specs.Prelude.{◌≡◌, ◌*◌, length, vec_len, IfOk};
 
 use crate::bytes::{Bytes, FrameError};
 use crate::header::Header;
+use cdef_spec::UnitPair;
 use std::alloc::{AllocError, Global};
 
 // Which plane of a frame.
@@ -53,11 +54,14 @@ pub struct Frame<'a> {
     after: Planes<'a>,
 }
 
-// A coded secondary strength of 3 means 4.
-fn secondary(set: u8) -> u8 {
-    match set % 4 {
-        3 => 4,
-        coded => coded,
+// The pair of a set; a coded secondary strength of 3 means 4.
+fn pair(set: u8) -> UnitPair {
+    UnitPair {
+        primary: set / 4,
+        secondary: match set % 4 {
+            3 => 4,
+            coded => coded,
+        },
     }
 }
 
@@ -96,19 +100,13 @@ impl<'a> Frame<'a> {
         sets.get(usize::from(index)).copied().unwrap_or(0)
     }
 
-    // The primary strength of each unit.
-    pub fn primaries(&self, alloc: Global, component: Component) -> Result<Vec<u8>, AllocError> {
+    // The pair of each unit.
+    pub fn pairs(&self, alloc: Global, component: Component) -> Result<Vec<UnitPair>, AllocError>
+        ensures { IfOk result (λ pairs. vec_len pairs ≡ length self.now.indices.now) }
+    {
         self.indices
             .iter()
-            .map(|&index| self.set(component, index) / 4)
-            .collect(alloc)
-    }
-
-    // The secondary strength of each unit.
-    pub fn secondaries(&self, alloc: Global, component: Component) -> Result<Vec<u8>, AllocError> {
-        self.indices
-            .iter()
-            .map(|&index| secondary(self.set(component, index)))
+            .map(|&index| pair(self.set(component, index)))
             .collect(alloc)
     }
 

@@ -1,5 +1,5 @@
 // The numbers at the head of a file.
-ghost use Rattle.std.specs.Prelude.{◌≡◌, ◌*◌, ◌^◌, ◌<◌};
+ghost use Rattle.std.specs.Prelude.{◌≡◌, ◌*◌, ◌^◌, ◌<◌, cond, eqb};
 
 use crate::bytes::{Bytes, FrameError};
 
@@ -9,12 +9,14 @@ pub struct Header {
     pub depth: u8,
     pub sx: u8,
     pub sy: u8,
+    // Kept as the file stores it: test_frames prints sx and sy of a monochrome frame too, which an Option of both would lose.
     pub monochrome: bool,
     pub width: u16,
     pub height: u16,
     pub damping: u8,
     pub units: Grid,
     pub blocks: Grid,
+    // Kept as the file stores it: the sets and the indices stand in the file where it is off too.
     pub enabled: bool,
 }
 
@@ -77,7 +79,7 @@ impl Header {
     // The samples of the luma plane, and of a chroma plane.
     pub fn luma_samples(&self) -> usize
         ensures bound { result < 2 ^ 32 }
-        ensures value { result ≡ self.now.width * self.now.height }
+        ensures area { result ≡ self.now.width * self.now.height }
     {
         usize::from(self.width) * usize::from(self.height)
     }
@@ -94,6 +96,7 @@ impl Header {
     // The bytes of so many samples.
     pub fn bytes_of(&self, samples: usize) -> usize
         requires { samples < 2 ^ 32 }
+        ensures { result ≡ cond (eqb self.now.depth 8) samples (2 * samples) }
     {
         if self.depth == 8 {
             samples

@@ -3,27 +3,19 @@ ghost use Rattle.std.specs.Prelude.{◌≡◌, IfOk, vec_len};
 
 use std::alloc::{AllocError, Global};
 use std::str::{FromStr, Split};
+use thiserror::Error;
 
 // Why a line is not of the form that is read.
-#[derive(Clone, Copy, Debug, PartialEq, Eq)]
+#[derive(Clone, Copy, Debug, PartialEq, Eq, Error)]
 pub enum LineError {
-    // A number is missing.
+    #[error("a number is missing")]
     Missing,
-
-    // What stands there is no number, or is one outside the range of its type.
+    #[error("no number, or one outside the range of its type")]
     NotANumber,
-
-    // More stands behind the last number.
+    #[error("more stands behind the last number")]
     LeftOver,
-
-    // There is no memory for the samples.
-    OutOfMemory(AllocError),
-}
-
-impl From<AllocError> for LineError {
-    fn from(e: AllocError) -> LineError {
-        LineError::OutOfMemory(e)
-    }
+    #[error(transparent)]
+    OutOfMemory(#[from(alloc)] AllocError),
 }
 
 // What of a line has not been read.
@@ -41,11 +33,14 @@ impl<'a> Numbers<'a> {
         }
     }
 
-    pub fn alloc(&self) -> Global {
+    pub fn alloc(&self) -> Global
+        ensures { result ≡ self.now.alloc }
+    {
         self.alloc
     }
 
     // The next number.
+    // Kept beside `parse`: it joins `next`, which gives an Option, and `parse`, whose error is each type's own, to one LineError for some twenty callers.
     pub fn number<N: FromStr>(&mut self) -> Result<N, LineError>
     where
         N::Err: Drop,

@@ -1,5 +1,5 @@
 // What makes a picture, and its samples and pairs.
-ghost use Rattle.std.specs.Prelude.{◌≤◌, ◌<◌};
+ghost use Rattle.std.specs.Prelude.{◌≡◌, ◌*◌, ◌≤◌, ◌<◌, IfOk, vec_len};
 
 use crate::samples;
 use cdef_spec::{UnitPair, Visible};
@@ -79,7 +79,9 @@ impl Picture {
     }
 
     // The luma picture with the same grain.
-    pub fn luma(&self, alloc: Global) -> Result<Vec<u16>, AllocError> {
+    pub fn luma(&self, alloc: Global) -> Result<Vec<u16>, AllocError>
+        ensures { IfOk result (λ samples. vec_len samples ≡ WIDTH * HEIGHT) }
+    {
         samples::plane(
             alloc,
             WIDTH * HEIGHT,
@@ -101,7 +103,9 @@ impl Picture {
     }
 
     // The pair of each unit.
-    pub fn pairs(&self, alloc: Global) -> Result<Vec<UnitPair>, AllocError> {
+    pub fn pairs(&self, alloc: Global) -> Result<Vec<UnitPair>, AllocError>
+        ensures { IfOk result (λ pairs. vec_len pairs ≡ UNITS) }
+    {
         (0..UNITS).map(|unit| self.pair(unit)).collect(alloc)
     }
 }

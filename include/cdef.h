@@ -40,7 +40,8 @@
  *   every working strength from 0 up to 15 (primary) or 4 (secondary) shifted left by
  *   depth - 8. quern_constrain and quern_adjust_pri: 0 to 240.
  * - Signalled damping 3 to 6 (frame calls where unstated is 0, quern_luma_damping,
- *   quern_chroma_damping). Working damping 0 to 31. Quality index (the frame header's
+ *   quern_chroma_damping). Working damping 0 to 31; the block filter and the trial take 0
+ *   as 1, quern_constrain leaves it 0. Quality index (the frame header's
  *   base_q_idx) 0 to 255.
  *
  * Samples examined by question 9
@@ -95,7 +96,8 @@ uint32_t quern_direction(const uint16_t *plane, size_t plane_len, size_t width, 
  * in 4:2:2 chroma (sx 1, sy 0) to 7, 0, 2, 4, 5, 6, 6, 6 and in 4:4:0 chroma (sx 0, sy 1)
  * to 1, 2, 2, 2, 3, 4, 6, 0.
  * dst holds whole rows, of which the first is the plane's row y0.
- * Validates 1, 2, 4, 5, 6, 8, 9. Writes the block's positions in dst, except marked ones. */
+ * Validates 1, 2, 4, 5, 6, 8, 9. Writes the block's positions in dst, except those that are
+ * marked or off the plane. */
 uint32_t quern_filter_block(uint16_t *dst, size_t dst_len, size_t y0, const uint16_t *plane,
                             size_t plane_len, size_t width, size_t height, size_t x, size_t y,
                             size_t bw, size_t bh, uint32_t pri, uint32_t sec, uint8_t dir,

@@ -1,5 +1,6 @@
 // Trying: one block of a plane.
-// Kept with a block's place and the constants in the contract: `BlockInput { input: CompareInput, by, bx, ghost inside }` would copy the picture for each block, and the constants, its depth's, are made once for all blocks.
+// Kept with a block's place and the constants in the contract: `BlockInput { input: CompareInput, by, bx, ghost inside }` would copy the picture for each block,
+// and the constants, its depth's, are made once for all blocks.
 #![tactic(auto)]
 
 ghost use Rattle.std.specs.Prelude.{◌≡◌, ◌+◌, ◌<◌, length};

@@ -7,6 +7,7 @@ ghost use Rattle.cdef_spec.specs.Lent.{picture_in};
 ghost use Rattle.cdef_spec.specs.Demand3.{Agrees};
 ghost use Rattle.cdef_agree.specs.Agree.{read_agreement, agree_by_outcome};
 
+use cdef::applying::apply_pairs;
 use cdef_pairs::Pairs;
 use cdef_spec::{Picture, Refusal, SignalledDamping, UnitPair, Visible};
 
@@ -50,7 +51,7 @@ pub fn agree_units<P: Pairs>(
         return Err(NotCompared::NotTrialPairs);
     }
     agree_parts::copy(dst, snapshot);
-    frame_calls::applying(dst, snapshot, picture, pairs, damping).map_err(NotCompared::Applying)?;
+    apply_pairs(dst, snapshot, picture, pairs, damping).map_err(NotCompared::Applying)?;
     // Kept as its two numbers, as the definition `off` and the sentence above the function have them: a constant would be used once here.
     let off = UnitPair {
         primary: 0,

@@ -55,11 +55,11 @@ impl<'a> Pairs for PairSlice<'a> {
     ghost taken = { λ s. all_taken pair_taken s.units.now };
 
     fn is_listed(&self, n: usize) -> bool {
-        self.units.len() == n
+        check_lists::has_length(self.units, n)
     }
 
     fn are_taken(&self) -> bool {
-        self.units.iter().all(|p| check_values::pair_taken(*p))
+        check_lists::all_pairs(self.units)
     }
 
     fn count(&self) -> usize {
@@ -89,13 +89,11 @@ impl<'a> Pairs for StrengthLists<'a> {
     ghost taken = { λ s. all_taken primary_taken s.pris.now && all_taken secondary_taken s.secs.now };
 
     fn is_listed(&self, n: usize) -> bool {
-        self.pris.len() == n && self.secs.len() == n
+        check_lists::has_length(self.pris, n) && check_lists::has_length(self.secs, n)
     }
 
     fn are_taken(&self) -> bool {
-        let primaries = self.pris.iter().all(|n| check_values::primary_taken(*n));
-        let secondaries = self.secs.iter().all(|n| check_values::secondary_taken(*n));
-        primaries && secondaries
+        check_lists::all_primary(self.pris) && check_lists::all_secondary(self.secs)
     }
 
     fn count(&self) -> usize {

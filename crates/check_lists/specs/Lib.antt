@@ -1,3 +1,4 @@
 -- Laws of whole lists.
+pub mod EachLaws
 pub mod Quarters
 pub mod ListLaws

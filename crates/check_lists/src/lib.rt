@@ -1,11 +1,20 @@
-// Questions 8 and 9 of whole lists, each test with its definition's name.
+// Questions 7, 8 and 9 of whole lists, each test with its definition's name.
 // Kept as a clause, depth ≤ 12: question 1 has passed it, and every call below takes the plain number.
 #![tactic(auto)]
 
-ghost use Rattle.std.specs.Prelude.{◌≡◌, ◌^◌, ◌≤◌};
+ghost use Rattle.std.specs.Prelude.{◌≡◌, ◌^◌, ◌≤◌, eqb, length};
 ghost use Rattle.std.specs.List.{list_all};
 ghost use Rattle.std.specs.Ordering.{partial_lt};
-ghost use Rattle.cdef_spec.specs.Questions.{all_below};
+ghost use Rattle.cdef_spec.specs.Questions.{all_below, all_taken, primary_taken, secondary_taken, pair_taken};
+
+use cdef_spec::UnitPair;
+
+// 7: the list has n entries.
+pub fn has_length<T>(list: &[T], n: usize) -> bool
+    ensures { result ≡ eqb (length list.now) n }
+{
+    list.len() == n
+}
 
 // Every entry is below m.
 pub fn all_below<T: PartialOrd>(list: &[T], m: &T) -> bool
@@ -29,4 +38,25 @@ pub fn samples_below(list: &[u16], depth: u8) -> bool
     }
     bits |= check_samples::bits_of(&list[4 * n..]);
     bits >> depth == 0
+}
+
+// 8: every primary strength is 0 to 15.
+pub fn all_primary(list: &[u8]) -> bool
+    ensures { result ≡ all_taken primary_taken list.now }
+{
+    list.iter().all(|n| check_values::primary_taken(*n))
+}
+
+// 8: every secondary strength is 0, 1, 2 or 4.
+pub fn all_secondary(list: &[u8]) -> bool
+    ensures { result ≡ all_taken secondary_taken list.now }
+{
+    list.iter().all(|n| check_values::secondary_taken(*n))
+}
+
+// 8: both strengths of every pair.
+pub fn all_pairs(list: &[UnitPair]) -> bool
+    ensures { result ≡ all_taken pair_taken list.now }
+{
+    list.iter().all(|p| check_values::pair_taken(*p))
 }

@@ -7,7 +7,7 @@ ghost use Rattle.std.specs.Prelude.{◌≡◌, true, [], ◌∷◌, ◌*◌, ◌
 ghost use Rattle.cdef_spec.specs.Answers.{code_of};
 ghost use Rattle.cdef_spec.specs.Lent.{kind_in, picture_in};
 ghost use Rattle.cdef_spec.specs.Picture.{plane_width, plane_height};
-ghost use Rattle.cdef_spec.specs.Questions.{first_no, flags_taken, picture_listed, variances_listed, visible_taken, variances_taken, picture_taken};
+ghost use Rattle.cdef_spec.specs.Questions.{first_no, flags_taken, picture_listed, variances_listed, visible_taken, variances_taken, picture_taken, all_below};
 ghost use Rattle.frame_shape.specs.Checked.{shaped_in, listed_in};
 ghost use Rattle.check_picture.specs.Parts.{sides_first, shape_first, lists_next, values_next, samples_last};
 
@@ -114,18 +114,36 @@ fn variances_taken(kind: &PlaneKind<'_>) -> bool
     }
 }
 
+// Every entry of a list of bytes is below m.
+fn bytes_below(list: &[u8], m: u8) -> bool
+    ensures { result ≡ all_below m list.now }
+{
+    check_lists::all_below(list, &m)
+}
+
 // 8: flags, directions, variances and the figure in force.
 #[tactic(auto, unfolding(cdef_spec::specs::Questions::picture_taken, cdef_spec::specs::Lent::picture_in))]
 fn picture_taken(picture: &Picture<'_>, d: SignalledDamping) -> bool
     ensures { result ≡ picture_taken (picture_in picture.now) d }
 {
-    let flags = check_lists::all_below(picture.skip, &2);
-    let dirs = check_lists::all_below(picture.dirs, &8);
-    flags && dirs && variances_taken(&picture.kind) && check_values::signalled_taken(d)
+    bytes_below(picture.skip, 2)
+        && bytes_below(picture.dirs, 8)
+        && variances_taken(&picture.kind)
+        && check_values::signalled_taken(d)
 }
 
-// 8 of the lists per block and of the figure in force.
+// 8 of the lists per block and of the figure in force, whatever their lengths.
 #[tactic(auto, unfolding(cdef_spec::specs::Questions::first_no, cdef_spec::specs::Answers::code_of, cdef_spec::specs::Answers::error_code))]
+pub fn values_no(shaped: &ShapedPicture<'_>, d: SignalledDamping) -> Result<(), Refusal>
+    ensures { code_of result ≡ first_no (values_next (shaped_in shaped.now) d) }
+{
+    if !picture_taken(&shaped.picture, d) {
+        return Err(Refusal::Values);
+    }
+    Ok(())
+}
+
+// The same where 7 has passed, which makes a listed picture.
 pub fn values<'a>(
     shaped: &ShapedPicture<'a>,
     d: SignalledDamping,
@@ -134,9 +152,7 @@ pub fn values<'a>(
     ensures refusal { code_of result ≡ first_no (values_next (shaped_in shaped.now) d) }
     ensures picture { IfOk result (λ q. listed_in q ≡ shaped_in shaped.now) }
 {
-    if !picture_taken(&shaped.picture, d) {
-        return Err(Refusal::Values);
-    }
+    values_no(shaped, d)?;
     Ok(ListedPicture { shaped: *shaped })
 }
 

@@ -1,11 +1,16 @@
 -- Where the taps of a row lie.
-use Rattle.std.specs.Prelude.{◌≡◌, ℕ, ◌+◌, ◌^◌, ◌<◌, ◌≤◌}
+use Rattle.std.specs.Prelude.{◌≡◌, ℕ, ◌+◌, ◌%◌, ◌^◌, ◌<◌, ◌≤◌}
 use Rattle.std.proofs.Common.{arith}
 use Rattle.filter_rows.specs.Place.{on_from, back_from}
 use Rattle.filter_rows.specs.declared.Taps.{Taps}
 use Rattle.plane_taps.specs.StepLaws.{on-near, back-near, on-more, back_more}
 use Rattle.plane_taps.specs.Steps.{Reach, Reach6}
 use Rattle.plane_taps.specs.Reach.{Reached, Reached6, Along, Around}
+
+-- the index from which an offset leads to k
+pub back_any : (k o r : ℕ) → o < 2 ^ 64 → r < 2 ^ 64 → (r + o) % 2 ^ 64 ≡ k → r ≡ back_from k o
+unfolding back_from
+back_any k o r ho hr e = omega arith
 
 -- ---- one offset
 

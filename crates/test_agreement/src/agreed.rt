@@ -1,6 +1,5 @@
 // Trying, applying and measuring a picture with its pairs.
 use crate::inputs::Inputs;
-use anyhow::Result;
 use cdef_agree::NotCompared;
 use cdef_pairs::{PairSlice, Pairs, StrengthLists};
 use cdef_spec::SignalledDamping;
@@ -28,7 +27,7 @@ pub fn picture(
     form: Form,
     picture: &Picture,
     damping: Option<SignalledDamping>,
-) -> Result<Outcome> {
+) -> Result<Outcome, AllocError> {
     let inputs = Inputs::new(alloc, picture)?;
     let outcome = match form {
         Form::OneSlice => {

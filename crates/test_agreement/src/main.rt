@@ -8,7 +8,6 @@ mod answers; // answers.rt: applying with some pairs
 mod inputs; // inputs.rt: what the three calls are given
 
 use agreed::Form;
-use anyhow::Result;
 use cdef_agree::NotCompared;
 use cdef_spec::SignalledDamping;
 use std::io;
@@ -16,7 +15,7 @@ use testlib_pictures::picture::Picture;
 use testlib_pictures::report;
 use testlib_pictures::table::{PICTURES, UNSTATED};
 
-fn main(rt: HostRuntime) -> Result<()> {
+fn main(rt: HostRuntime) -> io::Result<()> {
     println!(rt; "pairs as two lists")?;
     pictures(&rt, Form::TwoLists)?;
     println!(rt; "pairs as one slice")?;
@@ -26,13 +25,12 @@ fn main(rt: HostRuntime) -> Result<()> {
         unstated(&rt, picture)?;
     }
     println!(rt; "lists of other lengths")?;
-    answers::lines(&rt)?;
-    Ok(())
+    answers::lines(&rt)
 }
 
-fn pictures(rt: &(impl Print + AllocGlobal), form: Form) -> Result<()> {
+fn pictures(rt: &(impl Print + AllocGlobal), form: Form) -> io::Result<()> {
     for picture in &PICTURES {
-        let found = agreed::picture(rt.alloc(), form, picture, stated(picture)?)?;
+        let found = agreed::picture(rt.alloc(), form, picture, stated(picture))?;
         report::totals(rt, picture, &found.tried, &found.measured)?;
         outcome(rt, found.answer)?;
     }
@@ -40,22 +38,21 @@ fn pictures(rt: &(impl Print + AllocGlobal), form: Form) -> Result<()> {
 }
 
 // Luma is given a signalled damping, chroma that of quality index 120, by its call.
-fn stated(picture: &Picture) -> Result<Option<SignalledDamping>> {
+fn stated(picture: &Picture) -> Option<SignalledDamping> {
     if picture.is_luma() {
-        return Ok(Some(SignalledDamping(5)));
+        return Some(SignalledDamping(5));
     }
-    Ok(Some(cdef_blocks::numbers::damping(120)?))
+    cdef_blocks::numbers::damping(120).ok()
 }
 
 // The totals tried with no damping stated, and those measured after applying with damping 3.
-fn unstated(rt: &(impl Print + AllocGlobal), picture: &Picture) -> Result<()> {
+fn unstated(rt: &(impl Print + AllocGlobal), picture: &Picture) -> io::Result<()> {
     let three = Some(SignalledDamping(3));
     let applied = agreed::picture(rt.alloc(), Form::TwoLists, picture, three)?;
     let found = agreed::picture(rt.alloc(), Form::TwoLists, picture, None)?;
     report::totals(rt, picture, &found.tried, &applied.measured)?;
     outcome(rt, applied.answer)?;
-    outcome(rt, found.answer)?;
-    Ok(())
+    outcome(rt, found.answer)
 }
 
 // Of a difference the call is printed by its number: 0 where a pair is none of the twelve, 1 trying, 2 applying, 3 measuring.

@@ -3,6 +3,13 @@ use cdef_spec::{Picture, Plane, PlaneKind, Refusal, SignalledDamping};
 use std::alloc::{AllocError, Global};
 use std::io;
 use testlib_frame::frame::{Component, Frame};
+use testlib_frame::header::small;
+
+// The most blocks of a frame whose skip flags are gone on with; those that follow are left out.
+const MOST_BLOCKS: usize = 4_800;
+
+// The most units of a frame whose pairs are gone on with; those that follow are left out.
+const MOST_UNITS: usize = 80;
 
 // The directions and the variances of a frame's blocks, which are luma's before CDEF, and what the call for them returned.
 #[derive(Drop)]
@@ -21,7 +28,7 @@ pub fn compared(rt: &(impl Print + AllocGlobal), frame: &Frame<'_>) -> io::Resul
         header.depth,
         header.sx,
         header.sy,
-        frame.skip.len()
+        flags(frame).len()
     )?;
     let found = directed(rt.alloc(), frame)?;
     plane(rt, frame, Component::Y, &found)?;
@@ -32,17 +39,22 @@ pub fn compared(rt: &(impl Print + AllocGlobal), frame: &Frame<'_>) -> io::Resul
     Ok(())
 }
 
+// The skip flags of a frame, the first MOST_BLOCKS at most.
+fn flags<'a>(frame: &Frame<'a>) -> &'a [u8] {
+    frame.skip.get(..MOST_BLOCKS).unwrap_or(frame.skip)
+}
+
 fn directed(alloc: Global, frame: &Frame<'_>) -> Result<Directions, AllocError> {
     let header = frame.header;
     let samples = frame.before(alloc, Component::Y)?;
-    let mut dirs = vec![in alloc; 0u8; frame.skip.len()]?;
-    let mut vars = vec![in alloc; 0u32; frame.skip.len()]?;
+    let mut dirs = vec![in alloc; 0u8; flags(frame).len()]?;
+    let mut vars = vec![in alloc; 0u32; flags(frame).len()]?;
     let luma = Plane {
         samples: &samples,
         width: usize::from(header.width),
         height: usize::from(header.height),
     };
-    let done = cdef::pass::directions(&mut dirs, &mut vars, &luma, header.depth);
+    let done = cdef::pass::directions(&mut dirs, &mut vars, &luma, small(header.depth));
     Ok(Directions { dirs, vars, done })
 }
 
@@ -77,20 +89,21 @@ fn applied(
     dst: &mut [u16],
 ) -> Result<Result<(), Refusal>, AllocError> {
     let header = frame.header;
-    let pairs = frame.pairs(alloc, component)?;
+    let mut pairs = frame.pairs(alloc, component)?;
+    pairs.truncate(MOST_UNITS);
     let kind = match component {
         Component::Y => PlaneKind::Luma { vars: &found.vars },
         Component::U | Component::V => PlaneKind::Chroma {
-            sx: header.sx,
-            sy: header.sy,
+            sx: small(header.sx),
+            sy: small(header.sy),
         },
     };
     let picture = Picture {
         kind,
-        depth: header.depth,
+        depth: small(header.depth),
         width: usize::from(header.width),
         height: usize::from(header.height),
-        skip: frame.skip,
+        skip: flags(frame),
         dirs: &found.dirs,
     };
     if component == Component::Y && found.done.is_err() {

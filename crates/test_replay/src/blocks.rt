@@ -1,7 +1,16 @@
 // The calls on a block.
+ghost use Rattle.std.specs.Prelude.{◌≤◌};
+
 use crate::case::{Case, stored};
 use cdef_spec::{Block, FilterParams, Plane, TrialWay, WorkingDamping};
-use testlib_lines::numbers::{LineError, Numbers};
+use std::alloc::AllocError;
+use testlib_lines::numbers::Numbers;
+
+// The most samples of a plane or of a destination that a case can have here.
+const MOST: usize = 8192;
+
+// The most places that a trial can have here.
+const MOST_PLACES: usize = 1024;
 
 // depth width height x y code direction variance, and the plane
 #[derive(Drop)]
@@ -11,20 +20,20 @@ pub struct Direction {
     height: usize,
     x: usize,
     y: usize,
-    stored: (u32, (u8, u32)),
+    stored: (u64, (u64, u64)),
     plane: Vec<u16>,
 }
 
 impl Case for Direction {
-    fn parse(mut line: Numbers<'_>) -> Result<Self, LineError> {
+    fn parse(mut line: Numbers<'_>) -> Result<Self, AllocError> {
         Ok(Direction {
-            depth: line.number()?,
-            width: line.number()?,
-            height: line.number()?,
-            x: line.number()?,
-            y: line.number()?,
-            stored: (line.number()?, (line.number()?, line.number()?)),
-            plane: line.rest()?,
+            depth: line.byte(),
+            width: line.size(),
+            height: line.size(),
+            x: line.size(),
+            y: line.size(),
+            stored: (line.number(), (line.number(), line.number())),
+            plane: line.samples_up_to(MOST)?,
         })
     }
 
@@ -35,22 +44,37 @@ impl Case for Direction {
             height: self.height,
         };
         let found = cdef_blocks::direction::direction(&plane, self.x, self.y, self.depth);
-        stored(found.map(|found| (found.direction, found.variance))) == self.stored
+        stored(found.map(|found| (u64::from(found.direction), u64::from(found.variance))))
+            == self.stored
     }
 }
 
-fn block(line: &mut Numbers<'_>) -> Result<Block, LineError> {
-    Ok(Block {
-        x: line.number()?,
-        y: line.number()?,
-        width: line.number()?,
-        height: line.number()?,
-    })
+fn block(line: &mut Numbers<'_>) -> Block {
+    Block {
+        x: line.size(),
+        y: line.size(),
+        width: line.size(),
+        height: line.size(),
+    }
 }
 
-// As many samples as two sides say; no line has as many as do not fit.
-fn area(line: &mut Numbers<'_>, width: usize, height: usize) -> Result<Vec<u16>, LineError> {
-    line.samples(width.checked_mul(height).ok_or(LineError::Missing)?)
+// A side, 0 where it is above 8,192.
+fn side(stored: usize) -> usize
+    ensures { result ≤ 8192 }
+{
+    if MOST < stored {
+        return 0;
+    }
+    stored
+}
+
+fn area(width: usize, height: usize) -> usize {
+    side(width) * side(height)
+}
+
+// As many samples as two sides say, or as the line has and a case can have.
+fn samples(line: &mut Numbers<'_>, width: usize, height: usize) -> Result<Vec<u16>, AllocError> {
+    line.samples_up_to(area(width, height).min(MOST))
 }
 
 // depth width height x y bw bh y0 dst_rows pri sec dir damping code,
@@ -62,37 +86,42 @@ pub struct Filter {
     block: Block,
     y0: usize,
     params: FilterParams,
-    code: u32,
+    code: u64,
     plane: Vec<u16>,
     before: Vec<u16>,
-    after: Vec<u16>,
+    after: Vec<u64>,
 }
 
 impl Case for Filter {
-    fn parse(mut line: Numbers<'_>) -> Result<Self, LineError> {
-        let depth = line.number()?;
-        let width = line.number()?;
-        let height = line.number()?;
-        let block = block(&mut line)?;
-        let y0 = line.number()?;
-        let rows = line.number()?;
+    fn parse(mut line: Numbers<'_>) -> Result<Self, AllocError> {
+        let depth = line.byte();
+        let width = line.size();
+        let height = line.size();
+        let block = block(&mut line);
+        let y0 = line.size();
+        let rows = line.size();
         let params = FilterParams {
-            pri: line.number()?,
-            sec: line.number()?,
-            dir: line.number()?,
-            damping: WorkingDamping(line.number()?),
+            pri: line.word(),
+            sec: line.word(),
+            dir: line.byte(),
+            damping: WorkingDamping(line.byte()),
             depth,
         };
+        let code = line.number();
+        let plane = samples(&mut line, width, height)?;
+        let before = samples(&mut line, width, rows)?;
+        // One more than is compared, which tells a longer list.
+        let after = line.rest(before.len().saturating_add(1))?;
         Ok(Filter {
             width,
             height,
             block,
             y0,
             params,
-            code: line.number()?,
-            plane: area(&mut line, width, height)?,
-            before: area(&mut line, width, rows)?,
-            after: line.rest()?,
+            code,
+            plane,
+            before,
+            after,
         })
     }
 
@@ -110,7 +139,7 @@ impl Case for Filter {
             self.block,
             self.params,
         );
-        stored(done) == (self.code, ()) && dst == self.after
+        stored(done) == (self.code, ()) && is_stored(&dst, 64, &self.after, 0)
     }
 }
 
@@ -126,33 +155,33 @@ pub struct Trial {
     dir: u8,
     damping: WorkingDamping,
     places: Vec<u16>,
-    held: u16,
-    code: u32,
+    held: u64,
+    code: u64,
     plane: Vec<u16>,
-    blocks: Vec<u16>,
+    blocks: Vec<u64>,
 }
 
-fn way(line: &mut Numbers<'_>) -> Result<TrialWay, LineError> {
-    let luma: u8 = line.number()?;
-    let variance = line.number()?;
+fn way(line: &mut Numbers<'_>) -> TrialWay {
+    let luma = line.number();
+    let variance = line.word();
     match luma {
-        0 => Ok(TrialWay::Chroma),
-        _ => Ok(TrialWay::Luma(variance)),
+        0 => TrialWay::Chroma,
+        _ => TrialWay::Luma(variance),
     }
 }
 
 impl Case for Trial {
-    fn parse(mut line: Numbers<'_>) -> Result<Self, LineError> {
-        let depth = line.number()?;
-        let width = line.number()?;
-        let height = line.number()?;
-        let block = block(&mut line)?;
-        let way = way(&mut line)?;
-        let dir = line.number()?;
-        let damping = WorkingDamping(line.number()?);
-        let count = line.number()?;
-        let held = line.number()?;
-        let places = vec![in line.alloc(); held; count]?;
+    fn parse(mut line: Numbers<'_>) -> Result<Self, AllocError> {
+        let depth = line.byte();
+        let width = line.size();
+        let height = line.size();
+        let block = block(&mut line);
+        let way = way(&mut line);
+        let dir = line.byte();
+        let damping = WorkingDamping(line.byte());
+        let count = line.size().min(MOST_PLACES);
+        let held = line.number();
+        let places = vec![in line.alloc(); (held % 0x1_0000) as u16; count]?;
         Ok(Trial {
             depth,
             width,
@@ -163,9 +192,9 @@ impl Case for Trial {
             damping,
             places,
             held,
-            code: line.number()?,
-            plane: area(&mut line, width, height)?,
-            blocks: line.rest()?,
+            code: line.number(),
+            plane: samples(&mut line, width, height)?,
+            blocks: line.rest(MOST_PLACES + 1)?,
         })
     }
 
@@ -194,14 +223,14 @@ impl Trial {
     // The samples of each trial block that a line has stored: none where the call is rejected.
     fn stored_each(&self) -> usize {
         if self.code == 0 {
-            return self.block.width.saturating_mul(self.block.height);
+            return area(self.block.width, self.block.height);
         }
         0
     }
 }
 
 // A list in groups of 64: whether the first `each` of each 64 are those of the blocks in order and no more, and every other is `held`.
-fn is_stored(out: &[u16], each: usize, blocks: &[u16], held: u16) -> bool {
+fn is_stored(out: &[u16], each: usize, blocks: &[u64], held: u64) -> bool {
     let mut left = blocks.iter();
     let same = out.iter().enumerate().all(|(k, &sample)| {
         let expected = if k % 64 < each {
@@ -209,7 +238,7 @@ fn is_stored(out: &[u16], each: usize, blocks: &[u16], held: u16) -> bool {
         } else {
             Some(held)
         };
-        expected == Some(sample)
+        expected == Some(u64::from(sample))
     });
     same && left.next().is_none()
 }

@@ -5,8 +5,6 @@ use crate::chroma::ApplyChroma;
 use crate::distances::{Distance, Squares};
 use crate::numbers::{Adjust, Constrain, Damping, Log2Floor};
 use std::io;
-use std::str::FromStr;
-use thiserror::Error;
 
 // The calls in the order of their numbers.
 #[derive(Clone, Copy, Debug, PartialEq, Eq)]
@@ -23,35 +21,28 @@ pub enum Call {
     ApplyChroma,
 }
 
-// A text that is no call's number.
-#[derive(Clone, Copy, Debug, PartialEq, Eq, Error)]
-#[error("a line does not begin with a call's number")]
-pub struct UnknownCall;
-
-impl FromStr for Call {
-    type Err = UnknownCall;
-
+impl From<u64> for Call {
     // Kept as numbers: files.txt and the table of data/README.md name the calls by them.
-    fn from_str(number: &str) -> Result<Self, UnknownCall> {
+    // The last call has every number from 9 on, and where a line of the list has none.
+    fn from(number: u64) -> Self {
         match number {
-            "0" => Ok(Call::Constrain),
-            "1" => Ok(Call::Adjust),
-            "2" => Ok(Call::Damping),
-            "3" => Ok(Call::Log2Floor),
-            "4" => Ok(Call::Direction),
-            "5" => Ok(Call::Filter),
-            "6" => Ok(Call::Trial),
-            "7" => Ok(Call::Distance),
-            "8" => Ok(Call::Squares),
-            "9" => Ok(Call::ApplyChroma),
-            _ => Err(UnknownCall),
+            0 => Call::Constrain,
+            1 => Call::Adjust,
+            2 => Call::Damping,
+            3 => Call::Log2Floor,
+            4 => Call::Direction,
+            5 => Call::Filter,
+            6 => Call::Trial,
+            7 => Call::Distance,
+            8 => Call::Squares,
+            _ => Call::ApplyChroma,
         }
     }
 }
 
 impl Call {
     // How many cases of a text return what is stored.
-    pub fn replayed(self, rt: &(impl Print + AllocGlobal), text: &str) -> io::Result<usize> {
+    pub fn replayed(self, rt: &(impl Print + AllocGlobal), text: &[u8]) -> io::Result<usize> {
         match self {
             Call::Constrain => case::replayed::<Constrain>(rt, text),
             Call::Adjust => case::replayed::<Adjust>(rt, text),

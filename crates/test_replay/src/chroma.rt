@@ -1,7 +1,11 @@
 // Applying in chroma to a picture of 8 by 8 samples of luma.
 use crate::case::{Case, stored};
 use cdef_spec::{Picture, PlaneKind, SignalledDamping};
-use testlib_lines::numbers::{LineError, Numbers};
+use std::alloc::AllocError;
+use testlib_lines::numbers::{NONE, Numbers};
+
+// The most samples of a plane that a case can have here; a line's further ones are passed over.
+const MOST: usize = 64;
 
 // depth sx sy dir pri sec damping place code sample, and the plane: the sample at a place after applying;
 // dir is luma's, and the damping is 0 where none is stated
@@ -15,8 +19,8 @@ pub struct ApplyChroma {
     sec: u8,
     damping: Option<SignalledDamping>,
     place: usize,
-    code: u32,
-    sample: u16,
+    code: u64,
+    sample: u64,
     plane: Vec<u16>,
     dst: Vec<u16>,
 }
@@ -28,19 +32,24 @@ fn damping(stored: u8) -> Option<SignalledDamping> {
     }
 }
 
+// The sample at a place, NONE past the end of the plane: so is what a line stores that has no number there.
+fn sample_at(plane: &[u16], place: usize) -> u64 {
+    plane.get(place).map_or(NONE, |sample| u64::from(*sample))
+}
+
 impl Case for ApplyChroma {
-    fn parse(mut line: Numbers<'_>) -> Result<Self, LineError> {
-        let depth = line.number()?;
-        let sx = line.number()?;
-        let sy = line.number()?;
-        let dir = line.number()?;
-        let pri = line.number()?;
-        let sec = line.number()?;
-        let damping = damping(line.number()?);
-        let place = line.number()?;
-        let code = line.number()?;
-        let sample = line.number()?;
-        let plane = line.rest()?;
+    fn parse(mut line: Numbers<'_>) -> Result<Self, AllocError> {
+        let depth = line.byte();
+        let sx = line.byte();
+        let sy = line.byte();
+        let dir = line.byte();
+        let pri = line.byte();
+        let sec = line.byte();
+        let damping = damping(line.byte());
+        let place = line.size();
+        let code = line.number();
+        let sample = line.number();
+        let plane = line.samples_up_to(MOST)?;
         let dst = plane.clone()?;
         Ok(ApplyChroma {
             depth,
@@ -80,6 +89,6 @@ impl Case for ApplyChroma {
             &[self.sec],
             self.damping,
         );
-        stored(done) == (self.code, ()) && dst.get(self.place) == Some(&self.sample)
+        stored(done) == (self.code, ()) && sample_at(&dst, self.place) == self.sample
     }
 }

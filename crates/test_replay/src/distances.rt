@@ -2,7 +2,12 @@
 use crate::case::{Case, stored};
 use cdef_blocks::distance;
 use cdef_spec::Plane;
-use testlib_lines::numbers::{LineError, Numbers};
+use std::alloc::AllocError;
+use testlib_lines::numbers::Numbers;
+
+// The most samples of both planes that a case can have here; a line with more has half as many of the original,
+// and of the other one as many as this.
+const MOST: usize = 8400;
 
 // depth width height x y code answer, and the original plane and the other one, as many samples each
 #[derive(Drop)]
@@ -12,25 +17,25 @@ struct Planes {
     height: usize,
     x: usize,
     y: usize,
-    stored: (u32, i64),
+    stored: (u64, i64),
     samples: Vec<u16>,
 }
 
 impl Planes {
-    fn parse(mut line: Numbers<'_>) -> Result<Self, LineError> {
+    fn parse(mut line: Numbers<'_>) -> Result<Self, AllocError> {
         Ok(Planes {
-            depth: line.number()?,
-            width: line.number()?,
-            height: line.number()?,
-            x: line.number()?,
-            y: line.number()?,
-            stored: (line.number()?, line.number()?),
-            samples: line.rest()?,
+            depth: line.byte(),
+            width: line.size(),
+            height: line.size(),
+            x: line.size(),
+            y: line.size(),
+            stored: (line.number(), line.number() as i64),
+            samples: line.samples_up_to(MOST + MOST / 2)?,
         })
     }
 
     fn original_and_other(&self) -> (Plane<'_>, &[u16]) {
-        let (samples, other) = self.samples.split_at(self.samples.len() / 2);
+        let (samples, other) = self.samples.split_at(self.samples.len().min(MOST) / 2);
         let original = Plane {
             samples,
             width: self.width,
@@ -45,7 +50,7 @@ impl Planes {
 pub struct Distance(Planes);
 
 impl Case for Distance {
-    fn parse(line: Numbers<'_>) -> Result<Self, LineError> {
+    fn parse(line: Numbers<'_>) -> Result<Self, AllocError> {
         Ok(Distance(Planes::parse(line)?))
     }
 
@@ -62,7 +67,7 @@ impl Case for Distance {
 pub struct Squares(Planes);
 
 impl Case for Squares {
-    fn parse(line: Numbers<'_>) -> Result<Self, LineError> {
+    fn parse(line: Numbers<'_>) -> Result<Self, AllocError> {
         Ok(Squares(Planes::parse(line)?))
     }
 

@@ -3,7 +3,8 @@
 use crate::case::{Case, stored};
 use cdef_blocks::numbers;
 use cdef_spec::WorkingDamping;
-use testlib_lines::numbers::{LineError, Numbers};
+use std::alloc::AllocError;
+use testlib_lines::numbers::{Numbers, signed, value};
 
 // difference strength damping code answer
 #[derive(Clone, Copy)]
@@ -11,23 +12,33 @@ pub struct Constrain {
     difference: i32,
     strength: u32,
     damping: WorkingDamping,
-    stored: (u32, i32),
+    stored: (u64, i32),
+    // The answer with no sign allowed, which a refusal's is read as.
+    unsigned: u64,
+    is_end: bool,
 }
 
 impl Case for Constrain {
-    fn parse(mut line: Numbers<'_>) -> Result<Self, LineError> {
-        let case = Constrain {
-            difference: line.number()?,
-            strength: line.number()?,
-            damping: WorkingDamping(line.number()?),
-            stored: (line.number()?, line.number()?),
-        };
-        line.end()?;
-        Ok(case)
+    fn parse(mut line: Numbers<'_>) -> Result<Self, AllocError> {
+        let difference = signed(line.text());
+        let strength = line.word();
+        let damping = WorkingDamping(line.byte());
+        let code = line.number();
+        let answer = line.text();
+        Ok(Constrain {
+            difference,
+            strength,
+            damping,
+            stored: (code, signed(answer)),
+            unsigned: value(answer),
+            is_end: line.is_end(),
+        })
     }
 
     fn holds(self) -> bool {
-        stored(numbers::constrain(self.difference, self.strength, self.damping)) == self.stored
+        let found = numbers::constrain(self.difference, self.strength, self.damping);
+        let is_answer = found.is_ok() || self.unsigned == 0;
+        self.is_end && is_answer && stored(found) == self.stored
     }
 }
 
@@ -36,22 +47,23 @@ impl Case for Constrain {
 pub struct Adjust {
     strength: u32,
     variance: u32,
-    stored: (u32, u32),
+    stored: (u64, u64),
+    is_end: bool,
 }
 
 impl Case for Adjust {
-    fn parse(mut line: Numbers<'_>) -> Result<Self, LineError> {
-        let case = Adjust {
-            strength: line.number()?,
-            variance: line.number()?,
-            stored: (line.number()?, line.number()?),
-        };
-        line.end()?;
-        Ok(case)
+    fn parse(mut line: Numbers<'_>) -> Result<Self, AllocError> {
+        Ok(Adjust {
+            strength: line.word(),
+            variance: line.word(),
+            stored: (line.number(), line.number()),
+            is_end: line.is_end(),
+        })
     }
 
     fn holds(self) -> bool {
-        stored(numbers::adjust(self.strength, self.variance)) == self.stored
+        let found = numbers::adjust(self.strength, self.variance).map(u64::from);
+        self.is_end && stored(found) == self.stored
     }
 }
 
@@ -59,21 +71,22 @@ impl Case for Adjust {
 #[derive(Clone, Copy)]
 pub struct Damping {
     index: u32,
-    stored: (u32, u8),
+    stored: (u64, u64),
+    is_end: bool,
 }
 
 impl Case for Damping {
-    fn parse(mut line: Numbers<'_>) -> Result<Self, LineError> {
-        let case = Damping {
-            index: line.number()?,
-            stored: (line.number()?, line.number()?),
-        };
-        line.end()?;
-        Ok(case)
+    fn parse(mut line: Numbers<'_>) -> Result<Self, AllocError> {
+        Ok(Damping {
+            index: line.word(),
+            stored: (line.number(), line.number()),
+            is_end: line.is_end(),
+        })
     }
 
     fn holds(self) -> bool {
-        stored(numbers::damping(self.index).map(|damping| damping.0)) == self.stored
+        let found = numbers::damping(self.index).map(|damping| u64::from(damping.0));
+        self.is_end && stored(found) == self.stored
     }
 }
 
@@ -81,20 +94,20 @@ impl Case for Damping {
 #[derive(Clone, Copy)]
 pub struct Log2Floor {
     v: u32,
-    stored: (u32, u32),
+    stored: (u64, u64),
+    is_end: bool,
 }
 
 impl Case for Log2Floor {
-    fn parse(mut line: Numbers<'_>) -> Result<Self, LineError> {
-        let case = Log2Floor {
-            v: line.number()?,
-            stored: (line.number()?, line.number()?),
-        };
-        line.end()?;
-        Ok(case)
+    fn parse(mut line: Numbers<'_>) -> Result<Self, AllocError> {
+        Ok(Log2Floor {
+            v: line.word(),
+            stored: (line.number(), line.number()),
+            is_end: line.is_end(),
+        })
     }
 
     fn holds(self) -> bool {
-        (0, arith_strength::log2_floor(self.v)) == self.stored
+        self.is_end && (0, u64::from(arith_strength::log2_floor(self.v))) == self.stored
     }
 }

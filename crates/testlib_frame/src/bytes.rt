@@ -1,7 +1,6 @@
 // A file's bytes, read one part after the other.
 ghost use Rattle.std.specs.Prelude.{◌≡◌, length, IfOk};
 
-use std::num::TryFromIntError;
 use thiserror::Error;
 
 // Why a file is not a frame.
@@ -9,8 +8,6 @@ use thiserror::Error;
 pub enum FrameError {
     #[error("it does not begin with CDEFRAW1")]
     Mark,
-    #[error("a number of its header is outside the range that is read here: {0}")]
-    Number(#[from] TryFromIntError),
     #[error("it is not as long as its header says")]
     Length,
 }

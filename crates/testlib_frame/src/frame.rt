@@ -6,6 +6,9 @@ use crate::header::Header;
 use cdef_spec::UnitPair;
 use std::alloc::{AllocError, Global};
 
+// The most samples of a plane that are read; what follows them is left out.
+const MOST_SAMPLES: usize = 307_200;
+
 // Which plane of a frame.
 #[derive(Clone, Copy, Debug, PartialEq, Eq)]
 pub enum Component {
@@ -110,7 +113,7 @@ impl<'a> Frame<'a> {
             .collect(alloc)
     }
 
-    // The samples of a plane before CDEF, and after it.
+    // The samples of a plane before CDEF, and after it, the first MOST_SAMPLES at most.
     pub fn before(&self, alloc: Global, component: Component) -> Result<Vec<u16>, AllocError> {
         self.samples(alloc, self.before.of(component))
     }
@@ -122,11 +125,16 @@ impl<'a> Frame<'a> {
     // One byte a sample at depth 8, else two, the low one first.
     fn samples(&self, alloc: Global, bytes: &[u8]) -> Result<Vec<u16>, AllocError> {
         if self.header.depth == 8 {
-            return bytes.iter().map(|&sample| u16::from(sample)).collect(alloc);
+            return bytes
+                .iter()
+                .take(MOST_SAMPLES)
+                .map(|&sample| u16::from(sample))
+                .collect(alloc);
         }
         let (pairs, _) = bytes.as_chunks();
         pairs
             .iter()
+            .take(MOST_SAMPLES)
             .map(|&pair| u16::from_le_bytes(pair))
             .collect(alloc)
     }

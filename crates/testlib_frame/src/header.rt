@@ -1,14 +1,30 @@
 // The numbers at the head of a file.
-ghost use Rattle.std.specs.Prelude.{◌≡◌, ◌*◌, ◌^◌, ◌<◌, cond, eqb};
+ghost use Rattle.std.specs.Prelude.{◌≡◌, ◌*◌, ◌^◌, ◌<◌, cond, eqb, min};
 
 use crate::bytes::{Bytes, FrameError};
+
+// Every larger number of a header counts as this one, which no file here has.
+const MOST: u32 = 1_000;
+
+fn number(word: u32) -> u16
+    ensures { result ≡ min word 1000 }
+{
+    word.min(MOST) as u16
+}
+
+// A number as a u8; every larger one is 255, which no call accepts.
+pub fn small(number: u16) -> u8
+    ensures { result ≡ min number 255 }
+{
+    number.min(255) as u8
+}
 
 // The sixteen numbers, but for the visible sides, the bits of an index and the base index, which nothing here needs.
 #[derive(Clone, Copy, Debug, PartialEq, Eq)]
 pub struct Header {
-    pub depth: u8,
-    pub sx: u8,
-    pub sy: u8,
+    pub depth: u16,
+    pub sx: u16,
+    pub sy: u16,
     // Kept as the file stores it: test_frames prints sx and sy of a monochrome frame too, which an Option of both would lose.
     pub monochrome: bool,
     pub width: u16,
@@ -30,8 +46,8 @@ pub struct Grid {
 impl Grid {
     fn read(file: &mut Bytes<'_>) -> Result<Self, FrameError> {
         Ok(Grid {
-            columns: u16::try_from(file.word()?)?,
-            rows: u16::try_from(file.word()?)?,
+            columns: number(file.word()?),
+            rows: number(file.word()?),
         })
     }
 
@@ -43,25 +59,25 @@ impl Grid {
 }
 
 // A side of luma as a side of chroma.
-fn halved(side: u16, flag: u8) -> u16 {
+fn halved(side: u16, flag: u16) -> u16 {
     if flag == 0 { side } else { side / 2 }
 }
 
 impl Header {
     pub fn read(file: &mut Bytes<'_>) -> Result<Self, FrameError> {
-        let depth = u8::try_from(file.word()?)?;
-        let sx = u8::try_from(file.word()?)?;
-        let sy = u8::try_from(file.word()?)?;
+        let depth = number(file.word()?);
+        let sx = number(file.word()?);
+        let sy = number(file.word()?);
         let monochrome = file.word()? != 0;
-        let width = u16::try_from(file.word()?)?;
-        let height = u16::try_from(file.word()?)?;
+        let width = number(file.word()?);
+        let height = number(file.word()?);
         let _visible = file.take(8)?;
-        let damping = u8::try_from(file.word()?)?;
+        let damping = small(number(file.word()?));
         let _bits = file.word()?;
         let units = Grid::read(file)?;
         let blocks = Grid::read(file)?;
         let _base = file.word()?;
-        let enabled = file.word()? % 2 == 1;
+        let enabled = number(file.word()?) % 2 == 1;
         Ok(Header {
             depth,
             sx,

@@ -3,18 +3,27 @@
 
 pub mod numbers; // numbers.rt: the numbers of a line, one after the other
 
+ghost use Rattle.std.specs.Prelude.{◌≤◌, IfOk, vec_len};
+
 use std::io::Read;
 use std::rt::Files;
 use std::{fs, io};
 
-// The bytes of a file. One that cannot be opened is reported on stderr, and has none.
-pub fn read_file<R: Files + Eprint + AllocGlobal>(rt: &R, path: &str) -> io::Result<Vec<u8>> {
+// The most bytes of a file that are read, so that one without an end is read too.
+const MOST: usize = 1_000_000;
+
+// The bytes of a file, the first MOST where it has more. One that cannot be opened is reported on stderr, and has none.
+pub fn read_file<R: Files + Eprint + AllocGlobal>(rt: &R, path: &str) -> io::Result<Vec<u8>>
+    ensures { IfOk result (λ bytes. vec_len bytes ≤ 1000000) }
+{
     let mut bytes = Vec::new(rt.alloc());
     match fs::open(rt, path) {
-        Ok(mut file) => {
-            file.read_to_end(&mut bytes)?;
+        Ok(file) => {
+            file.take(MOST as u64).read_to_end(&mut bytes)?;
         }
         Err(e) => eprintln!(rt; "{path}: {e}")?,
     }
+    // Cuts nothing: `take` has, but no clause of it says so where the file's bytes are unknown.
+    bytes.truncate(MOST);
     Ok(bytes)
 }

@@ -1,34 +1,36 @@
 // The numbers of a line, read one after the other.
-ghost use Rattle.std.specs.Prelude.{◌≡◌, IfOk, vec_len};
+// No line is refused: a number that is missing or has no digit is NONE, what follows its digits is passed over,
+// and one that is too large for its type wraps. The stored cases are read so since the first of them.
+ghost use Rattle.std.specs.Prelude.{◌≡◌, ◌≤◌, IfOk, min, vec_len};
 
 use std::alloc::{AllocError, Global};
-use std::str::{FromStr, Split};
-use thiserror::Error;
 
-// Why a line is not of the form that is read.
-#[derive(Clone, Copy, Debug, PartialEq, Eq, Error)]
-pub enum LineError {
-    #[error("a number is missing")]
-    Missing,
-    #[error("no number, or one outside the range of its type")]
-    NotANumber,
-    #[error("more stands behind the last number")]
-    LeftOver,
-    #[error(transparent)]
-    OutOfMemory(#[from(alloc)] AllocError),
-}
+// What is read where a line has no number: no number of a line is as large.
+pub const NONE: u64 = 10_000_000_000_000_000;
 
-// What of a line has not been read.
+// What of a line has not been read. A line need not be text: what is no digit and no blank ends a number.
 #[derive(Drop)]
 pub struct Numbers<'a> {
-    words: Split<'a, char>,
+    rest: &'a [u8],
+    // How many numbers are left.
+    left: usize,
     alloc: Global,
 }
 
+// How many numbers a line has: as many as blanks, and the last one where it does not end in a blank.
+fn count(line: &[u8]) -> usize {
+    let blanks = line.iter().filter(|byte| **byte == b' ').count();
+    match line.last() {
+        None | Some(b' ') => blanks,
+        Some(_) => blanks.saturating_add(1),
+    }
+}
+
 impl<'a> Numbers<'a> {
-    pub fn new(alloc: Global, line: &'a str) -> Self {
+    pub fn new(alloc: Global, line: &'a [u8]) -> Self {
         Numbers {
-            words: line.split(' '),
+            rest: line,
+            left: count(line),
             alloc,
         }
     }
@@ -39,37 +41,109 @@ impl<'a> Numbers<'a> {
         self.alloc
     }
 
+    // The next number as it is written, empty where none is left.
+    pub fn text(&mut self) -> &'a [u8] {
+        let mut parts = self.rest.splitn(2, |byte| *byte == b' ');
+        let text = parts.next().unwrap_or(b"");
+        self.rest = parts.next().unwrap_or(b"");
+        self.left = self.left.saturating_sub(1);
+        text
+    }
+
     // The next number.
-    // Kept beside `parse`: it joins `next`, which gives an Option, and `parse`, whose error is each type's own, to one LineError for some twenty callers.
-    pub fn number<N: FromStr>(&mut self) -> Result<N, LineError>
-    where
-        N::Err: Drop,
+    pub fn number(&mut self) -> u64
+        ensures { result ≤ 10000000000000000 }
     {
-        let word = self.words.next().ok_or(LineError::Missing)?;
-        word.parse().map_err(|_| LineError::NotANumber)
+        value(self.text())
+    }
+
+    // The next number, as a size.
+    pub fn size(&mut self) -> usize
+        ensures { result ≤ 10000000000000000 }
+    {
+        self.number() as usize
+    }
+
+    // The next number, its lowest 32 bits.
+    pub fn word(&mut self) -> u32 {
+        (self.number() % 0x1_0000_0000) as u32
+    }
+
+    // The next number, its lowest 16 bits.
+    pub fn sample(&mut self) -> u16 {
+        (self.number() % 0x1_0000) as u16
+    }
+
+    // The next number, its lowest 8 bits.
+    pub fn byte(&mut self) -> u8 {
+        (self.number() % 0x100) as u8
     }
 
     // The next numbers, as samples.
-    pub fn samples(&mut self, count: usize) -> Result<Vec<u16>, LineError>
+    pub fn samples(&mut self, count: usize) -> Result<Vec<u16>, AllocError>
         ensures { IfOk result (λ samples. vec_len samples ≡ count) }
     {
         let alloc = self.alloc;
-        (0..count).map(|_| self.number()).try_collect(alloc)
+        (0..count).map(|_| self.sample()).collect(alloc)
     }
 
-    // All numbers that are left, as samples.
-    pub fn rest(self) -> Result<Vec<u16>, LineError> {
-        let Numbers { words, alloc } = self;
-        words
-            .map(|word| word.parse().map_err(|_| LineError::NotANumber))
-            .try_collect(alloc)
+    // The next numbers, as samples: `most` of them, or as many as are left.
+    pub fn samples_up_to(&mut self, most: usize) -> Result<Vec<u16>, AllocError>
+        ensures { IfOk result (λ samples. vec_len samples ≡ min most self.old.left) }
+    {
+        self.samples(most.min(self.left))
     }
 
-    // That no number is left.
-    pub fn end(mut self) -> Result<(), LineError> {
-        match self.words.next() {
-            None => Ok(()),
-            Some(_) => Err(LineError::LeftOver),
-        }
+    // The numbers that are left, the first `most` of them.
+    pub fn rest(mut self, most: usize) -> Result<Vec<u64>, AllocError>
+        ensures { IfOk result (λ numbers. vec_len numbers ≡ min most self.entry.left) }
+    {
+        let alloc = self.alloc;
+        (0..most.min(self.left))
+            .map(|_| self.number())
+            .collect(alloc)
+    }
+
+    // Whether no number is left.
+    pub fn is_end(&self) -> bool {
+        self.left == 0
+    }
+}
+
+// A number with one digit more; one of 15 digits takes no more.
+fn with_digit(value: u64, digit: u32) -> u64
+    requires { value ≤ 10000000000000000 }
+    ensures { result ≤ 10000000000000000 }
+{
+    if 100_000_000_000_000 <= value {
+        return value;
+    }
+    value * 10 + u64::from(digit)
+}
+
+// The digits that a text begins with as a number, at most 15 of them behind its zeros; NONE where there are none.
+pub fn value(text: &[u8]) -> u64
+    ensures { result ≤ 10000000000000000 }
+{
+    if !text.first().is_some_and(|byte| byte.is_ascii_digit()) {
+        return NONE;
+    }
+    let mut value = 0;
+    for digit in text.iter().map_while(|byte| char::from(*byte).to_digit(10)) {
+        value = with_digit(value, digit);
+    }
+    value
+}
+
+// The number that a text begins with, the least i32 where an i32 has no room for it.
+fn size_as_i32(text: &[u8]) -> i32 {
+    i32::try_from(value(text)).unwrap_or(i32::MIN)
+}
+
+// The number that a text begins with, which may have a minus sign but no plus.
+pub fn signed(text: &[u8]) -> i32 {
+    match text.strip_prefix(b"-") {
+        Some(size) => size_as_i32(size).wrapping_neg(),
+        None => size_as_i32(text),
     }
 }

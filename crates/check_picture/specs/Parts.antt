@@ -16,9 +16,17 @@ shape_first q = ask 1 (depth_taken q.depth) ∷ ask 2 (luma_side_taken q.width &
 abbrev pub lists_next : Picture → List (List ℕ) → List Question
 lists_next q planes = ask 4 (full_planes q planes) ∷ ask 7 (picture_listed q) ∷ []
 
+-- 4, and 7 of the picture and of a call's own lists
+abbrev pub lists_both : Picture → List (List ℕ) → Bool → List Question
+lists_both q planes own = ask 4 (full_planes q planes) ∷ ask 7 (picture_listed q && own) ∷ []
+
 -- 8 of the picture
 abbrev pub values_next : Picture → SignalledDamping → List Question
 values_next q signalled = ask 8 (picture_taken q signalled) ∷ []
+
+-- 8 of the picture and of a call's own values
+abbrev pub values_both : Picture → SignalledDamping → Bool → List Question
+values_both q signalled own = ask 8 (picture_taken q signalled && own) ∷ []
 
 -- 9
 abbrev pub samples_last : ℕ → List (List ℕ) → List Question

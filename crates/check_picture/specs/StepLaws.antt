@@ -7,7 +7,7 @@ use Rattle.cdef_spec.specs.Picture.{Picture, plane_width, plane_height}
 use Rattle.cdef_spec.specs.Questions.{Question, ask, first_no, depth_taken, luma_side_taken, flags_taken, full_planes, all_below, all_samples_below, picture_listed, picture_taken}
 use Rattle.cdef_spec.specs.QuestionLaws.{below_get, first-yes, first-no, first_on}
 use Rattle.cdef_spec.specs.FrameCalls.{questions}
-use Rattle.check_picture.specs.Parts.{shape_first, lists_next, values_next, samples_last, after_lists, after_shape}
+use Rattle.check_picture.specs.Parts.{shape_first, lists_next, values_next, values_both, samples_last, after_lists, after_shape}
 use Rattle.check_picture.specs.PartLaws.{one, two, three, part-stops, part-passed}
 
 -- ---- the error codes
@@ -109,6 +109,14 @@ module _ (q : Picture) (a b : List ℕ) (z : first_no (lists_next q (a ∷ b ∷
 
   pub lists-long : picture_listed q ≡ true
   lists-long = (first-yes _ _ (λ e. omega arith) (first-yes _ _ (λ e. omega arith) z).1).0
+
+-- where a call has no part of its own in 8, the picture's alone is asked
+pub values-alone : (q : Picture) (signalled : SignalledDamping) → first_no (values_both q signalled true) ≡ first_no (values_next q signalled)
+values-alone q signalled = ap (λ taken. first_no (ask 8 taken ∷ [])) (own-passed (picture_taken q signalled))
+  where
+    own-passed : (b : Bool) → b && true ≡ b
+    own-passed true = refl
+    own-passed false = refl
 
 -- 8
 pub picture-values : (q : Picture) (d : SignalledDamping) → first_no (values_next q d) ≡ 0 → picture_taken q d ≡ true

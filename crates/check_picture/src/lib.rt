@@ -9,7 +9,7 @@ ghost use Rattle.cdef_spec.specs.Lent.{kind_in, picture_in};
 ghost use Rattle.cdef_spec.specs.Picture.{plane_width, plane_height};
 ghost use Rattle.cdef_spec.specs.Questions.{first_no, flags_taken, picture_listed, variances_listed, visible_taken, variances_taken, picture_taken, all_below};
 ghost use Rattle.frame_shape.specs.Checked.{shaped_in, listed_in};
-ghost use Rattle.check_picture.specs.Parts.{sides_first, shape_first, lists_next, values_next, samples_last};
+ghost use Rattle.check_picture.specs.Parts.{sides_first, shape_first, lists_next, lists_both, values_next, values_both, samples_last};
 
 use cdef_spec::{Picture, PlaneKind, Refusal, SignalledDamping, Visible};
 use frame_shape::checked::{ListedPicture, ShapedPicture};
@@ -87,18 +87,25 @@ pub fn visible_taken(picture: &Picture<'_>, v: Visible) -> bool
     (1..=picture.width).contains(&v.width) && (1..=picture.height).contains(&v.height)
 }
 
-// 4 of two planes, and 7 of the lists per block.
+// 4 of two planes, and 7 of the lists per block and of a call's own; own: whether those have their lengths.
 #[tactic(auto, unfolding(cdef_spec::specs::Questions::first_no, cdef_spec::specs::Questions::full_planes, cdef_spec::specs::Answers::code_of, cdef_spec::specs::Answers::error_code))]
-pub fn lists(shaped: &ShapedPicture<'_>, a: &[u16], b: &[u16]) -> Result<(), Refusal>
-    ensures { code_of result ≡ first_no (lists_next (shaped_in shaped.now) (a.now ∷ b.now ∷ [])) }
+pub fn lists_no(shaped: &ShapedPicture<'_>, a: &[u16], b: &[u16], own: bool) -> Result<(), Refusal>
+    ensures { code_of result ≡ first_no (lists_both (shaped_in shaped.now) (a.now ∷ b.now ∷ []) own) }
 {
     if !is_full(shaped, a) || !is_full(shaped, b) {
         return Err(Refusal::PlaneLength);
     }
-    if !picture_listed(shaped) {
+    if !picture_listed(shaped) || !own {
         return Err(Refusal::Lengths);
     }
     Ok(())
+}
+
+// The same of the lists per block alone.
+pub fn lists(shaped: &ShapedPicture<'_>, a: &[u16], b: &[u16]) -> Result<(), Refusal>
+    ensures { code_of result ≡ first_no (lists_next (shaped_in shaped.now) (a.now ∷ b.now ∷ [])) }
+{
+    lists_no(shaped, a, b, true)
 }
 
 // 8: the variances, which only luma has.
@@ -132,18 +139,19 @@ fn picture_taken(picture: &Picture<'_>, d: SignalledDamping) -> bool
         && check_values::signalled_taken(d)
 }
 
-// 8 of the lists per block and of the figure in force, whatever their lengths.
+// 8 of the lists per block, of the figure in force and of a call's own part, whatever the picture's shape and its lists' lengths;
+// own: whether that part has passed.
 #[tactic(auto, unfolding(cdef_spec::specs::Questions::first_no, cdef_spec::specs::Answers::code_of, cdef_spec::specs::Answers::error_code))]
-pub fn values_no(shaped: &ShapedPicture<'_>, d: SignalledDamping) -> Result<(), Refusal>
-    ensures { code_of result ≡ first_no (values_next (shaped_in shaped.now) d) }
+pub fn values_no(picture: &Picture<'_>, d: SignalledDamping, own: bool) -> Result<(), Refusal>
+    ensures { code_of result ≡ first_no (values_both (picture_in picture.now) d own) }
 {
-    if !picture_taken(&shaped.picture, d) {
+    if !picture_taken(picture, d) || !own {
         return Err(Refusal::Values);
     }
     Ok(())
 }
 
-// The same where 7 has passed, which makes a listed picture.
+// The same of the lists per block and the figure alone where 7 has passed, which makes a listed picture.
 pub fn values<'a>(
     shaped: &ShapedPicture<'a>,
     d: SignalledDamping,
@@ -152,7 +160,7 @@ pub fn values<'a>(
     ensures refusal { code_of result ≡ first_no (values_next (shaped_in shaped.now) d) }
     ensures picture { IfOk result (λ q. listed_in q ≡ shaped_in shaped.now) }
 {
-    values_no(shaped, d)?;
+    values_no(&shaped.picture, d, true)?;
     Ok(ListedPicture { shaped: *shaped })
 }
 

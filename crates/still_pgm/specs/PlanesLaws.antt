@@ -1,10 +1,11 @@
 -- Laws of the padded plane of a file and of a plane as bytes: one more element stored, a sample of one byte and of two.
-use Rattle.std.specs.Prelude.{◌≡◌, List, eqb, get_or, length, set}
+use Rattle.std.specs.Prelude.{◌≡◌, List, ◌++◌, eqb, get_or, length, set}
 use Rattle.std.proofs.Math.Path.{refl}
-use Rattle.std.proofs.Common.{◌∙◌, mul-le-mul, le_trans, div-le_self, add-one, arith}
+use Rattle.std.proofs.Common.{ap, ◌∙◌, mul-le-mul, le_trans, div-le_self, add-one, arith}
 use Prim.Native.Nat.{ℕ, zero, suc, ◌+◌, ◌-◌, ◌*◌, ◌/◌, ◌%◌, ◌≤◌, ◌<◌, min}
 use Rattle.std.proofs.Math.Nat.{mod-le}
 use Rattle.std.proofs.Math.ListN.{length-set}
+use Rattle.std.proofs.lemmas.List.{set-append_left}
 use Rattle.still_pgm.specs.declared.header.Header.{Header}
 use Rattle.still_pgm.specs.Sizes.{step_of}
 use Rattle.still_pgm.specs.Planes.{stored, sample_at, padded_sample, byte_of, file_byte}
@@ -24,6 +25,12 @@ module _ (f : ℕ → ℕ) (l : List ℕ) where
   unfolding stored
   length-stored zero = refl
   length-stored (suc n) = length-set (stored f n l) n (f n) ∙ length-stored n
+
+-- stored in the front of a list, and what is behind it as it was
+pub stored_front : (f : ℕ → ℕ) (n : ℕ) (a b : List ℕ) → n ≤ length a → stored f n (a ++ b) ≡ stored f n a ++ b
+unfolding stored
+stored_front f zero a b h = refl
+stored_front f (suc n) a b h = ap (λ l. set l n (f n)) (stored_front f n a b (omega arith)) ∙ set-append_left (stored f n a) b n (f n) (omega (arith, length-stored f a n))
 
 -- ---- samples
 

@@ -99,3 +99,7 @@ bytes-room w h m e =
     let b : h ≤ padded h = omega arith in
     let c : w * h ≤ 786432 = le_trans (mul-le-mul a b) t.room in
     mul-le-mul c (step_range m).1
+
+-- as many samples as two padded sides of an accepted picture have
+pub padded_room : (w h pitch rows : ℕ) → is_taken w h ≡ true → pitch ≡ padded w → rows ≡ padded h → pitch * rows ≤ 786432
+padded_room w h pitch rows t p r = rw (p, r) (taken w h t).room

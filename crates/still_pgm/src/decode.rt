@@ -1,9 +1,10 @@
 // The padded plane of a file: past the last column and row of the picture the nearest sample repeats.
-ghost use Rattle.std.specs.Prelude.{◌*◌, ◌^◌, ◌≤◌, ◌<◌, ◌≡◌, true, length, replicate, IfOk};
+ghost use Rattle.std.specs.Prelude.{◌*◌, ◌^◌, ◌≤◌, ◌<◌, ◌≡◌, true, cond, length, replicate, Some, None, is_none, IfOk, MatchResult};
+ghost use Rattle.still_pgm.specs.Faults.{fault_in};
 ghost use Rattle.still_pgm.specs.Sizes.{is_taken, padded};
 ghost use Rattle.still_pgm.specs.Planes.{stored, sample_at, padded_sample, decoded_plane};
 
-use crate::format::Format;
+use crate::format::{Fault, Format};
 use crate::header::Header;
 use crate::sizes;
 use std::alloc::{AllocError, Global};
@@ -35,6 +36,19 @@ fn fill(plane: &mut [u16], pitch: usize, samples: &[u8], h: Header)
         let column = (k % pitch).min(h.width - 1);
         *sample = sample_at(samples, step, row * h.width + column);
     }
+}
+
+// Puts the padded plane of a header and of the bytes behind it at the start of a plane, which needs no memory;
+// or says what is wrong with them, and leaves the plane as it is.
+pub fn decode_into(plane: &mut [u16], header: Header, samples: &[u8]) -> Result<(), Fault>
+    requires { 786432 ≤ length plane.old }
+    ensures value { MatchResult result (λ _. None ≡ fault_in (length samples.now) header) (λ e. Some e ≡ fault_in (length samples.now) header) }
+    ensures plane_after { plane.new ≡ cond (is_none (fault_in (length samples.now) header)) (decoded_plane samples.now header plane.old) plane.old }
+{
+    let format = Format::of(header, samples.len())?;
+    let pitch = format.pitch();
+    fill(&mut plane[..pitch * format.rows()], pitch, samples, header);
+    Ok(())
 }
 
 // The padded plane of a format and the bytes of its samples.

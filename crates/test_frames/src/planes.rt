@@ -5,10 +5,10 @@ use std::io;
 use testlib_frame::frame::{Component, Frame};
 use testlib_frame::header::small;
 
-// The most blocks of a frame whose skip flags are gone on with; those that follow are left out.
+// The most blocks of a frame whose skip flags are used; those that follow are left out.
 const MOST_BLOCKS: usize = 4_800;
 
-// The most units of a frame whose pairs are gone on with; those that follow are left out.
+// The most units of a frame whose pairs are used; those that follow are left out.
 const MOST_UNITS: usize = 80;
 
 // The directions and the variances of a frame's blocks, which are luma's before CDEF, and what the call for them returned.

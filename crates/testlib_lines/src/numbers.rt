@@ -1,7 +1,9 @@
 // The numbers of a line, read one after the other.
 // No line is refused: a number that is missing or has no digit is NONE, what follows its digits is passed over,
 // and one that is too large for its type wraps. The stored cases are read so since the first of them.
-ghost use Rattle.std.specs.Prelude.{◌≡◌, ◌≤◌, IfOk, min, vec_len};
+ghost use Rattle.std.specs.Prelude.{◌≡◌, ◌≢◌, ◌≤◌, ◌<◌, ◌-◌, IfOk, eqb, length, min, vec_len};
+ghost use Rattle.std.specs.List.{AllWithin, HoldsAt};
+ghost use Rattle.testlib_lines.specs.Lines.{numbers_in};
 
 use std::alloc::{AllocError, Global};
 
@@ -12,27 +14,23 @@ pub const NONE: u64 = 10_000_000_000_000_000;
 #[derive(Drop)]
 pub struct Numbers<'a> {
     rest: &'a [u8],
-    // How many numbers are left.
-    left: usize,
     alloc: Global,
 }
 
-// How many numbers a line has: as many as blanks, and the last one where it does not end in a blank.
-fn count(line: &[u8]) -> usize {
-    let blanks = line.iter().filter(|byte| **byte == b' ').count();
-    match line.last() {
-        None | Some(b' ') => blanks,
-        Some(_) => blanks.saturating_add(1),
-    }
+// Where the first number of a line ends.
+fn first_end(line: &[u8]) -> usize
+    ensures within { result ≤ length line.now }
+    ensures before { AllWithin (λ byte. byte ≢ 32) line.now 0 result }
+    ensures at { result < length line.now → HoldsAt (λ byte. byte ≡ 32) line.now result }
+{
+    line.iter()
+        .position(|byte| *byte == b' ')
+        .unwrap_or(line.len())
 }
 
 impl<'a> Numbers<'a> {
     pub fn new(alloc: Global, line: &'a [u8]) -> Self {
-        Numbers {
-            rest: line,
-            left: count(line),
-            alloc,
-        }
+        Numbers { rest: line, alloc }
     }
 
     pub fn alloc(&self) -> Global
@@ -42,17 +40,19 @@ impl<'a> Numbers<'a> {
     }
 
     // The next number as it is written, empty where none is left.
-    pub fn text(&mut self) -> &'a [u8] {
-        let mut parts = self.rest.splitn(2, |byte| *byte == b' ');
-        let text = parts.next().unwrap_or(b"");
-        self.rest = parts.next().unwrap_or(b"");
-        self.left = self.left.saturating_sub(1);
-        text
+    pub fn text(&mut self) -> &'a [u8]
+        ensures { numbers_in self.new.rest.now ≡ numbers_in self.old.rest.now - 1 }
+    {
+        let line = self.rest;
+        let end = first_end(line);
+        self.rest = line.get(end + 1..).unwrap_or(b"");
+        &line[..end]
     }
 
     // The next number.
     pub fn number(&mut self) -> u64
-        ensures { result ≤ 10000000000000000 }
+        ensures bound { result ≤ 10000000000000000 }
+        ensures taken { numbers_in self.new.rest.now ≡ numbers_in self.old.rest.now - 1 }
     {
         value(self.text())
     }
@@ -87,26 +87,41 @@ impl<'a> Numbers<'a> {
         (0..count).map(|_| self.sample()).collect(alloc)
     }
 
+    // The next numbers, each as `kept` has it: `most` of them, or as many as are left.
+    fn up_to<T: Copy, F: Fn(u64) -> T>(
+        &mut self,
+        most: usize,
+        kept: F,
+    ) -> Result<Vec<T>, AllocError>
+        requires { F.IsAlwaysCallable kept }
+        ensures { IfOk result (λ items. vec_len items ≡ min most (numbers_in self.old.rest.now)) }
+    {
+        let mut items = Vec::new(self.alloc);
+        while items.len() < most && !self.is_end() {
+            items.push(kept(self.number()))?;
+        }
+        Ok(items)
+    }
+
     // The next numbers, as samples: `most` of them, or as many as are left.
     pub fn samples_up_to(&mut self, most: usize) -> Result<Vec<u16>, AllocError>
-        ensures { IfOk result (λ samples. vec_len samples ≡ min most self.old.left) }
+        ensures { IfOk result (λ samples. vec_len samples ≡ min most (numbers_in self.old.rest.now)) }
     {
-        self.samples(most.min(self.left))
+        self.up_to(most, |number| (number % 0x1_0000) as u16)
     }
 
     // The numbers that are left, the first `most` of them.
     pub fn rest(mut self, most: usize) -> Result<Vec<u64>, AllocError>
-        ensures { IfOk result (λ numbers. vec_len numbers ≡ min most self.entry.left) }
+        ensures { IfOk result (λ numbers. vec_len numbers ≡ min most (numbers_in self.entry.rest.now)) }
     {
-        let alloc = self.alloc;
-        (0..most.min(self.left))
-            .map(|_| self.number())
-            .collect(alloc)
+        self.up_to(most, |number| number)
     }
 
     // Whether no number is left.
-    pub fn is_end(&self) -> bool {
-        self.left == 0
+    pub fn is_end(&self) -> bool
+        ensures { result ≡ eqb (numbers_in self.now.rest.now) 0 }
+    {
+        self.rest.is_empty()
     }
 }
 

@@ -16,7 +16,8 @@ const MOST: usize = 1_000_000;
 pub fn read_file<R: Files + Eprint + AllocGlobal>(rt: &R, path: &str) -> io::Result<Vec<u8>>
     ensures { IfOk result (λ bytes. vec_len bytes ≤ 1000000) }
 {
-    let mut bytes = Vec::new(rt.alloc());
+    // Room for all of them, so that each read asks for what may still come: a pipe in packet mode loses what a read leaves of a packet.
+    let mut bytes = Vec::with_capacity(rt.alloc(), MOST)?;
     match fs::open(rt, path) {
         Ok(file) => {
             file.take(MOST as u64).read_to_end(&mut bytes)?;

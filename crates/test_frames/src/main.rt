@@ -18,9 +18,9 @@ fn main(rt: HostRuntime) -> io::Result<()> {
 }
 
 fn file(rt: &(impl Files + Print + Eprint + AllocGlobal), path: &str) -> io::Result<()> {
-    let bytes = testlib_lines::read_file(rt, path)?;
+    let bytes = testlib_lines::read_file_capped(rt, path)?;
     print!(rt; "{path}")?;
-    match Frame::parse(&bytes) {
+    match Frame::parse_capped(&bytes) {
         Ok(frame) => planes::compared(rt, &frame)?,
         Err(_) => print!(rt; ": not a frame")?,
     }

@@ -46,7 +46,7 @@ fn flags<'a>(frame: &Frame<'a>) -> &'a [u8] {
 
 fn directed(alloc: Global, frame: &Frame<'_>) -> Result<Directions, AllocError> {
     let header = frame.header;
-    let samples = frame.before(alloc, Component::Y)?;
+    let samples = frame.before_capped(alloc, Component::Y)?;
     let mut dirs = vec![in alloc; 0u8; flags(frame).len()]?;
     let mut vars = vec![in alloc; 0u32; flags(frame).len()]?;
     let luma = Plane {
@@ -66,11 +66,11 @@ fn plane(
     component: Component,
     found: &Directions,
 ) -> io::Result<()> {
-    let before = frame.before(rt.alloc(), component)?;
+    let before = frame.before_capped(rt.alloc(), component)?;
     let mut filtered = before.clone()?;
     let done = applied(rt.alloc(), frame, component, found, &before, &mut filtered)?;
     let code = done.map_or_else(u32::from, |()| 0);
-    let after = frame.after(rt.alloc(), component)?;
+    let after = frame.after_capped(rt.alloc(), component)?;
     let different = filtered
         .iter()
         .zip(&after)

@@ -4,7 +4,7 @@ ghost use Rattle.std.specs.Prelude.{◌≤◌};
 use crate::case::{Case, stored};
 use cdef_spec::{Block, FilterParams, Plane, TrialWay, WorkingDamping};
 use std::alloc::AllocError;
-use testlib_lines::numbers::Numbers;
+use testlib_lines::numbers::LenientNumbers;
 
 // The most samples of a plane or of a destination that a case can have here.
 const MOST: usize = 8192;
@@ -25,7 +25,7 @@ pub struct Direction {
 }
 
 impl Case for Direction {
-    fn parse(mut line: Numbers<'_>) -> Result<Self, AllocError> {
+    fn parse(mut line: LenientNumbers<'_>) -> Result<Self, AllocError> {
         Ok(Direction {
             depth: line.byte(),
             width: line.size(),
@@ -49,7 +49,7 @@ impl Case for Direction {
     }
 }
 
-fn block(line: &mut Numbers<'_>) -> Block {
+fn block(line: &mut LenientNumbers<'_>) -> Block {
     Block {
         x: line.size(),
         y: line.size(),
@@ -73,7 +73,11 @@ fn area(width: usize, height: usize) -> usize {
 }
 
 // As many samples as two sides say, or as the line has and a case can have.
-fn samples(line: &mut Numbers<'_>, width: usize, height: usize) -> Result<Vec<u16>, AllocError> {
+fn samples(
+    line: &mut LenientNumbers<'_>,
+    width: usize,
+    height: usize,
+) -> Result<Vec<u16>, AllocError> {
     line.samples_up_to(area(width, height).min(MOST))
 }
 
@@ -93,7 +97,7 @@ pub struct Filter {
 }
 
 impl Case for Filter {
-    fn parse(mut line: Numbers<'_>) -> Result<Self, AllocError> {
+    fn parse(mut line: LenientNumbers<'_>) -> Result<Self, AllocError> {
         let depth = line.byte();
         let width = line.size();
         let height = line.size();
@@ -161,7 +165,7 @@ pub struct Trial {
     blocks: Vec<u64>,
 }
 
-fn way(line: &mut Numbers<'_>) -> TrialWay {
+fn way(line: &mut LenientNumbers<'_>) -> TrialWay {
     let luma = line.number();
     let variance = line.word();
     match luma {
@@ -171,7 +175,7 @@ fn way(line: &mut Numbers<'_>) -> TrialWay {
 }
 
 impl Case for Trial {
-    fn parse(mut line: Numbers<'_>) -> Result<Self, AllocError> {
+    fn parse(mut line: LenientNumbers<'_>) -> Result<Self, AllocError> {
         let depth = line.byte();
         let width = line.size();
         let height = line.size();

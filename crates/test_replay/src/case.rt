@@ -5,12 +5,12 @@ ghost use Rattle.cdef_spec.specs.Answers.{error_code};
 use cdef_spec::Refusal;
 use std::alloc::{AllocError, Global};
 use std::io;
-use testlib_lines::numbers::Numbers;
+use testlib_lines::numbers::LenientNumbers;
 
 // A stored case of a call: its inputs, and what the call returned.
 // An answer keeps the whole number that is stored, so that one too large for the answer's type is no answer.
 pub trait Case: Sized + Drop {
-    fn parse(line: Numbers<'_>) -> Result<Self, AllocError>;
+    fn parse(line: LenientNumbers<'_>) -> Result<Self, AllocError>;
 
     // Whether the call returns what is stored.
     fn holds(self) -> bool;
@@ -29,7 +29,7 @@ pub fn stored<T: Default>(returned: Result<T, Refusal>) -> (u64, T)
 
 // Whether a line is a case that holds.
 fn is_held<C: Case>(alloc: Global, line: &[u8]) -> Result<bool, AllocError> {
-    Ok(C::parse(Numbers::new(alloc, line))?.holds())
+    Ok(C::parse(LenientNumbers::new(alloc, line))?.holds())
 }
 
 // Prints a line's own bytes, which need not be text.

@@ -2,7 +2,7 @@
 use crate::case::{Case, stored};
 use cdef_spec::{Picture, PlaneKind, SignalledDamping};
 use std::alloc::AllocError;
-use testlib_lines::numbers::{NONE, Numbers};
+use testlib_lines::numbers::{LenientNumbers, NONE};
 
 // The most samples of a plane that a case can have here; a line's further ones are passed over.
 const MOST: usize = 64;
@@ -38,7 +38,7 @@ fn sample_at(plane: &[u16], place: usize) -> u64 {
 }
 
 impl Case for ApplyChroma {
-    fn parse(mut line: Numbers<'_>) -> Result<Self, AllocError> {
+    fn parse(mut line: LenientNumbers<'_>) -> Result<Self, AllocError> {
         let depth = line.byte();
         let sx = line.byte();
         let sy = line.byte();

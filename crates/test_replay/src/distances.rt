@@ -3,7 +3,7 @@ use crate::case::{Case, stored};
 use cdef_blocks::distance;
 use cdef_spec::Plane;
 use std::alloc::AllocError;
-use testlib_lines::numbers::Numbers;
+use testlib_lines::numbers::LenientNumbers;
 
 // The most samples of both planes that a case can have here; a line with more has half as many of the original,
 // and of the other one as many as this.
@@ -22,7 +22,7 @@ struct Planes {
 }
 
 impl Planes {
-    fn parse(mut line: Numbers<'_>) -> Result<Self, AllocError> {
+    fn parse(mut line: LenientNumbers<'_>) -> Result<Self, AllocError> {
         Ok(Planes {
             depth: line.byte(),
             width: line.size(),
@@ -50,7 +50,7 @@ impl Planes {
 pub struct Distance(Planes);
 
 impl Case for Distance {
-    fn parse(line: Numbers<'_>) -> Result<Self, AllocError> {
+    fn parse(line: LenientNumbers<'_>) -> Result<Self, AllocError> {
         Ok(Distance(Planes::parse(line)?))
     }
 
@@ -67,7 +67,7 @@ impl Case for Distance {
 pub struct Squares(Planes);
 
 impl Case for Squares {
-    fn parse(line: Numbers<'_>) -> Result<Self, AllocError> {
+    fn parse(line: LenientNumbers<'_>) -> Result<Self, AllocError> {
         Ok(Squares(Planes::parse(line)?))
     }
 

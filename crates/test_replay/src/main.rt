@@ -27,7 +27,7 @@ fn file(rt: &(impl Files + Print + Eprint + AllocGlobal), line: &str) -> io::Res
         return Ok(());
     };
     let call = Call::from(testlib_lines::numbers::value(number.as_bytes()));
-    let bytes = testlib_lines::read_file(rt, path)?;
+    let bytes = testlib_lines::read_file_capped(rt, path)?;
     let same = call.replayed(rt, &bytes)?;
     println!(rt; "{path}: as stored {same}")
 }

@@ -4,7 +4,7 @@ use crate::case::{Case, stored};
 use cdef_blocks::numbers;
 use cdef_spec::WorkingDamping;
 use std::alloc::AllocError;
-use testlib_lines::numbers::{Numbers, signed, value};
+use testlib_lines::numbers::{LenientNumbers, signed, value};
 
 // difference strength damping code answer
 #[derive(Clone, Copy)]
@@ -19,7 +19,7 @@ pub struct Constrain {
 }
 
 impl Case for Constrain {
-    fn parse(mut line: Numbers<'_>) -> Result<Self, AllocError> {
+    fn parse(mut line: LenientNumbers<'_>) -> Result<Self, AllocError> {
         let difference = signed(line.text());
         let strength = line.word();
         let damping = WorkingDamping(line.byte());
@@ -52,7 +52,7 @@ pub struct Adjust {
 }
 
 impl Case for Adjust {
-    fn parse(mut line: Numbers<'_>) -> Result<Self, AllocError> {
+    fn parse(mut line: LenientNumbers<'_>) -> Result<Self, AllocError> {
         Ok(Adjust {
             strength: line.word(),
             variance: line.word(),
@@ -76,7 +76,7 @@ pub struct Damping {
 }
 
 impl Case for Damping {
-    fn parse(mut line: Numbers<'_>) -> Result<Self, AllocError> {
+    fn parse(mut line: LenientNumbers<'_>) -> Result<Self, AllocError> {
         Ok(Damping {
             index: line.word(),
             stored: (line.number(), line.number()),
@@ -99,7 +99,7 @@ pub struct Log2Floor {
 }
 
 impl Case for Log2Floor {
-    fn parse(mut line: Numbers<'_>) -> Result<Self, AllocError> {
+    fn parse(mut line: LenientNumbers<'_>) -> Result<Self, AllocError> {
         Ok(Log2Floor {
             v: line.word(),
             stored: (line.number(), line.number()),

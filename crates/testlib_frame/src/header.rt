@@ -1,9 +1,10 @@
 // The numbers at the head of a file.
-ghost use Rattle.std.specs.Prelude.{◌≡◌, ◌*◌, ◌^◌, ◌<◌, cond, eqb, min};
+ghost use Rattle.std.specs.Prelude.{◌≡◌, ◌*◌, ◌^◌, ◌<◌, ◌≤◌, IfOk, IfErr, cond, eqb, min};
+ghost use Rattle.testlib_frame.specs.declared.bytes.FrameError.TheVariants.{Length};
 
 use crate::bytes::{Bytes, FrameError};
 
-// Every larger number of a header counts as this one, which no file here has.
+// Where a header is read capped, every larger number counts as this one, which no file here has.
 const MOST: u32 = 1_000;
 
 fn number(word: u32) -> u16
@@ -46,6 +47,15 @@ pub struct Grid {
 impl Grid {
     fn read(file: &mut Bytes<'_>) -> Result<Self, FrameError> {
         Ok(Grid {
+            columns: u16::try_from(file.word()?)?,
+            rows: u16::try_from(file.word()?)?,
+        })
+    }
+
+    fn read_capped(file: &mut Bytes<'_>) -> Result<Self, FrameError>
+        ensures { IfErr result (λ e. e ≡ Length) }
+    {
+        Ok(Grid {
             columns: number(file.word()?),
             rows: number(file.word()?),
         })
@@ -64,7 +74,41 @@ fn halved(side: u16, flag: u16) -> u16 {
 }
 
 impl Header {
-    pub fn read(file: &mut Bytes<'_>) -> Result<Self, FrameError> {
+    // The numbers as they are. A depth, sx, sy or damping above 255, and a coded side or a count above 65,535, is an error.
+    pub fn read(file: &mut Bytes<'_>) -> Result<Self, FrameError>
+        ensures { IfOk result (λ h. (h.depth ≤ 255) × (h.sx ≤ 255) × (h.sy ≤ 255)) }
+    {
+        let depth = u8::try_from(file.word()?)?;
+        let sx = u8::try_from(file.word()?)?;
+        let sy = u8::try_from(file.word()?)?;
+        let monochrome = file.word()? != 0;
+        let width = u16::try_from(file.word()?)?;
+        let height = u16::try_from(file.word()?)?;
+        let _visible = file.take(8)?;
+        let damping = u8::try_from(file.word()?)?;
+        let _bits = file.word()?;
+        let units = Grid::read(file)?;
+        let blocks = Grid::read(file)?;
+        let _base = file.word()?;
+        let enabled = file.word()? % 2 == 1;
+        Ok(Header {
+            depth: u16::from(depth),
+            sx: u16::from(sx),
+            sy: u16::from(sy),
+            monochrome,
+            width,
+            height,
+            damping,
+            units,
+            blocks,
+            enabled,
+        })
+    }
+
+    // The numbers, and 1,000 for each that is larger; no number is an error. A damping above 255 is 255.
+    pub fn read_capped(file: &mut Bytes<'_>) -> Result<Self, FrameError>
+        ensures { IfErr result (λ e. e ≡ Length) }
+    {
         let depth = number(file.word()?);
         let sx = number(file.word()?);
         let sy = number(file.word()?);
@@ -74,8 +118,8 @@ impl Header {
         let _visible = file.take(8)?;
         let damping = small(number(file.word()?));
         let _bits = file.word()?;
-        let units = Grid::read(file)?;
-        let blocks = Grid::read(file)?;
+        let units = Grid::read_capped(file)?;
+        let blocks = Grid::read_capped(file)?;
         let _base = file.word()?;
         let enabled = number(file.word()?) % 2 == 1;
         Ok(Header {

@@ -1,2 +1,2 @@
--- The numbers of a line (Lines), and laws of them (LineLaws).
+-- How many numbers a line has.
 pub mod Lines

@@ -1,18 +1,100 @@
-// The numbers of a line, read one after the other.
-// No line is refused: a number that is missing or has no digit is NONE, what follows its digits is passed over,
-// and one that is too large for its type wraps. The stored cases are read so since the first of them.
-ghost use Rattle.std.specs.Prelude.{◌≡◌, ◌≢◌, ◌≤◌, ◌<◌, ◌-◌, IfOk, eqb, length, min, vec_len};
+// The numbers of a line, read one after the other, in two ways: `Numbers` refuses what is no number of the type that is asked for,
+// `LenientNumbers` refuses nothing.
+ghost use Rattle.std.specs.Prelude.{◌≡◌, ◌≢◌, ◌≤◌, ◌<◌, ◌-◌, IfOk, IsTrue, MatchResult, eqb, false, length, min, true, vec_len};
 ghost use Rattle.std.specs.List.{AllWithin, HoldsAt};
+ghost use Rattle.std.specs.Str.Iter.{split_has_more, split_text};
 ghost use Rattle.testlib_lines.specs.Lines.{numbers_in};
+ghost use Rattle.testlib_lines.specs.declared.numbers.LineError.TheVariants.{LeftOver};
 
 use std::alloc::{AllocError, Global};
+use std::str::{FromStr, Split};
+use thiserror::Error;
+
+// Why a line is not of the form that is read.
+#[derive(Clone, Copy, Debug, PartialEq, Eq, Error)]
+pub enum LineError {
+    #[error("a number is missing")]
+    Missing,
+    #[error("no number, or one outside the range of its type")]
+    NotANumber,
+    #[error("more stands behind the last number")]
+    LeftOver,
+    #[error(transparent)]
+    OutOfMemory(#[from(alloc)] AllocError),
+}
+
+// What of a line has not been read, where a number that is missing, or is none of its type, is an error.
+#[derive(Drop)]
+pub struct Numbers<'a> {
+    words: Split<'a, char>,
+    alloc: Global,
+}
+
+impl<'a> Numbers<'a> {
+    pub fn new(alloc: Global, line: &'a str) -> Self
+        ensures text { split_text result.words ≡ line.now }
+        ensures more { IsTrue (split_has_more result.words) }
+    {
+        Numbers {
+            words: line.split(' '),
+            alloc,
+        }
+    }
+
+    pub fn alloc(&self) -> Global
+        ensures { result ≡ self.now.alloc }
+    {
+        self.alloc
+    }
+
+    // The next number.
+    // Kept beside `parse`: it joins `next`, which gives an Option, and `parse`, whose error is each type's own, to one LineError.
+    pub fn number<N: FromStr>(&mut self) -> Result<N, LineError>
+    where
+        N::Err: Drop,
+        ensures { IfOk result (λ _. IsTrue (split_has_more self.old.words)) }
+    {
+        let word = self.words.next().ok_or(LineError::Missing)?;
+        word.parse().map_err(|_| LineError::NotANumber)
+    }
+
+    // The next numbers, as samples.
+    pub fn samples(&mut self, count: usize) -> Result<Vec<u16>, LineError>
+        ensures { IfOk result (λ samples. vec_len samples ≡ count) }
+    {
+        let alloc = self.alloc;
+        (0..count).map(|_| self.number()).try_collect(alloc)
+    }
+
+    // All numbers that are left, as samples.
+    pub fn rest(self) -> Result<Vec<u16>, LineError>
+        ensures { IfOk result (λ samples. IsTrue (split_has_more self.entry.words) → 0 < vec_len samples) }
+    {
+        let Numbers { words, alloc } = self;
+        words
+            .map(|word| word.parse().map_err(|_| LineError::NotANumber))
+            .try_collect(alloc)
+    }
+
+    // That no number is left.
+    pub fn end(mut self) -> Result<(), LineError>
+        ensures { MatchResult result (λ _. split_has_more self.entry.words ≡ false) (λ e. (e ≡ LeftOver) × IsTrue (split_has_more self.entry.words)) }
+    {
+        match self.words.next() {
+            None => Ok(()),
+            Some(_) => Err(LineError::LeftOver),
+        }
+    }
+}
 
 // What is read where a line has no number: no number of a line is as large.
 pub const NONE: u64 = 10_000_000_000_000_000;
 
-// What of a line has not been read. A line need not be text: what is no digit and no blank ends a number.
+// What of a line has not been read, where no line is refused: a number that is missing or has no digit is NONE, what follows its digits is passed over,
+// and one that is too large for its type wraps. The stored cases are read so since the first of them.
+// A line need not be text: what is no digit and no blank ends a number.
 #[derive(Drop)]
-pub struct Numbers<'a> {
+pub struct LenientNumbers<'a> {
     rest: &'a [u8],
     alloc: Global,
 }
@@ -28,9 +110,9 @@ fn first_end(line: &[u8]) -> usize
         .unwrap_or(line.len())
 }
 
-impl<'a> Numbers<'a> {
+impl<'a> LenientNumbers<'a> {
     pub fn new(alloc: Global, line: &'a [u8]) -> Self {
-        Numbers { rest: line, alloc }
+        LenientNumbers { rest: line, alloc }
     }
 
     pub fn alloc(&self) -> Global

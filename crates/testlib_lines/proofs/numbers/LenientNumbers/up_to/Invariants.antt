@@ -1,7 +1,7 @@
--- `testlib_lines::numbers::Numbers::up_to` meets its contract.
+-- `testlib_lines::numbers::LenientNumbers::up_to` meets its contract.
 use Rattle.std.proofs.Common.{◌≡◌, ◌≤◌, ◌+◌, ◌-◌, vec_len}
 use Rattle.testlib_lines.specs.Lines.{numbers_in}
-use Rattle.testlib_lines.proofs.numbers.Numbers.up_to.Given as goal
+use Rattle.testlib_lines.proofs.numbers.LenientNumbers.up_to.Given as goal
 
 abbrev pub invariant-loop-self : goal.invariant-loop-self
 invariant-loop-self g l = (vec_len l.items ≤ l.most) × (vec_len l.items + numbers_in l.self.rest.now ≡ numbers_in l.initial.self.rest.now)

@@ -1,9 +1,9 @@
--- `testlib_lines::numbers::Numbers::text` meets its contract.
+-- `testlib_lines::numbers::LenientNumbers::text` meets its contract.
 use Rattle.std.proofs.Common.{sym, ap, ◌≡◌, ◌∙◌, drop, suc, arith}
 use Rattle.std.proofs.lemmas.Grind.{common_steps}
 use Rattle.testlib_lines.specs.Lines.{numbers_in}
 use Rattle.testlib_lines.proofs.LineLaws.{behind_first, behind_in}
-use Rattle.testlib_lines.proofs.numbers.Numbers.text.Goals as goal
+use Rattle.testlib_lines.proofs.numbers.LenientNumbers.text.Goals as goal
 
 pub returns : goal.returns
 returns c =

@@ -1,0 +1,2 @@
+-- The planes of a frame's file.
+pub mod Planes

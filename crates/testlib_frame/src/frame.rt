@@ -1,5 +1,5 @@
 // The flags, the strengths and the samples of a file.
-ghost use Rattle.std.specs.Prelude.{◌≡◌, ◌≤◌, ◌*◌, length, vec_len, IfOk, IfErr, ◌⊎◌};
+ghost use Rattle.std.specs.Prelude.{◌≡◌, ◌≤◌, ◌*◌, length, min, vec_len, IfOk, IfErr, ◌⊎◌};
 ghost use Rattle.testlib_frame.specs.declared.bytes.FrameError.TheVariants.{Mark, Length};
 ghost use Rattle.testlib_frame.specs.Planes.{plane_of, samples_in};
 
@@ -163,20 +163,20 @@ impl<'a> Frame<'a> {
 
     // The samples of a plane before CDEF, and after it, the first MOST_SAMPLES at most.
     pub fn before_capped(&self, alloc: Global, component: Component) -> Result<Vec<u16>, AllocError>
-        ensures { IfOk result (λ samples. vec_len samples ≤ 307200) }
+        ensures { IfOk result (λ samples. vec_len samples ≡ min 307200 (samples_in self.now.header.depth (length (plane_of component self.now.before)))) }
     {
         self.samples(alloc, self.capped(self.before.of(component)))
     }
 
     pub fn after_capped(&self, alloc: Global, component: Component) -> Result<Vec<u16>, AllocError>
-        ensures { IfOk result (λ samples. vec_len samples ≤ 307200) }
+        ensures { IfOk result (λ samples. vec_len samples ≡ min 307200 (samples_in self.now.header.depth (length (plane_of component self.now.after)))) }
     {
         self.samples(alloc, self.capped(self.after.of(component)))
     }
 
     // The bytes of a plane's first samples, MOST_SAMPLES at most.
     fn capped<'b>(&self, bytes: &'b [u8]) -> &'b [u8]
-        ensures { samples_in self.now.header.depth (length result.now) ≤ 307200 }
+        ensures { samples_in self.now.header.depth (length result.now) ≡ min 307200 (samples_in self.now.header.depth (length bytes.now)) }
     {
         bytes
             .get(..self.header.bytes_of(MOST_SAMPLES))

@@ -1,7 +1,7 @@
 // Files of lines, and lines of decimal numbers separated by single blanks.
 #![tactic(auto)]
 
-pub mod numbers; // numbers.rt: the numbers of a line, one after the other, refused where malformed, or leniently
+pub mod numbers; // numbers.rt: the numbers of a line, one after the other, read strictly or leniently
 
 ghost use Rattle.std.specs.Prelude.{◌≤◌, IfOk, vec_len};
 
@@ -12,7 +12,8 @@ use std::{fs, io};
 // The most bytes of a file that `read_file_capped` reads, so that one without an end is read too.
 const MOST: usize = 1_000_000;
 
-// The bytes of a file. One that cannot be opened is reported on stderr, and has none.
+// The bytes of a file, however many: one without an end is read until memory runs out, and a pipe in packet mode may lose the end of a packet.
+// One that cannot be opened is reported on stderr, and has none.
 pub fn read_file<R: Files + Eprint + AllocGlobal>(rt: &R, path: &str) -> io::Result<Vec<u8>> {
     let mut bytes = Vec::new(rt.alloc());
     match fs::open(rt, path) {
